@@ -1,0 +1,10 @@
+//! The values of MessagePack, as plain data: what requests, replies and events are made of.
+#![tactic(auto)]
+
+mod bytes;
+mod fault;
+mod value;
+
+pub use bytes::Bytes;
+pub use fault::ApiFault;
+pub use value::{Fields, Items, Pair, Value};
