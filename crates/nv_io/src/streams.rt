@@ -1,0 +1,79 @@
+// Reads and writes of the streams of the system, whose faults are counted.
+ghost use Rattle.std.specs.Prelude.{◌≡◌, ◌<◌, ◌≤◌, length, IfSome};
+ghost use Rattle.nv_io.specs.Faults.{Rose};
+ghost use Rattle.nv_io.specs.Reading.{IfBytes};
+ghost use Rattle.nv_io.specs.Writing.{IfTook};
+
+use crate::reading::Got;
+use crate::writing::Put;
+use std::io::{ErrorKind, Read, Write};
+
+// How often a call that a signal interrupts is tried.
+const TRIES: u32 = 1024;
+
+// Reads once, and again where a signal interrupted the read. `None` is a fault.
+fn try_read<T: Read>(stream: &mut T, into: &mut [u8]) -> Option<usize>
+    ensures { IfSome result (λ n. n ≤ length into.new) }
+{
+    for _ in 0..TRIES {
+        match stream.read(into) {
+            Ok(count) => return Some(count),
+            Err(error) => {
+                if error.kind() != ErrorKind::Interrupted {
+                    return None;
+                }
+            }
+        }
+    }
+    None
+}
+
+// Writes once, and again where a signal interrupted the write. `None` is a fault.
+fn try_write<T: Write>(stream: &mut T, piece: &[u8]) -> Option<usize>
+    ensures { IfSome result (λ n. n ≤ length piece.now) }
+{
+    for _ in 0..TRIES {
+        match stream.write(piece) {
+            Ok(count) => return Some(count),
+            Err(error) => {
+                if error.kind() != ErrorKind::Interrupted {
+                    return None;
+                }
+            }
+        }
+    }
+    None
+}
+
+/// One read of a stream of the system.
+pub fn read_from<T: Read>(stream: &mut T, faults: &mut u64, into: &mut [u8]) -> Got
+    requires { 0 < length into.old }
+    ensures count { IfBytes result (λ n. (0 < n) × (n ≤ length into.new)) }
+    ensures later { faults.old ≤ faults.new }
+    ensures failed { result ≡ Got.Failed → Rose faults.old faults.new }
+{
+    match try_read(stream, into) {
+        Some(0) => Got::End,
+        Some(count) => Got::Bytes(count),
+        None => {
+            *faults = faults.saturating_add(1);
+            Got::Failed
+        }
+    }
+}
+
+/// One write to a stream of the system. That no byte of a piece was taken is a fault.
+pub fn write_to<T: Write>(stream: &mut T, faults: &mut u64, piece: &[u8]) -> Put
+    requires { 0 < length piece.now }
+    ensures count { IfTook result (λ n. (0 < n) × (n ≤ length piece.now)) }
+    ensures later { faults.old ≤ faults.new }
+    ensures failed { result ≡ Put.Failed → Rose faults.old faults.new }
+{
+    match try_write(stream, piece) {
+        None | Some(0) => {
+            *faults = faults.saturating_add(1);
+            Put::Failed
+        }
+        Some(count) => Put::Took(count),
+    }
+}
