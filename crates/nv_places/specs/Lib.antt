@@ -1,0 +1,4 @@
+pub mod Flat
+pub mod Places
+pub mod Moves
+pub mod Laws
