@@ -1,0 +1,2 @@
+pub mod FlatLengths
+pub mod Splices
