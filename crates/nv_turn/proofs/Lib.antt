@@ -1,0 +1,13 @@
+pub mod Prefixes
+pub mod Entries
+pub mod Knowing
+pub mod Views
+pub mod Looking
+pub mod Taking
+pub mod Publishing
+pub mod Dealing
+pub mod Joining
+pub mod Closing
+pub mod Dealt
+pub mod Gaining
+pub mod Numbers

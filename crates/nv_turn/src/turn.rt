@@ -1,0 +1,194 @@
+// The lock: how a thread comes in and leaves, waits, and how passes are joined.
+ghost use Rattle.std.specs.Prelude.{◌≡◌, ℕ, true, List, [], ◌∷◌, ◌++◌, length, Some, None};
+ghost use Rattle.nv_turn.specs.Story.{Has, HasAll, Follows, longer};
+ghost use Rattle.nv_turn.specs.Passes.{IsSamePass, SeesMore};
+ghost use Rattle.nv_turn.specs.Rule.{seen_of, carried};
+ghost use Rattle.nv_turn.specs.Seats.{passed, IsSeated};
+
+use crate::held::Held;
+use crate::pass::Pass;
+use crate::plays::{Both, Give, Look, Merge, Publish, Take};
+use crate::rule::{Key, Ruled};
+use crate::story::Story;
+use crate::view::View;
+use atomic_table::{Seat, Table};
+use std::alloc::Global;
+use std::marker::Model;
+use std::sync::Wait;
+use std::time::Duration;
+
+// For how many milliseconds `wait` sleeps at most. A value that can take no more entries wakes nobody.
+const LONGEST_PAUSE: u64 = 20;
+
+/// A value that one pass at a time may hold, and its story. Threads share it by reference.
+pub struct Turn<T: Story> {
+    pub(crate) table: Table<Option<T>, View<T::Entry, T::Start>, Key<T>, Ruled<T>, Global>,
+}
+
+impl<T: Story> Model for Turn<T> {
+    ghost use Rattle.std.specs.Prelude.{◌≡◌, ◌<◌};
+    ghost use Rattle.nv_turn.specs.Passes.{Turning};
+
+    ghost Value = { Turning };
+
+    ghost view = { λ t. record { turn = t.table.shared.table_id; passes = t.table.shared.key.passes } };
+
+    ghost invariant = { λ t. (t.table.shared.table_id.words ≡ 3) × (t.table.shared.table_id.slots ≡ 1) × (0 < t.table.shared.key.passes) };
+}
+
+impl<T: Story> Turn<T> {
+    /// Waits for the turn, and takes it with the value.
+    pub fn enter<R: Wait>(&self, rt: &R, pass: Pass<T>) -> Held<'_, T>
+        requires { pass.turn ≡ self.now.turn }
+        ensures pass { IsSamePass pass result.pass }
+        ensures sees { SeesMore T.caller pass result.pass }
+        ensures story { T.stands result.value result.pass.seen }
+        ensures start { pass.start ≡ Some (T.start result.value) }
+        ensures number { Has pass.number pass.numbers }
+    {
+        let Pass {
+            mut seat,
+            number,
+            count: _,
+        } = pass;
+        let shared = &self.table.shared;
+        for _ in rt.forever() {
+            if shared.compare_exchange::<Take<T>>(&mut seat, 0, 0, 1) == 0 {
+                return self.taken(seat, number);
+            }
+            shared.park(rt, 0, 1);
+        }
+        unreachable!()
+    }
+
+    // The turn was taken. Reads how long the story is, and takes the value out of the slot.
+    fn taken(&self, mut seat: Seat<Option<T>, View<T::Entry, T::Start>>, number: u32) -> Held<'_, T>
+        requires turn { seat.table_id ≡ self.now.turn }
+        requires holder { (seat.me.0.holds ≡ true) × Has number (carried seat.me.0) }
+        requires slot { (y : T) × (seat.me.1 ≡ (0, Some y) ∷ []) }
+        ensures value { seat.me.1 ≡ (0, Some result.value) ∷ [] }
+        ensures pass { result.pass ≡ passed seat.table_id number seat.me.0 }
+    {
+        let count = self.table.shared.load::<Look<T>>(&mut seat, 1);
+        let slot = self.table.shared.exchange(&mut seat, 0, None);
+        let Some(value) = slot else { unreachable!() };
+        Held {
+            turn: self,
+            seat,
+            value,
+            number,
+            count,
+        }
+    }
+
+    // The value in the slot has one more entry: the story gets it, and then the turn is given back.
+    pub(crate) fn add(
+        &self,
+        mut seat: Seat<Option<T>, View<T::Entry, T::Start>>,
+        number: u32,
+        told: u64,
+    ) -> Pass<T>
+        requires turn { seat.table_id ≡ self.now.turn }
+        requires holder { (seat.me.0.holds ≡ true) × Has number (carried seat.me.0) }
+        requires entry { (y : T) × (e : T.Entry) × (seat.me.1 ≡ (0, Some y) ∷ []) × (T.caller e ≡ number) × T.stands y (seen_of seat.me.0.notes ++ e ∷ []) × (seat.me.0.start ≡ Some (T.start y)) × (told ≡ length (seen_of seat.me.0.notes ++ e ∷ [])) }
+        ensures pass { IsSamePass (passed seat.table_id number seat.me.0) result }
+        ensures seen { (y : T) (e : T.Entry) → seat.me.1 ≡ (0, Some y) ∷ [] → T.stands y (seen_of seat.me.0.notes ++ e ∷ []) → result.seen ≡ seen_of seat.me.0.notes ++ e ∷ [] }
+    {
+        self.table.shared.fetch_add::<Publish<T>>(&mut seat, 1, 1);
+        let pass = self.give(seat, number, told);
+        self.table.shared.wake_all(1);
+        pass
+    }
+
+    // Gives the turn back, with the value in the slot.
+    pub(crate) fn give(
+        &self,
+        mut seat: Seat<Option<T>, View<T::Entry, T::Start>>,
+        number: u32,
+        count: u64,
+    ) -> Pass<T>
+        requires turn { seat.table_id ≡ self.now.turn }
+        requires holder { (seat.me.0.holds ≡ true) × IsSeated seat.me.0 number count }
+        requires value { (y : T) × (seat.me.1 ≡ (0, Some y) ∷ []) × T.stands y (seen_of seat.me.0.notes) × (seat.me.0.start ≡ Some (T.start y)) }
+        ensures { result ≡ passed seat.table_id number seat.me.0 }
+    {
+        self.table.shared.store::<Give>(&mut seat, 0, 0);
+        self.table.shared.wake_one(0);
+        Pass {
+            seat,
+            number,
+            count,
+        }
+    }
+
+    /// Waits for an entry that the pass hasn't seen, for 20 milliseconds at most, and looks at the story.
+    /// It may also come back with nothing new.
+    pub fn wait<R: Wait>(&self, rt: &R, pass: Pass<T>) -> Pass<T>
+        requires { pass.turn ≡ self.now.turn }
+        ensures pass { IsSamePass pass result }
+        ensures sees { SeesMore T.caller pass result }
+    {
+        let Pass {
+            mut seat,
+            number,
+            count,
+        } = pass;
+        let known = (count & 0xffff_ffff) as u32;
+        let pause = Duration::from_millis(LONGEST_PAUSE);
+        self.table.shared.park_timeout(rt, 1, known, pause);
+        let count = self.table.shared.load::<Look<T>>(&mut seat, 1);
+        Pass {
+            seat,
+            number,
+            count,
+        }
+    }
+
+    /// Makes one pass of two, with the number of the first and the own entries of both.
+    pub fn join(&self, a: Pass<T>, b: Pass<T>) -> Pass<T>
+        requires turn { (a.turn ≡ self.now.turn) × (b.turn ≡ self.now.turn) }
+        ensures pass { (result.turn ≡ a.turn) × (result.number ≡ a.number) × (result.start ≡ a.start) }
+        ensures numbers { result.numbers ≡ a.numbers ++ b.numbers }
+        ensures one { SeesMore T.caller a result }
+        ensures other { SeesMore T.caller b result }
+        ensures longer { result.seen ≡ longer a.seen b.seen }
+    {
+        let Pass {
+            mut seat,
+            number,
+            count,
+        } = a;
+        let Pass {
+            seat: other,
+            number: _,
+            count: other_count,
+        } = b;
+        self.table.shared.join_seat::<Both>(&mut seat, other);
+        self.table.shared.load::<Merge<T>>(&mut seat, 0);
+        Pass {
+            seat,
+            number,
+            count: count.max(other_count),
+        }
+    }
+
+    /// Gives the value back once all passes were joined into the last one.
+    pub fn close(self, last: Pass<T>) -> T
+        requires turn { last.turn ≡ self.turn }
+        requires all { HasAll self.passes last.numbers }
+        ensures seen { T.stands result last.seen }
+        ensures start { last.start ≡ Some (T.start result) }
+    {
+        let Turn { table } = self;
+        let Pass {
+            seat,
+            number: _,
+            count: _,
+        } = last;
+        let mut closed = table.close_with(seat);
+        let slot = closed.take(0);
+        closed.free();
+        let Some(value) = slot else { unreachable!() };
+        value
+    }
+}
