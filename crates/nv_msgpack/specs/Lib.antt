@@ -1,0 +1,8 @@
+pub mod Decoded
+pub mod FirstByte
+pub mod Handle
+pub mod Reading
+pub mod Spelling
+pub mod Steps
+pub mod Within
+pub mod Shortest

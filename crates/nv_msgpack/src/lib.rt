@@ -1,0 +1,28 @@
+//! MessagePack, both ways (MessagePack specification).
+#![tactic(auto)]
+
+mod decoded;
+mod first_bytes;
+mod handle_reader;
+mod handles;
+mod heads;
+mod integer;
+mod laws;
+mod numbers;
+mod reader;
+mod stop;
+mod writer;
+
+pub use decoded::{Bounds, Decoded};
+pub use first_bytes::{FirstByte, Length, Width, first_byte};
+pub use handle_reader::handle_of;
+pub use handles::handle;
+pub use laws::{
+    encoded_is_read, shortest_is_least, shortest_is_spelling, spelled_has_spelling,
+    spellings_are_apart, streams_have_one_cut,
+};
+pub use reader::decode;
+pub use writer::encode;
+
+#[cfg(test)]
+mod tests;

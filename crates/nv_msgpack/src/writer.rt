@@ -1,0 +1,305 @@
+//! The shortest spelling of a value, written at the end of a vector.
+ghost use Rattle.std.specs.Prelude.{◌≡◌, ◌++◌, ◌<◌, ◌^◌, ◌∷◌, [], length, OnOk, OnErr, IfOk};
+ghost use Rattle.std.specs.Int.{w8, cast_unsigned};
+ghost use Rattle.nv_value.specs.Content.{integer, ext};
+ghost use Rattle.nv_value.specs.View.{content, contents, pair_content, pair_contents};
+ghost use Rattle.nv_msgpack.specs.Spelling.{SpellsIn};
+ghost use Rattle.nv_msgpack.specs.Shortest.{shortest, all_shortest, depth, text_head, bin_head, ext_head, float_head, HasSpelling, HaveSpellings, IsInRange, AreInRange, BeginsAs};
+
+use crate::heads::{
+    put_bin_head, put_ext_head, put_list_head, put_map_head, put_text_head, put_unsigned,
+};
+use crate::integer::put_integer;
+use nv_value::{Bytes, Pair, Value};
+use std::alloc::{AllocError, Global};
+
+/// Adds the shortest spelling of the value at the end of `into` (MessagePack specification, "Formats"). An integer of at
+/// least 0 is spelled in an unsigned form. After an error `into` is as it was.
+pub fn encode(value: &Value, into: &mut Vec<u8>) -> Result<(), AllocError>
+    requires { HasSpelling (content value.now) }
+    ensures ok { OnOk result (into.new.items ≡ into.old.items ++ shortest (content value.now)) }
+    ensures err { OnErr result (into.new.items ≡ into.old.items) }
+    ensures spelled { OnOk result (SpellsIn (depth (content value.now)) (content value.now) (shortest (content value.now))) }
+{
+    let length = into.len();
+    match put_value(value, into) {
+        Ok(()) => Ok(()),
+        Err(error) => {
+            into.truncate(length);
+            Err(error)
+        }
+    }
+}
+
+/// A string.
+fn put_text(text: &[u8], into: &mut Vec<u8>) -> Result<(), AllocError>
+    requires { length text.now < 2 ^ 32 }
+    ensures ok { OnOk result (into.new.items ≡ into.old.items ++ (text_head (length text.now) ++ text.now)) }
+    ensures err { OnErr result (BeginsAs into.old.items into.new.items) }
+{
+    put_text_head(text.len() as u32, into)?;
+    into.extend_from_slice(text)
+}
+
+/// Binary bytes.
+fn put_bin(bin: &[u8], into: &mut Vec<u8>) -> Result<(), AllocError>
+    requires { length bin.now < 2 ^ 32 }
+    ensures ok { OnOk result (into.new.items ≡ into.old.items ++ (bin_head (length bin.now) ++ bin.now)) }
+    ensures err { OnErr result (BeginsAs into.old.items into.new.items) }
+{
+    put_bin_head(bin.len() as u32, into)?;
+    into.extend_from_slice(bin)
+}
+
+/// An extension value.
+fn put_ext(kind: i8, bytes: &[u8], into: &mut Vec<u8>) -> Result<(), AllocError>
+    requires { length bytes.now < 2 ^ 32 }
+    ensures ok { OnOk result (into.new.items ≡ into.old.items ++ (ext_head (length bytes.now) ++ cast_unsigned w8 kind ∷ bytes.now)) }
+    ensures err { OnErr result (BeginsAs into.old.items into.new.items) }
+{
+    put_ext_head(bytes.len() as u32, into)?;
+    into.extend_from_slice(&[kind.cast_unsigned()])?;
+    into.extend_from_slice(bytes)
+}
+
+/// A float.
+#[tactic(auto, unfolding(crate::specs::Shortest::float_head))]
+fn put_float(bytes: &[u8], into: &mut Vec<u8>) -> Result<(), AllocError>
+    ensures ok { OnOk result (into.new.items ≡ into.old.items ++ (float_head (length bytes.now) ++ bytes.now)) }
+    ensures err { OnErr result (BeginsAs into.old.items into.new.items) }
+{
+    if bytes.len() == 4 {
+        into.extend_from_slice(&[0xca])?;
+    } else {
+        into.extend_from_slice(&[0xcb])?;
+    }
+    into.extend_from_slice(bytes)
+}
+
+/// Nil, false or true.
+fn put_one(first: u8, into: &mut Vec<u8>) -> Result<(), AllocError>
+    ensures ok { OnOk result (into.new.items ≡ into.old.items ++ first ∷ []) }
+    ensures err { OnErr result (into.new.items ≡ into.old.items) }
+{
+    into.extend_from_slice(&[first])
+}
+
+#[cycle(encode)]
+fn put_value(value: &Value, into: &mut Vec<u8>) -> Result<(), AllocError>
+    requires { HasSpelling (content value.now) }
+    ensures ok { OnOk result (into.new.items ≡ into.old.items ++ shortest (content value.now)) }
+    ensures err { OnErr result (BeginsAs into.old.items into.new.items) }
+    ensures in_range { OnOk result (IsInRange (content value.now)) }
+{
+    match value {
+        Value::Nil => put_one(0xc0, into),
+        Value::Truth(false) => put_one(0xc2, into),
+        Value::Truth(true) => put_one(0xc3, into),
+        Value::Int(number) => put_integer(*number, into),
+        Value::Big(number) => put_unsigned(*number, into),
+        Value::Text(text) => put_text(text.as_slice(), into),
+        Value::Bin(bin) => put_bin(bin.as_slice(), into),
+        Value::List(items) => {
+            put_list_head(items.len() as u32, into)?;
+            put_items(items, into)
+        }
+        Value::Pairs(fields) => {
+            put_map_head(fields.len() as u32, into)?;
+            put_fields(fields, into)
+        }
+        Value::Ext(kind, data) => put_ext(*kind, data.as_slice(), into),
+        Value::Opaque(bytes) => put_float(bytes.as_slice(), into),
+    }
+}
+
+#[cycle(encode)]
+fn put_items(items: &Vec<Value>, into: &mut Vec<u8>) -> Result<(), AllocError>
+    requires { HaveSpellings (contents items.now.items) }
+    ensures ok { OnOk result (into.new.items ≡ into.old.items ++ all_shortest (contents items.now.items)) }
+    ensures err { OnErr result (BeginsAs into.old.items into.new.items) }
+    ensures in_range { OnOk result (AreInRange (contents items.now.items)) }
+{
+    for item in items {
+        put_value(item, into)?;
+    }
+    Ok(())
+}
+
+#[cycle(encode)]
+fn put_fields(fields: &Vec<Pair>, into: &mut Vec<u8>) -> Result<(), AllocError>
+    requires { HaveSpellings (pair_contents fields.now.items) }
+    ensures ok { OnOk result (into.new.items ≡ into.old.items ++ all_shortest (pair_contents fields.now.items)) }
+    ensures err { OnErr result (BeginsAs into.old.items into.new.items) }
+    ensures in_range { OnOk result (AreInRange (pair_contents fields.now.items)) }
+{
+    for pair in fields {
+        put_pair(pair, into)?;
+    }
+    Ok(())
+}
+
+#[cycle(encode)]
+fn put_pair(pair: &Pair, into: &mut Vec<u8>) -> Result<(), AllocError>
+    requires key { HasSpelling (content pair.now.key) }
+    requires value { HasSpelling (content pair.now.value) }
+    ensures ok { OnOk result (into.new.items ≡ into.old.items ++ (shortest (content pair.now.key) ++ shortest (content pair.now.value))) }
+    ensures err { OnErr result (BeginsAs into.old.items into.new.items) }
+    ensures key_in_range { OnOk result (IsInRange (content pair.now.key)) }
+    ensures value_in_range { OnOk result (IsInRange (content pair.now.value)) }
+{
+    put_value(&pair.key, into)?;
+    put_value(&pair.value, into)
+}
+
+#[cfg(test)]
+mod tests {
+    use super::*;
+    use crate::handles::handle;
+    use std::test::Fail;
+
+    // From the MessagePack specification, "int format family": each border of a form, in its shortest spelling.
+    const INTEGERS: [(i64, &[u8]); 34] = [
+        (0, b"\x00"),
+        (1, b"\x01"),
+        (127, b"\x7f"),
+        (128, b"\xcc\x80"),
+        (255, b"\xcc\xff"),
+        (256, b"\xcd\x01\x00"),
+        (1000, b"\xcd\x03\xe8"),
+        (32767, b"\xcd\x7f\xff"),
+        (32768, b"\xcd\x80\x00"),
+        (65535, b"\xcd\xff\xff"),
+        (65536, b"\xce\x00\x01\x00\x00"),
+        (2147483647, b"\xce\x7f\xff\xff\xff"),
+        (2147483648, b"\xce\x80\x00\x00\x00"),
+        (4294967295, b"\xce\xff\xff\xff\xff"),
+        (4294967296, b"\xcf\x00\x00\x00\x01\x00\x00\x00\x00"),
+        (9223372036854775807, b"\xcf\x7f\xff\xff\xff\xff\xff\xff\xff"),
+        (-1, b"\xff"),
+        (-2, b"\xfe"),
+        (-31, b"\xe1"),
+        (-32, b"\xe0"),
+        (-33, b"\xd0\xdf"),
+        (-127, b"\xd0\x81"),
+        (-128, b"\xd0\x80"),
+        (-129, b"\xd1\xff\x7f"),
+        (-255, b"\xd1\xff\x01"),
+        (-256, b"\xd1\xff\x00"),
+        (-257, b"\xd1\xfe\xff"),
+        (-32768, b"\xd1\x80\x00"),
+        (-32769, b"\xd2\xff\xff\x7f\xff"),
+        (-65536, b"\xd2\xff\xff\x00\x00"),
+        (-2147483648, b"\xd2\x80\x00\x00\x00"),
+        (-2147483649, b"\xd3\xff\xff\xff\xff\x7f\xff\xff\xff"),
+        (-4294967296, b"\xd3\xff\xff\xff\xff\x00\x00\x00\x00"),
+        (
+            -9223372036854775808,
+            b"\xd3\x80\x00\x00\x00\x00\x00\x00\x00",
+        ),
+    ];
+
+    // From the MessagePack specification, "str format family": the lengths at the borders of the forms, and the heads.
+    const TEXTS: [(usize, &[u8]); 8] = [
+        (0, b"\xa0"),
+        (1, b"\xa1"),
+        (31, b"\xbf"),
+        (32, b"\xd9\x20"),
+        (255, b"\xd9\xff"),
+        (256, b"\xda\x01\x00"),
+        (65535, b"\xda\xff\xff"),
+        (65536, b"\xdb\x00\x01\x00\x00"),
+    ];
+
+    fn integer_spelled(alloc: Global, number: i64) -> Result<Vec<u8>, AllocError> {
+        let value = Value::Int(number);
+        let mut into = Vec::new(alloc);
+        encode(&value, &mut into)?;
+        Ok(into)
+    }
+
+    fn text_spelled(alloc: Global, length: usize) -> Result<Vec<u8>, AllocError>
+        requires { length < 100000 }
+    {
+        let text = vec![in alloc; 0x61; length]?;
+        let value = Value::Text(Bytes::from_vec(text));
+        let mut into = Vec::new(alloc);
+        encode(&value, &mut into)?;
+        Ok(into)
+    }
+
+    #[test]
+    fn integers(rt: HostRuntime) -> Result<(), Fail> {
+        let alloc = rt.alloc();
+        for (number, bytes) in INTEGERS.iter() {
+            let spelled = integer_spelled(alloc, *number)?;
+            assert_eq!(rt; spelled.as_slice(), *bytes, "{number}");
+        }
+        Ok(())
+    }
+
+    #[test]
+    fn texts(rt: HostRuntime) -> Result<(), Fail> {
+        let alloc = rt.alloc();
+        for (length, head) in TEXTS.iter() {
+            assert!(rt; *length < 100000);
+            let spelled = text_spelled(alloc, *length)?;
+            assert_eq!(rt; spelled.len(), head.len() + *length);
+            assert!(rt; spelled.starts_with(*head));
+        }
+        Ok(())
+    }
+
+    #[test]
+    fn handles(rt: HostRuntime) -> Result<(), Fail> {
+        let alloc = rt.alloc();
+        let mut into = Vec::new(alloc);
+        let buffer = handle(alloc, 0, 1)?;
+        encode(&buffer, &mut into)?;
+        let window = handle(alloc, 1, 1000)?;
+        encode(&window, &mut into)?;
+        assert_eq!(rt;
+            into.as_slice(),
+            b"\xd4\x00\x01\xc7\x03\x01\xcd\x03\xe8".as_slice()
+        );
+        Ok(())
+    }
+
+    // The response to a request with the id 1, without error or result.
+    #[test]
+    fn response(rt: HostRuntime) -> Result<(), Fail> {
+        let alloc = rt.alloc();
+        let items = vec![in alloc; Value::Int(1), Value::Int(1), Value::Nil, Value::Nil]?;
+        let value = Value::List(items);
+        let mut into = Vec::new(alloc);
+        into.push(0xc0)?;
+        encode(&value, &mut into)?;
+        assert_eq!(rt; into.as_slice(), b"\xc0\x94\x01\x01\xc0\xc0".as_slice());
+        Ok(())
+    }
+
+    // A map of each kind of value that isn't in the tables.
+    #[test]
+    fn map(rt: HostRuntime) -> Result<(), Fail> {
+        let alloc = rt.alloc();
+        let truths = Pair {
+            key: Value::Truth(true),
+            value: Value::Truth(false),
+        };
+        let numbers = Pair {
+            key: Value::Big(9223372036854775808),
+            value: Value::Opaque(Bytes::from_slice(alloc, b"\x3f\x80\x00\x00")?),
+        };
+        let bytes = Pair {
+            key: Value::Bin(Bytes::from_slice(alloc, b"\x01\x02")?),
+            value: Value::Text(Bytes::from_slice(alloc, b"a")?),
+        };
+        let value = Value::Pairs(vec![in alloc; truths, numbers, bytes]?);
+        let mut into = Vec::new(alloc);
+        encode(&value, &mut into)?;
+        assert_eq!(rt;
+            into.as_slice(),
+            b"\x83\xc3\xc2\xcf\x80\x00\x00\x00\x00\x00\x00\x00\xca\x3f\x80\x00\x00\xc4\x02\x01\x02\xa1\x61".as_slice()
+        );
+        Ok(())
+    }
+}
