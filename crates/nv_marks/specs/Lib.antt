@@ -1,0 +1,6 @@
+pub mod Bounds
+pub mod Laws
+pub mod Marks
+pub mod Moves
+pub mod Order
+pub mod Sound

@@ -1,0 +1,13 @@
+//! Laws of the definitions, each the contract of a function that does nothing.
+
+ghost use Rattle.nv_marks.specs.Laws.{BoundedMoves, OrderIsUnique};
+
+/// Marks of different namespaces or ids can be put in order in one way only.
+pub fn order_laws()
+    ensures { OrderIsUnique }
+{}
+
+/// Marks and splices whose rows and columns are all below a third of 2^32 meet the condition of `MarkSet::splice`.
+pub fn bound_laws()
+    ensures { BoundedMoves }
+{}
