@@ -1,0 +1,6 @@
+pub mod CallParts
+pub mod Filling
+pub mod HandleRead
+pub mod Inverse
+pub mod OtherLengths
+pub mod Sendable

@@ -1,0 +1,19 @@
+//! The messages of MessagePack-RPC: what a client sends, and what the server answers and tells.
+#![tactic(auto)]
+
+mod frame;
+mod laws;
+mod message;
+mod parts;
+mod receiving;
+mod sending;
+mod shortest;
+
+pub use frame::{Frame, call_of};
+pub use laws::{read_is_told, told_is_read};
+pub use message::Message;
+pub use receiving::message_of;
+pub use sending::{into_value, value_of};
+
+#[cfg(test)]
+mod tests;
