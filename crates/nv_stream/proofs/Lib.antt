@@ -1,0 +1,6 @@
+pub mod Cuts
+pub mod Heads
+pub mod Places
+pub mod Scans
+pub mod Single
+pub mod Taken
