@@ -1,0 +1,17 @@
+pub mod Divisions
+pub mod Spans
+pub mod Tilings
+pub mod Apart
+pub mod GroupRules
+pub mod LeafOrder
+pub mod Contents
+pub mod LeavesCount
+pub mod Children
+pub mod SoFar
+pub mod Granting
+pub mod Ahead
+pub mod Written
+pub mod PlacingSteps
+pub mod Rebuilt
+pub mod Smaller
+pub mod Closing

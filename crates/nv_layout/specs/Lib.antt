@@ -1,0 +1,9 @@
+pub mod Changes
+pub mod Content
+pub mod Division
+pub mod Kept
+pub mod Least
+pub mod Places
+pub mod Shares
+pub mod Sizing
+pub mod Tiling

@@ -1,0 +1,307 @@
+// Opening a window beside another, and closing one.
+//
+// Both calls build the new tree beside the old one and then put it in place, so that want of memory
+// changes nothing.
+
+ghost use Rattle.std.specs.Prelude.{◌≡◌, ◌+◌, ◌<◌, ◌≤◌, ◌↔◌, length, take, slice_index_or, true, false, Some, IsTrue, IsFalse, IfOk, OnOk, OnErr};
+ghost use Rattle.std.specs.Option.{option_map};
+ghost use Rattle.nv_layout.specs.Content.{content, contents, leaf, group, one, no_more};
+ghost use Rattle.nv_layout.specs.Changes.{holds, holds_among, append, put_before, axis_of, both, put_opened, split, split_among, regrouped, put_left, close, close_among};
+ghost use Rattle.nv_layout.specs.Least.{leaves, leaves_in};
+
+use crate::nodes::{Axis, Leaf, Side, Tree};
+use std::alloc::{AllocError, Global};
+
+impl Tree {
+    /// Opens a window on a side of another, whose first leaf it is put beside.
+    ///
+    /// Both stand in the row or column of the other window where that lies along the side, and else
+    /// in a new one. Answers `false` exactly where the other window isn't there, and then changes
+    /// nothing; nor does it where memory is wanting. (own rule; `nvim_open_win`)
+    pub fn split(
+        &mut self,
+        alloc: Global,
+        window: i64,
+        side: Side,
+        new: Leaf,
+    ) -> Result<bool, AllocError>
+        ensures found { IfOk result (λ found. found ≡ holds window (content self.old)) }
+        ensures ok { OnOk result (content self.new ≡ split side window new (content self.old)) }
+        ensures missing { holds window (content self.old) ≡ false → content self.new ≡ content self.old }
+        ensures err { OnErr result (content self.new ≡ content self.old) }
+    {
+        if !self.holds(window) {
+            return Ok(false);
+        }
+        *self = self.opened(alloc, window, side, new)?;
+        Ok(true)
+    }
+
+    /// Closes a window, whose first leaf is taken away.
+    ///
+    /// A row or column with one child left is replaced by it, and a row in a row, or a column in a
+    /// column, gives its children to it. Answers `false` exactly where the window isn't there or is
+    /// the only one, and then changes nothing; nor does it where memory is wanting. (own rule;
+    /// `nvim_win_close`)
+    pub fn close(&mut self, alloc: Global, window: i64) -> Result<bool, AllocError>
+        ensures closed { IfOk result (λ closed. IsTrue closed ↔ ((holds window (content self.old) ≡ true) × (1 < length (leaves (content self.old))))) }
+        ensures after { IfOk result (λ closed. IsTrue closed → close window (content self.old) ≡ Some (content self.new)) }
+        ensures kept { IfOk result (λ closed. IsFalse closed → content self.new ≡ content self.old) }
+        ensures err { OnErr result (content self.new ≡ content self.old) }
+    {
+        if !self.holds(window) {
+            return Ok(false);
+        }
+        let Some(tree) = self.closed(alloc, window)? else {
+            return Ok(false);
+        };
+        if !tree.has_window() {
+            return Ok(false);
+        }
+        *self = tree;
+        Ok(true)
+    }
+
+    /// A tree with the same content.
+    #[cycle(copy)]
+    pub fn copy(&self, alloc: Global) -> Result<Tree, AllocError>
+        ensures { IfOk result (λ tree. content tree ≡ content self.now) }
+    {
+        match self {
+            Tree::Leaf(leaf) => Ok(Tree::Leaf(*leaf)),
+            Tree::Row(trees) => Ok(Tree::Row(copies(alloc, trees)?)),
+            Tree::Column(trees) => Ok(Tree::Column(copies(alloc, trees)?)),
+        }
+    }
+
+    // Whether a window is in the tree.
+    #[cycle(holds)]
+    fn holds(&self, window: i64) -> bool
+        ensures { result ≡ holds window (content self.now) }
+    {
+        match self {
+            Tree::Leaf(leaf) => leaf.window == window,
+            Tree::Row(trees) => place_of(trees, window) < trees.len(),
+            Tree::Column(trees) => place_of(trees, window) < trees.len(),
+        }
+    }
+
+    // Whether the tree has any window.
+    #[cycle(has_window)]
+    fn has_window(&self) -> bool
+        ensures { IsTrue result ↔ (0 < length (leaves (content self.now))) }
+    {
+        match self {
+            Tree::Leaf(_) => true,
+            Tree::Row(trees) => any_has_window(trees),
+            Tree::Column(trees) => any_has_window(trees),
+        }
+    }
+
+    // The tree in which a window is opened beside one of its own.
+    #[cycle(opened)]
+    fn opened(&self, alloc: Global, window: i64, side: Side, new: Leaf) -> Result<Tree, AllocError>
+        requires { holds window (content self.now) ≡ true }
+        ensures { IfOk result (λ tree. content tree ≡ split side window new (content self.now)) }
+    {
+        match self {
+            Tree::Leaf(leaf) => both(alloc, side, *leaf, new),
+            Tree::Row(trees) => {
+                Ok(Tree::Row(opened_among(alloc, trees, Axis::Across, window, side, new)?))
+            }
+            Tree::Column(trees) => {
+                Ok(Tree::Column(opened_among(alloc, trees, Axis::Down, window, side, new)?))
+            }
+        }
+    }
+
+    // What is left of the tree without a window of its own.
+    #[cycle(closed)]
+    fn closed(&self, alloc: Global, window: i64) -> Result<Option<Tree>, AllocError>
+        requires { holds window (content self.now) ≡ true }
+        ensures { IfOk result (λ left. option_map content left ≡ close window (content self.now)) }
+    {
+        match self {
+            Tree::Leaf(_) => Ok(None),
+            Tree::Row(trees) => {
+                Ok(regrouped(
+                    Axis::Across,
+                    closed_among(alloc, trees, Axis::Across, window)?,
+                ))
+            }
+            Tree::Column(trees) => {
+                Ok(regrouped(Axis::Down, closed_among(alloc, trees, Axis::Down, window)?))
+            }
+        }
+    }
+}
+
+// The place of the first child in which a window is, or the number of children.
+#[cycle(holds)]
+fn place_of(trees: &[Tree], window: i64) -> usize
+    ensures within { result ≤ length trees.now }
+    ensures before { holds_among window (contents (take result trees.now)) ≡ false }
+    ensures here { (d : Tree) → result < length trees.now → holds window (content (slice_index_or trees.now result d)) ≡ true }
+{
+    for (place, tree) in trees.iter().enumerate() {
+        if tree.holds(window) {
+            return place;
+        }
+    }
+    trees.len()
+}
+
+#[cycle(has_window)]
+fn any_has_window(trees: &[Tree]) -> bool
+    ensures { IsTrue result ↔ (0 < length (leaves_in (contents trees.now))) }
+{
+    for tree in trees {
+        if tree.has_window() {
+            return true;
+        }
+    }
+    false
+}
+
+#[cycle(copy)]
+fn copies(alloc: Global, trees: &[Tree]) -> Result<Vec<Tree>, AllocError>
+    ensures { IfOk result (λ copies. contents copies.items ≡ contents trees.now) }
+{
+    let mut copies = Vec::with_capacity(alloc, trees.len())?;
+    push_copies(alloc, trees, &mut copies)?;
+    Ok(copies)
+}
+
+// Puts copies behind other trees.
+#[cycle(copy)]
+fn push_copies(alloc: Global, trees: &[Tree], all: &mut Vec<Tree>) -> Result<(), AllocError>
+    ensures { OnOk result (contents all.new.items ≡ append (contents all.old.items) (contents trees.now)) }
+{
+    for tree in trees {
+        all.push(tree.copy(alloc)?)?;
+    }
+    Ok(())
+}
+
+// The row or column of a window and a new one on a side of it.
+fn both(alloc: Global, side: Side, old: Leaf, new: Leaf) -> Result<Tree, AllocError>
+    ensures { IfOk result (λ tree. content tree ≡ group (axis_of side) (both side old new)) }
+{
+    match side {
+        Side::Left => Ok(Tree::Row(pair(alloc, new, old)?)),
+        Side::Right => Ok(Tree::Row(pair(alloc, old, new)?)),
+        Side::Above => Ok(Tree::Column(pair(alloc, new, old)?)),
+        Side::Below => Ok(Tree::Column(pair(alloc, old, new)?)),
+    }
+}
+
+fn pair(alloc: Global, first: Leaf, second: Leaf) -> Result<Vec<Tree>, AllocError>
+    ensures { IfOk result (λ trees. contents trees.items ≡ one (leaf first) (one (leaf second) no_more)) }
+{
+    let mut trees = Vec::with_capacity(alloc, 2)?;
+    trees.push(Tree::Leaf(first))?;
+    trees.push(Tree::Leaf(second))?;
+    Ok(trees)
+}
+
+// The children of a group in which a window is opened beside one of theirs.
+#[cycle(opened)]
+fn opened_among(
+    alloc: Global,
+    trees: &[Tree],
+    axis: Axis,
+    window: i64,
+    side: Side,
+    new: Leaf,
+) -> Result<Vec<Tree>, AllocError>
+    requires { holds_among window (contents trees.now) ≡ true }
+    ensures { IfOk result (λ all. contents all.items ≡ split_among axis side window new (contents trees.now)) }
+{
+    let place = place_of(trees, window);
+    let mut all = copies(alloc, &trees[..place])?;
+    let opened = trees[place].opened(alloc, window, side, new)?;
+    put_opened(&mut all, axis, &trees[place], opened)?;
+    push_copies(alloc, &trees[place + 1..], &mut all)?;
+    Ok(all)
+}
+
+// The children of a group in which a window of theirs is closed.
+#[cycle(closed)]
+fn closed_among(
+    alloc: Global,
+    trees: &[Tree],
+    axis: Axis,
+    window: i64,
+) -> Result<Vec<Tree>, AllocError>
+    requires { holds_among window (contents trees.now) ≡ true }
+    ensures { IfOk result (λ all. contents all.items ≡ close_among axis window (contents trees.now)) }
+{
+    let place = place_of(trees, window);
+    let mut all = copies(alloc, &trees[..place])?;
+    let left = trees[place].closed(alloc, window)?;
+    put_left(&mut all, axis, left)?;
+    push_copies(alloc, &trees[place + 1..], &mut all)?;
+    Ok(all)
+}
+
+// Puts a child in which a window was opened behind others.
+fn put_opened(all: &mut Vec<Tree>, axis: Axis, was: &Tree, opened: Tree) -> Result<(), AllocError>
+    ensures { OnOk result (contents all.new.items ≡ append (contents all.old.items) (put_opened axis (content was.now) (content opened) no_more)) }
+{
+    match was {
+        Tree::Leaf(_) => put(all, axis, opened),
+        Tree::Row(_) | Tree::Column(_) => push(all, opened),
+    }
+}
+
+// Puts what is left of a child behind others.
+fn put_left(all: &mut Vec<Tree>, axis: Axis, left: Option<Tree>) -> Result<(), AllocError>
+    ensures { OnOk result (contents all.new.items ≡ append (contents all.old.items) (put_left axis (option_map content left) no_more)) }
+{
+    match left {
+        Some(tree) => put(all, axis, tree),
+        None => Ok(()),
+    }
+}
+
+// Puts a child of a group behind others. A group of the same kind gives its children.
+fn put(all: &mut Vec<Tree>, axis: Axis, tree: Tree) -> Result<(), AllocError>
+    ensures { OnOk result (contents all.new.items ≡ append (contents all.old.items) (put_before axis (content tree) no_more)) }
+{
+    match axis {
+        Axis::Across => match tree {
+            Tree::Row(trees) => push_all(all, trees),
+            tree => push(all, tree),
+        },
+        Axis::Down => match tree {
+            Tree::Column(trees) => push_all(all, trees),
+            tree => push(all, tree),
+        },
+    }
+}
+
+fn push(all: &mut Vec<Tree>, tree: Tree) -> Result<(), AllocError>
+    ensures { OnOk result (contents all.new.items ≡ append (contents all.old.items) (one (content tree) no_more)) }
+{
+    all.push(tree)?;
+    Ok(())
+}
+
+fn push_all(all: &mut Vec<Tree>, mut trees: Vec<Tree>) -> Result<(), AllocError>
+    ensures { OnOk result (contents all.new.items ≡ append (contents all.old.items) (contents trees.items)) }
+{
+    all.append(&mut trees)
+}
+
+// A group with these children: none where there are none, and the child where there is one.
+fn regrouped(axis: Axis, mut trees: Vec<Tree>) -> Option<Tree>
+    ensures { option_map content result ≡ regrouped axis (contents trees.items) }
+{
+    if trees.len() < 2 {
+        return trees.pop();
+    }
+    match axis {
+        Axis::Across => Some(Tree::Row(trees)),
+        Axis::Down => Some(Tree::Column(trees)),
+    }
+}

@@ -1,0 +1,16 @@
+//! The layout of the windows of a tabpage: a tree of leaves, rows and columns,
+//! and the rectangles that it gives to its windows.
+#![tactic(auto)]
+
+mod changes;
+mod division;
+pub mod laws;
+mod nodes;
+mod places;
+mod sizes;
+#[cfg(test)]
+mod tests;
+
+pub use nodes::{Axis, Leaf, Placed, Rect, Side, Tree, Trees};
+pub use places::rects;
+pub use sizes::{least, leaves};
