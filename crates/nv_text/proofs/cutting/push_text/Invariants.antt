@@ -1,0 +1,14 @@
+use Rattle.std.proofs.Common.{◌≡◌, ◌+◌, ◌++◌, length}
+use Rattle.std.specs.List.{concat, flat_map}
+use Rattle.unicode_segmentation.specs.Iter.{graphemes_left}
+use Rattle.nv_text.specs.Pieces.{cluster_parts, text_parts, placed}
+use Rattle.nv_text.proofs.cutting.push_text.Given as goal
+
+abbrev pub invariant-loop-cluster : goal.invariant-loop-cluster
+invariant-loop-cluster l = record {
+  pushed : l.pieces.items ++ placed l.at (flat_map cluster_parts (graphemes_left l.clusters)) ≡ l.initial.pieces.items ++ placed l.from (text_parts l.text);
+  place : l.at + length (concat (graphemes_left l.clusters)) ≡ l.from + length l.text;
+}
+
+abbrev pub decreases-loop-cluster : goal.decreases-loop-cluster
+decreases-loop-cluster l = length (graphemes_left l.clusters)
