@@ -1,0 +1,8 @@
+use Rattle.std.proofs.Common.{◌≡◌, ◌-◌}
+use Rattle.nv_hl.specs.Groups.{attr_along, attr_of}
+use Rattle.nv_hl.specs.Stored.{groups_of}
+use Rattle.nv_hl.proofs.stored.attr_from.Given as goal
+
+abbrev pub invariant-loop-followed : goal.invariant-loop-followed
+invariant-loop-followed l =
+    attr_along (64 - l.followed) (groups_of l.entries.entries) l.group ≡ attr_of (groups_of l.entries.entries) l.fn.id

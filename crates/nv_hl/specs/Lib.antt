@@ -1,0 +1,4 @@
+pub mod Attributes
+pub mod Groups
+pub mod Laws
+pub mod Stored
