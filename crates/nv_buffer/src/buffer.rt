@@ -1,0 +1,295 @@
+// A buffer.
+ghost use Rattle.std.specs.Prelude.{◌≡◌, ◌+◌, ◌-◌, ◌^◌, ◌<◌, ◌≤◌, ◌↔◌, ◌<ℤ◌, ◌+ℤ◌, pos, true, false, [], ◌∷◌, length, All, IsTrue, IsSome, IfSome, IfOk, OnOk, OnErr};
+ghost use Rattle.std.specs.List.{splice, join_with_byte};
+ghost use Rattle.nv_places.specs.Flat.{flat, row_start};
+ghost use Rattle.nv_places.specs.Places.{offset_of, is_before};
+ghost use Rattle.nv_lines.specs.Text.{IsText};
+ghost use Rattle.nv_buffer.specs.Splices.{IsInLine, IsNarrowLine, IsNarrowText, lines_between};
+ghost use Rattle.nv_buffer.specs.Content.{IsEdit, edited, lines_told, text_told};
+
+use crate::copying::copied;
+use crate::joining::{before, behind, is_one_empty, joined};
+use nv_lines::{Line, LineList, Lines};
+use nv_places::Pos;
+use std::alloc::{AllocError, Global};
+use std::marker::Model;
+
+/// What a splice of a buffer's text has changed, in numbers of the buffer before it. Rows and offsets count from 0.
+#[derive(Drop)]
+pub struct Spliced {
+    /// The changedtick after the splice.
+    pub tick: i64,
+    /// The first row that was replaced.
+    pub first: u32,
+    /// The row after the last one that was replaced.
+    pub last: u32,
+    /// The lines that now stand in place of these rows.
+    pub lines: LineList,
+    /// The offset in the flat text at which bytes were replaced.
+    pub at: u64,
+    /// How many bytes were removed there.
+    pub old: u64,
+    /// How many bytes were put there.
+    pub new: u64,
+}
+
+/// A buffer: its text, its changedtick, its name, its options and its handle. The text has a line at least, and its
+/// rows and columns are numbers of 32 bits.
+#[derive(Drop)]
+pub struct Buffer {
+    alloc: Global,
+    handle: i64,
+    text: Lines,
+    tick: i64,
+    name: Line,
+    modifiable: bool,
+    modified: bool,
+    listed: bool,
+    tabstop: u32,
+}
+
+impl Model for Buffer {
+    ghost use Rattle.std.specs.Prelude.{◌≤◌};
+    ghost use Rattle.nv_buffer.specs.Splices.{IsNarrowText};
+    ghost use Rattle.nv_buffer.specs.Content.{Content};
+
+    ghost Value = { Content };
+
+    ghost view = { λ b. record { handle = b.handle; text = b.text; tick = b.tick; name = b.name; modifiable = b.modifiable; modified = b.modified; listed = b.listed; tabstop = b.tabstop } };
+
+    ghost invariant = { λ b. IsNarrowText b.text × (1 ≤ b.tabstop) × (b.tabstop ≤ 9999) };
+}
+
+impl Buffer {
+    /// A buffer with one empty line, no name, changedtick 2, 'tabstop' 8, modifiable, not modified and listed.
+    pub fn new(alloc: Global, handle: i64) -> Result<Buffer, AllocError>
+        ensures { IfOk result (λ buffer. buffer ≡ record { handle = handle; text = [] ∷ []; tick = pos 2; name = []; modifiable = true; modified = false; listed = true; tabstop = 8 }) }
+    {
+        let text = Lines::new(alloc)?;
+        Ok(Buffer {
+            alloc,
+            handle,
+            text,
+            tick: 2,
+            name: Line::new(alloc),
+            modifiable: true,
+            modified: false,
+            listed: true,
+            tabstop: 8,
+        })
+    }
+
+    /// The number that names this buffer in calls and events.
+    pub fn handle(&self) -> i64
+        ensures { result ≡ self.now.handle }
+    {
+        self.handle
+    }
+
+    /// The lines.
+    pub fn text(&self) -> &Lines
+        ensures value { result.now ≡ self.now.text }
+        ensures narrow { IsNarrowText result.now }
+    {
+        &self.text
+    }
+
+    /// The changedtick: 2 at first, and one more after each splice.
+    pub fn tick(&self) -> i64
+        ensures { result ≡ self.now.tick }
+    {
+        self.tick
+    }
+
+    /// The name, which may be empty.
+    pub fn name(&self) -> &Line
+        ensures { result.now ≡ self.now.name }
+    {
+        &self.name
+    }
+
+    pub fn put_name(&mut self, name: Line)
+        ensures { self.new ≡ record self.old { name = name } }
+    {
+        self.name = name;
+    }
+
+    /// Whether the text may be changed by a client (help: 'modifiable').
+    pub fn modifiable(&self) -> bool
+        ensures { result ≡ self.now.modifiable }
+    {
+        self.modifiable
+    }
+
+    pub fn put_modifiable(&mut self, on: bool)
+        ensures { self.new ≡ record self.old { modifiable = on } }
+    {
+        self.modifiable = on;
+    }
+
+    /// Whether the text was changed since this was last unset (help: 'modified').
+    pub fn modified(&self) -> bool
+        ensures { result ≡ self.now.modified }
+    {
+        self.modified
+    }
+
+    pub fn put_modified(&mut self, on: bool)
+        ensures { self.new ≡ record self.old { modified = on } }
+    {
+        self.modified = on;
+    }
+
+    /// Whether the buffer is shown in lists of buffers (help: 'buflisted').
+    pub fn listed(&self) -> bool
+        ensures { result ≡ self.now.listed }
+    {
+        self.listed
+    }
+
+    pub fn put_listed(&mut self, on: bool)
+        ensures { self.new ≡ record self.old { listed = on } }
+    {
+        self.listed = on;
+    }
+
+    /// How many cells a tab reaches at most, from 1 to 9,999 (help: 'tabstop').
+    pub fn tabstop(&self) -> u32
+        ensures value { result ≡ self.now.tabstop }
+        ensures least { 1 ≤ result }
+        ensures greatest { result ≤ 9999 }
+    {
+        self.tabstop
+    }
+
+    pub fn put_tabstop(&mut self, cells: u32)
+        requires least { 1 ≤ cells }
+        requires greatest { cells ≤ 9999 }
+        ensures { self.new ≡ record self.old { tabstop = cells } }
+    {
+        self.tabstop = cells;
+    }
+
+    /// Puts `new` in place of the rows from `from` up to before `to` (help: nvim_buf_set_lines()). `None` exactly where
+    /// no row is removed and no line put, and then nothing changes. Where memory is wanting nothing changes either.
+    pub fn put_lines(
+        &mut self,
+        from: usize,
+        to: usize,
+        new: LineList,
+    ) -> Result<Option<Spliced>, AllocError>
+        requires order { from ≤ to }
+        requires within { to ≤ length self.old.text }
+        requires left { to < from + length new + length self.old.text }
+        requires count { from + length new + length self.old.text < to + 2 ^ 32 }
+        requires columns { All IsNarrowLine new }
+        requires tick { ¬ ((from ≡ to) × (new ≡ [])) → self.old.tick <ℤ i64.MAX }
+        ensures some { IfOk result (λ spliced. IsSome spliced ↔ ¬ ((from ≡ to) × (new ≡ []))) }
+        ensures none { IfOk result (λ spliced. spliced ≡ None → self.new ≡ self.old) }
+        ensures told { IfOk result (λ spliced. IfSome spliced (λ event. event ≡ lines_told self.old from to new)) }
+        ensures edit { IfOk result (λ spliced. IfSome spliced (IsEdit self.old self.new (flat new))) }
+        ensures err { OnErr result (self.new ≡ self.old) }
+    {
+        if from == to && new.is_empty() {
+            return Ok(None);
+        }
+        let at = self.text().offset(from);
+        let old = self.text().offset(to) - at;
+        Ok(Some(self.put_rows(from, to, new, at, old)?))
+    }
+
+    // Puts `lines` in place of rows, where that replaces `old` bytes of the flat text at the offset `at`.
+    fn put_rows(
+        &mut self,
+        from: usize,
+        to: usize,
+        lines: LineList,
+        at: u64,
+        old: u64,
+    ) -> Result<Spliced, AllocError>
+        requires order { from ≤ to }
+        requires within { to ≤ length self.old.text }
+        requires left { to < from + length lines + length self.old.text }
+        requires count { from + length lines + length self.old.text < to + 2 ^ 32 }
+        requires columns { All IsNarrowLine lines }
+        requires tick { self.old.tick <ℤ i64.MAX }
+        requires removed { old ≤ length (flat self.old.text) }
+        requires kept { length (flat self.old.text) ≤ length (flat (splice self.old.text from to lines)) + old }
+        ensures ok { OnOk result (self.new ≡ edited self.old (splice self.old.text from to lines)) }
+        ensures told { IfOk result (λ event. event ≡ record { tick = self.old.tick +ℤ pos 1; first = from; last = to; lines = lines; at = at; old = old; new = length (flat (splice self.old.text from to lines)) - (length (flat self.old.text) - old) }) }
+        ensures err { OnErr result (self.new ≡ self.old) }
+    {
+        let told = copied(self.alloc, &lines)?;
+        let kept = self.text.flat_len() - old;
+        self.text.replace(from, to, lines)?;
+        let new = self.text.flat_len() - kept;
+        self.tick += 1;
+        self.modified = true;
+        Ok(Spliced {
+            tick: self.tick,
+            first: from as u32,
+            last: to as u32,
+            lines: told,
+            at,
+            old,
+            new,
+        })
+    }
+
+    /// Puts `new` between two places, the second one exclusive (help: nvim_buf_set_text()): its first line joins what
+    /// stands before `start`, its last line what stands from `stop` on. `None` exactly where the two places are one and
+    /// `new` is one empty line, and then nothing changes. Where memory is wanting nothing changes either.
+    pub fn put_text(
+        &mut self,
+        start: Pos,
+        stop: Pos,
+        new: LineList,
+    ) -> Result<Option<Spliced>, AllocError>
+        requires start_in { IsInLine self.old.text start }
+        requires stop_in { IsInLine self.old.text stop }
+        requires order { is_before stop start ≡ false }
+        requires some_line { 0 < length new }
+        requires count { start.row + length new + length self.old.text < stop.row + 1 + 2 ^ 32 }
+        requires columns { All IsNarrowLine (lines_between self.old.text start stop new) }
+        requires tick { ¬ ((start ≡ stop) × (new ≡ [] ∷ [])) → self.old.tick <ℤ i64.MAX }
+        ensures some { IfOk result (λ spliced. IsSome spliced ↔ ¬ ((start ≡ stop) × (new ≡ [] ∷ []))) }
+        ensures none { IfOk result (λ spliced. spliced ≡ None → self.new ≡ self.old) }
+        ensures told { IfOk result (λ spliced. IfSome spliced (λ event. event ≡ text_told self.old start stop new)) }
+        ensures edit { IfOk result (λ spliced. IfSome spliced (IsEdit self.old self.new (join_with_byte 10 new))) }
+        ensures err { OnErr result (self.new ≡ self.old) }
+    {
+        if start == stop && is_one_empty(&new) {
+            return Ok(None);
+        }
+        let at = self.offset_of(start);
+        let old = self.offset_of(stop) - at;
+        let lines = self.lines_between(start, stop, new)?;
+        let spliced = self.put_rows(start.row as usize, stop.row as usize + 1, lines, at, old)?;
+        Ok(Some(spliced))
+    }
+
+    // The offset of a place in the flat text.
+    fn offset_of(&self, place: Pos) -> u64
+        requires { IsInLine self.now.text place }
+        ensures { result ≡ offset_of self.now.text place }
+    {
+        self.text.offset(place.row as usize) + place.col as u64
+    }
+
+    // Lines put between two places, with what stands before and behind them in its rows.
+    pub(crate) fn lines_between(
+        &self,
+        start: Pos,
+        stop: Pos,
+        new: LineList,
+    ) -> Result<LineList, AllocError>
+        requires start_in { IsInLine self.now.text start }
+        requires stop_in { IsInLine self.now.text stop }
+        requires some { 0 < length new }
+        ensures { IfOk result (λ lines. lines ≡ lines_between self.now.text start stop new) }
+    {
+        let front = before(&self.text, start);
+        let back = behind(&self.text, stop);
+        joined(self.alloc, front, new, back)
+    }
+}

@@ -1,0 +1,86 @@
+// Lines that are put within a line: what stands before them joins the first, what stands behind them the last.
+ghost use Rattle.std.specs.Prelude.{◌≡◌, ◌<◌, ◌≤◌, ◌↔◌, [], ◌∷◌, length, take, drop, IsTrue, IfOk, OnOk};
+ghost use Rattle.nv_places.specs.Flat.{IsLine, line_at};
+ghost use Rattle.nv_buffer.specs.Splices.{IsInLine, with_front, with_back};
+
+use nv_lines::{Line, LineList, Lines};
+use nv_places::Pos;
+use std::alloc::{AllocError, Global};
+
+/// Whether these lines are one empty line: no byte and no line end is put with them.
+pub fn is_one_empty(lines: &LineList) -> bool
+    ensures { IsTrue result ↔ (lines.now ≡ [] ∷ []) }
+{
+    let Some(line) = lines.get(0) else {
+        return false;
+    };
+    lines.len() == 1 && line.is_empty()
+}
+
+/// The bytes of a row before a place.
+pub fn before(text: &Lines, place: Pos) -> &[u8]
+    requires { IsInLine text.now place }
+    ensures value { result.now ≡ take place.col (line_at text.now place.row) }
+    ensures line { IsLine result.now }
+{
+    match text.get(place.row as usize) {
+        Some(line) => &line[..place.col as usize],
+        None => &[],
+    }
+}
+
+/// The bytes of a row from a place on.
+pub fn behind(text: &Lines, place: Pos) -> &[u8]
+    requires { IsInLine text.now place }
+    ensures value { result.now ≡ drop place.col (line_at text.now place.row) }
+    ensures line { IsLine result.now }
+{
+    match text.get(place.row as usize) {
+        Some(line) => &line[place.col as usize..],
+        None => &[],
+    }
+}
+
+// Puts bytes before the first line.
+fn put_front(alloc: Global, front: &[u8], lines: &mut Vec<Line>) -> Result<(), AllocError>
+    requires some { 0 < length lines.old.items }
+    requires line { IsLine front.now }
+    ensures { OnOk result (lines.new.items ≡ with_front front.now lines.old.items) }
+{
+    let mut bytes = front.to_vec(alloc)?;
+    bytes.extend_from_slice(lines[0].as_slice())?;
+    lines[0] = Line::from_vec(bytes);
+    Ok(())
+}
+
+// Puts bytes behind the last line.
+fn put_back(lines: &mut Vec<Line>, back: &[u8]) -> Result<(), AllocError>
+    requires some { 0 < length lines.old.items }
+    requires line { IsLine back.now }
+    ensures { OnOk result (lines.new.items ≡ with_back lines.old.items back.now) }
+{
+    if let Some(last) = lines.pop() {
+        let mut bytes = last.into_vec();
+        bytes.extend_from_slice(back)?;
+        lines.push(Line::from_vec(bytes))?;
+    }
+    Ok(())
+}
+
+/// Lines with bytes put before the first and behind the last.
+pub fn joined(
+    alloc: Global,
+    front: &[u8],
+    lines: LineList,
+    back: &[u8],
+) -> Result<LineList, AllocError>
+    requires some { 0 < length lines }
+    requires front_line { IsLine front.now }
+    requires back_line { IsLine back.now }
+    ensures { IfOk result (λ list. list ≡ with_back (with_front front.now lines) back.now) }
+{
+    let mut lines = lines.into_vec();
+    put_front(alloc, front, &mut lines)?;
+    put_back(&mut lines, back)?;
+    Ok(LineList::from_vec(lines))
+}
