@@ -1,0 +1,50 @@
+-- Lemmas on what a call gives and the messages that it makes due.
+use Rattle.std.proofs.Common.{◌≡◌, ℕ, List, [], ◌∷◌, map, refl, sym, ap, ◌∙◌, Result, Vec, Global}
+use Rattle.nv_value.specs.Content.{Tree}
+use Rattle.nv_value.specs.View.{content, contents}
+use Rattle.nv_value.specs.declared.value.Value.{Value}
+use Rattle.nv_value.specs.declared.fault.ApiFault.{ApiFault}
+use Rattle.nv_rpc.specs.Calls.{request, notice}
+use Rattle.nv_rpc.specs.Frames.{call_of_frame}
+use Rattle.nv_rpc.specs.declared.frame.Frame.{Frame}
+use Rattle.nv_rpc.specs.declared.frame.Frame.TheVariants.{Request, Notice}
+use Rattle.nvimd.specs.Answers.{due, outcome_of}
+use Rattle.nvimd.specs.Arguments.{listed}
+use Rattle.nvimd.specs.Methods.{Text, Outcome, outcome}
+
+-- the values of a list, one by one, are their contents
+pub listed-contents : (values : List Value) → listed (contents values) ≡ map content values
+listed-contents [] = refl
+listed-contents (value ∷ values) = ap (λ (ts : List Tree). content value ∷ ts) (listed-contents values)
+
+-- the outcome of a request's method
+pub outcome-request : (frame : Frame) (msgid : ℕ) (method name : List ℕ) (params : Vec Value Global) (lines : Text) → frame ≡ Request msgid method params → name ≡ method
+    → outcome_of (call_of_frame frame) lines ≡ outcome name (map content params.items) lines
+outcome-request frame msgid method name params lines is same =
+    ap (λ (f : Frame). outcome_of (call_of_frame f) lines) is
+    ∙ ap (λ (arguments : List Tree). outcome method arguments lines) (listed-contents params.items)
+    ∙ ap (λ (m : List ℕ). outcome m (map content params.items) lines) (sym same)
+
+-- the outcome of a notification's method
+pub outcome-notice : (frame : Frame) (method name : List ℕ) (params : Vec Value Global) (lines : Text) → frame ≡ Notice method params → name ≡ method
+    → outcome_of (call_of_frame frame) lines ≡ outcome name (map content params.items) lines
+outcome-notice frame method name params lines is same =
+    ap (λ (f : Frame). outcome_of (call_of_frame f) lines) is
+    ∙ ap (λ (arguments : List Tree). outcome method arguments lines) (listed-contents params.items)
+    ∙ ap (λ (m : List ℕ). outcome m (map content params.items) lines) (sym same)
+
+-- what a request makes due
+pub due-request : (frame : Frame) (msgid : ℕ) (method name : List ℕ) (params : Vec Value Global) (lines : Text) (result : Result Tree ApiFault)
+    → frame ≡ Request msgid method params → name ≡ method → (outcome name (map content params.items) lines).result ≡ result
+    → due (request msgid method (contents params.items)) result ≡ due (call_of_frame frame) (outcome_of (call_of_frame frame) lines).result
+due-request frame msgid method name params lines result is same gives =
+    ap (due (request msgid method (contents params.items))) (sym gives ∙ sym (ap (λ (o : Outcome). o.result) (outcome-request frame msgid method name params lines is same)))
+    ∙ ap (λ (f : Frame). due (call_of_frame f) (outcome_of (call_of_frame frame) lines).result) (sym is)
+
+-- what a notification makes due
+pub due-notice : (frame : Frame) (method name : List ℕ) (params : Vec Value Global) (lines : Text) (result : Result Tree ApiFault)
+    → frame ≡ Notice method params → name ≡ method → (outcome name (map content params.items) lines).result ≡ result
+    → due (notice method (contents params.items)) result ≡ due (call_of_frame frame) (outcome_of (call_of_frame frame) lines).result
+due-notice frame method name params lines result is same gives =
+    ap (due (notice method (contents params.items))) (sym gives ∙ sym (ap (λ (o : Outcome). o.result) (outcome-notice frame method name params lines is same)))
+    ∙ ap (λ (f : Frame). due (call_of_frame f) (outcome_of (call_of_frame frame) lines).result) (sym is)

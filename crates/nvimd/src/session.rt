@@ -1,0 +1,247 @@
+//! One session: its bytes are read piece by piece, and each call in them is answered before the next.
+ghost use Rattle.std.specs.Prelude.{◌≡◌, ℕ, ◌+◌, ◌^◌, ◌<◌, ◌≤◌, List, length, OnOk, IfOk, IfErr, Ok, Err, Some};
+ghost use Rattle.std.specs.Io.KnownBytes.{IsAtEnd};
+ghost use Rattle.nv_io.specs.Faults.{Rose};
+ghost use Rattle.nv_io.specs.Streams.{Gave};
+ghost use Rattle.nv_value.specs.View.{content};
+ghost use Rattle.nv_msgpack.specs.Within.{SpellsWithin};
+ghost use Rattle.nv_msgpack.specs.Shortest.{HasSpelling};
+ghost use Rattle.nv_stream.specs.State.{fresh, end_of};
+ghost use Rattle.nv_stream.specs.Answers.{NeedsMore};
+ghost use Rattle.nv_rpc.specs.Calls.{Call, call_in};
+ghost use Rattle.nv_rpc.specs.Frames.{call_of_frame};
+ghost use Rattle.nvimd.specs.Answers.{answer};
+ghost use Rattle.nvimd.specs.Bounds.{IsBounded};
+ghost use Rattle.nvimd.specs.Calling.{IsCallBounded};
+ghost use Rattle.nvimd.specs.Ends.{Ends};
+ghost use Rattle.nvimd.specs.Reading.{most_depth, most_bytes};
+ghost use Rattle.nvimd.specs.Serving.{IsReady, IsNew, Begins, Answered, IsCutShort, Stops, Steps, Serves, Takes, Turns, ended_by};
+
+use crate::answering::answer;
+use crate::speaking::speak;
+use nv_io::{Ended, Flaw, Got, Sink, Source};
+use nv_lines::Lines;
+use nv_msgpack::Bounds;
+use nv_rpc::{Frame, call_of};
+use nv_stream::{Next, Stream};
+use nv_value::Value;
+use std::alloc::{AllocError, Global};
+use std::fs::File;
+use std::net::{Net, TcpListener, TcpStream};
+use std::rt::Files;
+
+/// What bounds a message: at most so many lists and maps one in another, and at most so many bytes.
+const BOUNDS: Bounds = Bounds {
+    depth: 64,
+    bytes: 67_108_864,
+};
+
+/// The bytes that are read at once.
+const PIECE: usize = 65_536;
+
+/// A source from which so many bytes were taken counts as ended.
+const MOST_TAKEN: u64 = 1 << 62;
+
+/// One session over a stream of bytes and the text of the one buffer.
+#[derive(Drop)]
+pub struct Session {
+    alloc: Global,
+    stream: Stream,
+    lines: Lines,
+    // The calls answered so far.
+    number: u64,
+    // The bytes of the message that goes out.
+    room: Vec<u8>,
+}
+
+impl Session {
+    // A session to which no byte has come.
+    fn new(alloc: Global) -> Result<Session, AllocError>
+        ensures { IfOk result (λ s. IsNew s × IsReady s) }
+    {
+        Ok(Session {
+            alloc,
+            stream: Stream::new(alloc, BOUNDS)?,
+            lines: Lines::new(alloc)?,
+            number: 0,
+            room: Vec::new(alloc),
+        })
+    }
+
+    // The bytes that came to it.
+    fn taken(&self) -> u64
+        requires { self.now.stream.start + length self.now.stream.held < 2 ^ 64 }
+        ensures { result ≡ self.now.stream.start + length self.now.stream.held }
+    {
+        self.stream.start() + self.stream.held_len() as u64
+    }
+
+    // How it ends where no more bytes come.
+    fn end(&self) -> Ended
+        ensures { result ≡ ended_by (end_of self.now.stream) }
+    {
+        match self.stream.end() {
+            None => Ended::Closed,
+            Some(flaw) => Ended::Malformed(flaw),
+        }
+    }
+
+    // Answers a call.
+    fn answer_call<
+        R: Files<File = File> + Net<Listener = TcpListener, Stream = TcpStream>,
+        S: Sink,
+    >(&mut self, rt: &R, call: Frame, output: &mut S) -> Result<(), Ended>
+        requires bounded { IsBounded self.old.lines }
+        requires call { IsCallBounded (call_of_frame call) }
+        requires number { self.old.number < 2 ^ 63 }
+        ensures ok { OnOk result (Answered (call_of_frame call) self.old self.new (S.taken output.old) (S.taken output.new)) }
+        ensures err { IfErr result (λ ended. IsCutShort ended
+            × Begins (answer (call_of_frame call) self.old.lines) (S.taken output.old) (S.taken output.new)) }
+        ensures later { S.faults output.old ≤ S.faults output.new }
+        ensures fault { result ≡ Err Ended.WriteFault → Rose (S.faults output.old) (S.faults output.new) }
+    {
+        let Ok(message) = answer(self.alloc, call, &mut self.lines) else {
+            return Err(Ended::NoMemory);
+        };
+        speak(rt, self.alloc, message, &mut self.room, output)?;
+        self.number += 1;
+        Ok(())
+    }
+
+    // Answers the call that a value is.
+    fn serve<R: Files<File = File> + Net<Listener = TcpListener, Stream = TcpStream>, S: Sink>(
+        &mut self,
+        rt: &R,
+        value: Value,
+        output: &mut S,
+    ) -> Result<(), Ended>
+        requires bounded { IsBounded self.old.lines }
+        requires spelled { (front : List ℕ) × SpellsWithin most_depth most_bytes (content value) front }
+        requires told { HasSpelling (content value) }
+        requires number { self.old.number < 2 ^ 63 }
+        ensures ok { OnOk result ((call : Call) × (call_in (content value) ≡ Some call)
+            × Answered call self.old self.new (S.taken output.old) (S.taken output.new)) }
+        ensures err { IfErr result (λ ended. Stops ended (content value) self.old (S.taken output.old) (S.taken output.new)) }
+        ensures later { S.faults output.old ≤ S.faults output.new }
+        ensures fault { result ≡ Err Ended.WriteFault → Rose (S.faults output.old) (S.faults output.new) }
+    {
+        match call_of(value) {
+            Ok(call) => self.answer_call(rt, call, output),
+            Err(_) => Err(Ended::Malformed(Flaw::NoCall(self.number))),
+        }
+    }
+
+    // Answers the next call of what it holds. `false` where that needs more bytes.
+    fn step<R: Files<File = File> + Net<Listener = TcpListener, Stream = TcpStream>, S: Sink>(
+        &mut self,
+        rt: &R,
+        output: &mut S,
+    ) -> Result<bool, Ended>
+        requires ready { IsReady self.old }
+        requires fits { self.old.stream.start + length self.old.stream.held < 2 ^ 63 }
+        ensures steps { Steps result self.old self.new (S.taken output.old) (S.taken output.new) }
+        ensures later { S.faults output.old ≤ S.faults output.new }
+        ensures fault { result ≡ Err Ended.WriteFault → Rose (S.faults output.old) (S.faults output.new) }
+        ensures no_read { result ≡ Err Ended.ReadFault → ⊥ }
+    {
+        let Ok(next) = self.stream.next() else {
+            return Err(Ended::NoMemory);
+        };
+        match next {
+            Next::Value(value) => {
+                self.serve(rt, value, output)?;
+                Ok(true)
+            }
+            Next::More => Ok(false),
+            Next::Flaw(flaw) => Err(Ended::Malformed(flaw)),
+        }
+    }
+
+    // Answers the calls of what it holds, one after another.
+    fn serve_held<R: Files<File = File> + Net<Listener = TcpListener, Stream = TcpStream>, S: Sink>(
+        &mut self,
+        rt: &R,
+        output: &mut S,
+    ) -> Result<(), Ended>
+        requires ready { IsReady self.old }
+        requires fits { self.old.stream.start + length self.old.stream.held < 2 ^ 63 }
+        ensures serves { Serves ⊥ result self.old.stream.held self.old self.new (S.taken output.old) (S.taken output.new) }
+        ensures later { S.faults output.old ≤ S.faults output.new }
+        ensures fault { result ≡ Err Ended.WriteFault → Rose (S.faults output.old) (S.faults output.new) }
+        ensures no_read { result ≡ Err Ended.ReadFault → ⊥ }
+    {
+        while self.step(rt, output)? {}
+        Ok(())
+    }
+
+    // Takes the next piece of its bytes from `input`, by one read.
+    fn take_piece<
+        R: Files<File = File> + Net<Listener = TcpListener, Stream = TcpStream>,
+        I: Source,
+    >(&mut self, rt: &R, input: &mut I, buffer: &mut [u8]) -> Result<(), Ended>
+        requires ready { IsReady self.old }
+        requires waits { NeedsMore self.old.stream }
+        requires fits { self.old.stream.start + length self.old.stream.held < 2 ^ 62 }
+        requires room { length buffer.old ≡ 65536 }
+        ensures takes { (piece : List ℕ) × Gave (I.taken input.old) (I.taken input.new) (I.left input.old) (I.left input.new) piece
+            × Takes (IsAtEnd (I.left input.new)) result piece self.old self.new }
+        ensures later { I.faults input.old ≤ I.faults input.new }
+        ensures fault { result ≡ Err Ended.ReadFault → Rose (I.faults input.old) (I.faults input.new) }
+        ensures no_write { result ≡ Err Ended.WriteFault → ⊥ }
+    {
+        match input.read(rt, buffer) {
+            Got::Bytes(count) => match self.stream.feed(&buffer[..count]) {
+                Ok(()) => Ok(()),
+                Err(_) => Err(Ended::NoMemory),
+            },
+            Got::End => Err(self.end()),
+            Got::Failed => Err(Ended::ReadFault),
+        }
+    }
+
+    // Takes a piece and answers the calls that are whole by it.
+    fn turn<
+        R: Files<File = File> + Net<Listener = TcpListener, Stream = TcpStream>,
+        I: Source,
+        S: Sink,
+    >(&mut self, rt: &R, input: &mut I, buffer: &mut [u8], output: &mut S) -> Result<(), Ended>
+        requires ready { IsReady self.old }
+        requires waits { NeedsMore self.old.stream }
+        requires fits { self.old.stream.start + length self.old.stream.held < 2 ^ 62 }
+        requires room { length buffer.old ≡ 65536 }
+        ensures turns { (piece : List ℕ) × Gave (I.taken input.old) (I.taken input.new) (I.left input.old) (I.left input.new) piece
+            × Turns (IsAtEnd (I.left input.new)) result piece self.old self.new (S.taken output.old) (S.taken output.new) }
+        ensures read_later { I.faults input.old ≤ I.faults input.new }
+        ensures read_fault { result ≡ Err Ended.ReadFault → Rose (I.faults input.old) (I.faults input.new) }
+        ensures write_later { S.faults output.old ≤ S.faults output.new }
+        ensures write_fault { result ≡ Err Ended.WriteFault → Rose (S.faults output.old) (S.faults output.new) }
+    {
+        self.take_piece(rt, input, buffer)?;
+        self.serve_held(rt, output)
+    }
+}
+
+/// Answers the calls of `input` on `output`, one after another, from a text of one empty line.
+pub fn embed<
+    R: Files<File = File> + Net<Listener = TcpListener, Stream = TcpStream>,
+    I: Source,
+    S: Sink,
+>(rt: &R, alloc: Global, input: &mut I, output: &mut S) -> Ended
+    ensures ends { (bytes : List ℕ) × Gave (I.taken input.old) (I.taken input.new) (I.left input.old) (I.left input.new) bytes
+        × Ends result bytes (I.left input.new) (S.taken output.old) (S.taken output.new) }
+    ensures read { result ≡ Ended.ReadFault → Rose (I.faults input.old) (I.faults input.new) }
+    ensures write { result ≡ Ended.WriteFault → Rose (S.faults output.old) (S.faults output.new) }
+{
+    let Ok(mut session) = Session::new(alloc) else {
+        return Ended::NoMemory;
+    };
+    let Ok(mut buffer) = vec![in alloc; 0; PIECE] else {
+        return Ended::NoMemory;
+    };
+    while session.taken() < MOST_TAKEN {
+        if let Err(ended) = session.turn(rt, input, &mut buffer, output) {
+            return ended;
+        }
+    }
+    session.end()
+}

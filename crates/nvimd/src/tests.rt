@@ -1,0 +1,359 @@
+//! The command over devices in memory, against tables written by hand.
+ghost use Rattle.std.specs.Prelude.{◌<◌};
+
+use crate::command::run;
+use crate::whole::answer_all;
+use nv_io::{MemSink, MemSource};
+use std::alloc::{AllocError, Global};
+use std::test::Fail;
+
+// A row: what it is about, the bytes that come in, those that go out, the status, and the line that tells it.
+struct Row {
+    name: &'static str,
+    input: &'static [u8],
+    output: &'static [u8],
+    status: u8,
+    line: &'static [u8],
+}
+
+// A request that sets the whole text to the one line "a", and one that gets the whole text.
+const SET_GET: &[u8] =
+    b"\x94\x00\x01\xb2nvim_buf_set_lines\x95\x00\x00\xff\xc3\x91\xa1a\x94\x00\x02\xb2nvim_buf_get_lines\x94\x00\x00\xff\xc3";
+
+// The length of the first request.
+const FIRST: usize = 30;
+
+// Their replies: nil, and the one line.
+const REPLIES: &[u8] = b"\x94\x01\x01\xc0\xc0\x94\x01\x02\xc0\x91\xa1a";
+
+// The length of the first reply.
+const FIRST_REPLY: usize = 5;
+
+const ROWS: &[Row] = &[
+    Row {
+        name: "lines are set and got",
+        input: SET_GET,
+        output: REPLIES,
+        status: 0,
+        line: b"",
+    },
+    Row {
+        name: "nothing came",
+        input: b"",
+        output: b"",
+        status: 0,
+        line: b"",
+    },
+    Row {
+        name: "notifications that succeed are not answered",
+        input: b"\x93\x02\xb2nvim_buf_set_lines\x95\x00\x00\xff\xc3\x91\xa1a\x93\x02\xb2nvim_buf_get_lines\x94\x00\x00\xff\xc3",
+        output: b"",
+        status: 0,
+        line: b"",
+    },
+    Row {
+        name: "a notification that fails",
+        input: b"\x93\x02\xa9nvim_nope\x90",
+        output: b"\x93\x02\xb0nvim_error_event\x92\x00\xb9Invalid method: nvim_nope",
+        status: 0,
+        line: b"",
+    },
+    Row {
+        name: "no method has the name",
+        input: b"\x94\x00\x01\xb3nvim_buf_line_count\x91\x00",
+        output: b"\x94\x01\x01\x92\x00\xd9#Invalid method: nvim_buf_line_count\xc0",
+        status: 0,
+        line: b"",
+    },
+    Row {
+        name: "other spellings, and a name as binary",
+        input: b"\x94\x00\xce\x00\x00\x00\x01\xc4\x12nvim_buf_get_lines\x94\xd4\x00\x01\x00\xff\xc3",
+        output: b"\x94\x01\x01\xc0\x91\xa0",
+        status: 0,
+        line: b"",
+    },
+    Row {
+        name: "a text without lines has one empty line",
+        input: b"\x94\x00\x01\xb2nvim_buf_set_lines\x95\x00\x00\xff\xc3\x90\x94\x00\x02\xb2nvim_buf_get_lines\x94\x00\x00\xff\xc3",
+        output: b"\x94\x01\x01\xc0\xc0\x94\x01\x02\xc0\x91\xa0",
+        status: 0,
+        line: b"",
+    },
+    Row {
+        name: "an index outside is refused where it is strict, else brought in",
+        input: b"\x94\x00\x01\xb2nvim_buf_set_lines\x95\x00\x05\x09\xc3\x91\xa1x\x94\x00\x02\xb2nvim_buf_set_lines\x95\x00\x05\x09\xc2\x91\xa1x\x94\x00\x03\xb2nvim_buf_get_lines\x94\x00\x00\xff\xc3",
+        output: b"\x94\x01\x01\x92\x01\xb3Index out of bounds\xc0\x94\x01\x02\xc0\xc0\x94\x01\x03\xc0\x92\xa0\xa1x",
+        status: 0,
+        line: b"",
+    },
+    Row {
+        name: "the start lies above the end",
+        input: b"\x94\x00\x01\xb2nvim_buf_set_lines\x95\x00\x00\xff\xc3\x93\xa1a\xa1b\xa1c\x94\x00\x02\xb2nvim_buf_get_lines\x94\x00\x03\x01\xc2\x94\x00\x03\xb2nvim_buf_set_lines\x95\x00\x03\x01\xc2\x91\xa1y\x94\x00\x04\xb2nvim_buf_get_lines\x94\x00\x00\xff\xc3",
+        output: b"\x94\x01\x01\xc0\xc0\x94\x01\x02\xc0\x90\x94\x01\x03\x92\x01\xbc'start' is higher than 'end'\xc0\x94\x01\x04\xc0\x93\xa1a\xa1b\xa1c",
+        status: 0,
+        line: b"",
+    },
+    Row {
+        name: "a line feed in a line",
+        input: b"\x94\x00\x01\xb2nvim_buf_set_lines\x95\x00\x00\x01\xc3\x91\xa3a\nb",
+        output: b"\x94\x01\x01\x92\x01\xbeString cannot contain newlines\xc0",
+        status: 0,
+        line: b"",
+    },
+    Row {
+        name: "no buffer has the handle",
+        input: b"\x94\x00\x01\xb2nvim_buf_get_lines\x94\x07\x00\xff\xc3",
+        output: b"\x94\x01\x01\x92\x01\xb4Invalid buffer id: 7\xc0",
+        status: 0,
+        line: b"",
+    },
+    Row {
+        name: "a string longer than a message",
+        input: b"\x94\x00\x01\xdb\xff\xff\xff\xff",
+        output: b"",
+        status: 6,
+        line: b"nvimd: malformed input: long at 3\n",
+    },
+    Row {
+        name: "a list that is no call",
+        input: b"\x92\x00\x01",
+        output: b"",
+        status: 6,
+        line: b"nvimd: malformed input: call at 0\n",
+    },
+    Row {
+        name: "the end inside a call",
+        input: b"\x94\x00",
+        output: b"",
+        status: 6,
+        line: b"nvimd: malformed input: cut at 0\n",
+    },
+    Row {
+        name: "a byte that begins nothing",
+        input: b"\xc1",
+        output: b"",
+        status: 6,
+        line: b"nvimd: malformed input: bad at 0\n",
+    },
+    Row {
+        name: "lists too deep",
+        input: b"\x91\x91\x91\x91\x91\x91\x91\x91\x91\x91\x91\x91\x91\x91\x91\x91\x91\x91\x91\x91\x91\x91\x91\x91\x91\x91\x91\x91\x91\x91\x91\x91\x91\x91\x91\x91\x91\x91\x91\x91\x91\x91\x91\x91\x91\x91\x91\x91\x91\x91\x91\x91\x91\x91\x91\x91\x91\x91\x91\x91\x91\x91\x91\x91\x91",
+        output: b"",
+        status: 6,
+        line: b"nvimd: malformed input: deep at 64\n",
+    },
+    Row {
+        name: "a flaw behind two calls",
+        input: b"\x94\x00\x01\xb2nvim_buf_set_lines\x95\x00\x00\xff\xc3\x91\xa1a\x94\x00\x02\xb2nvim_buf_get_lines\x94\x00\x00\xff\xc3\x92\xc1",
+        output: REPLIES,
+        status: 6,
+        line: b"nvimd: malformed input: bad at 58\n",
+    },
+    Row {
+        name: "no call behind two calls",
+        input: b"\x94\x00\x01\xb2nvim_buf_set_lines\x95\x00\x00\xff\xc3\x91\xa1a\x94\x00\x02\xb2nvim_buf_get_lines\x94\x00\x00\xff\xc3\x07",
+        output: REPLIES,
+        status: 6,
+        line: b"nvimd: malformed input: call at 2\n",
+    },
+];
+
+// Refused calls, and the exact words of each fault.
+const REFUSALS: &[Row] = &[
+    Row {
+        name: "too few and too many arguments",
+        input: b"\x94\x00\x01\xb2nvim_buf_get_lines\x92\x00\x00\x94\x00\x02\xb2nvim_buf_set_lines\x96\x00\x00\xff\xc3\x90\x00",
+        output: b"\x94\x01\x01\x92\x01\xd90Wrong number of arguments: expecting 4 but got 2\xc0\x94\x01\x02\x92\x01\xd90Wrong number of arguments: expecting 5 but got 6\xc0",
+        status: 0,
+        line: b"",
+    },
+    Row {
+        name: "each argument of the one method is of another type",
+        input: b"\x94\x00\x01\xb2nvim_buf_get_lines\x94\xc0\x00\xff\xc3\x94\x00\x02\xb2nvim_buf_get_lines\x94\x00\xc0\xff\xc3\x94\x00\x03\xb2nvim_buf_get_lines\x94\x00\x00\xc0\xc3\x94\x00\x04\xb2nvim_buf_get_lines\x94\x00\x00\xff\xc0",
+        output: b"\x94\x01\x01\x92\x01\xd9KWrong type for argument 1 when calling nvim_buf_get_lines, expecting Buffer\xc0\x94\x01\x02\x92\x01\xd9LWrong type for argument 2 when calling nvim_buf_get_lines, expecting Integer\xc0\x94\x01\x03\x92\x01\xd9LWrong type for argument 3 when calling nvim_buf_get_lines, expecting Integer\xc0\x94\x01\x04\x92\x01\xd9LWrong type for argument 4 when calling nvim_buf_get_lines, expecting Boolean\xc0",
+        status: 0,
+        line: b"",
+    },
+    Row {
+        name: "each argument of the other method is of another type",
+        input: b"\x94\x00\x01\xb2nvim_buf_set_lines\x95\xc0\x00\xff\xc3\x90\x94\x00\x02\xb2nvim_buf_set_lines\x95\x00\xc0\xff\xc3\x90\x94\x00\x03\xb2nvim_buf_set_lines\x95\x00\x00\xc0\xc3\x90\x94\x00\x04\xb2nvim_buf_set_lines\x95\x00\x00\xff\xc0\x90\x94\x00\x05\xb2nvim_buf_set_lines\x95\x00\x00\xff\xc3\xc0\x94\x00\x06\xb2nvim_buf_set_lines\x95\x00\x00\xff\xc3\x92\xa1x\x01",
+        output: b"\x94\x01\x01\x92\x01\xd9KWrong type for argument 1 when calling nvim_buf_set_lines, expecting Buffer\xc0\x94\x01\x02\x92\x01\xd9LWrong type for argument 2 when calling nvim_buf_set_lines, expecting Integer\xc0\x94\x01\x03\x92\x01\xd9LWrong type for argument 3 when calling nvim_buf_set_lines, expecting Integer\xc0\x94\x01\x04\x92\x01\xd9LWrong type for argument 4 when calling nvim_buf_set_lines, expecting Boolean\xc0\x94\x01\x05\x92\x01\xd9JWrong type for argument 5 when calling nvim_buf_set_lines, expecting Array\xc0\x94\x01\x06\x92\x01\xd9JWrong type for argument 5 when calling nvim_buf_set_lines, expecting Array\xc0",
+        status: 0,
+        line: b"",
+    },
+    Row {
+        name: "of several faults the first in order",
+        input: b"\x94\x00\x01\xb2nvim_buf_get_lines\x94\xd4\x01\x07\xc0\xff\xc3\x94\x00\x02\xb2nvim_buf_set_lines\x95\x07\x00\x09\xc3\x91\xa1\n\x94\x00\x03\xb2nvim_buf_set_lines\x95\x00\x09\x00\xc3\x91\xa1\n\x94\x00\x04\xb2nvim_buf_set_lines\x95\x00\x01\x00\xc3\x91\xa1\n\x94\x00\x05\xb2nvim_buf_get_lines\x94\x00\x00\xff\xc3",
+        output: b"\x94\x01\x01\x92\x01\xd9KWrong type for argument 1 when calling nvim_buf_get_lines, expecting Buffer\xc0\x94\x01\x02\x92\x01\xb4Invalid buffer id: 7\xc0\x94\x01\x03\x92\x01\xb3Index out of bounds\xc0\x94\x01\x04\x92\x01\xbc'start' is higher than 'end'\xc0\x94\x01\x05\xc0\x91\xa0",
+        status: 0,
+        line: b"",
+    },
+    Row {
+        name: "a handle below 0, and numbers for truth values",
+        input: b"\x94\x00\x01\xb2nvim_buf_get_lines\x94\xff\x00\xff\xc3\x94\x00\x02\xb2nvim_buf_get_lines\x94\x01\xfd\xff\x00\x94\x00\x03\xb2nvim_buf_get_lines\x94\x00\xfd\xff\x07",
+        output: b"\x94\x01\x01\x92\x01\xb5Invalid buffer id: -1\xc0\x94\x01\x02\xc0\x91\xa0\x94\x01\x03\x92\x01\xb3Index out of bounds\xc0",
+        status: 0,
+        line: b"",
+    },
+];
+
+// What a run left: its status, what went out, and the line.
+#[derive(Drop)]
+struct Left {
+    status: u8,
+    output: MemSink,
+    errors: MemSink,
+}
+
+fn source(alloc: Global, bytes: &[u8], cut: usize, fails: Vec<u64>) -> Result<MemSource, AllocError>
+    requires { 0 < cut }
+{
+    let bytes = Vec::from_slice(alloc, bytes)?;
+    let cuts = vec![in alloc; cut]?;
+    Ok(MemSource::new(bytes, cuts, fails))
+}
+
+fn ample(alloc: Global) -> MemSink {
+    MemSink::new(alloc, 4_096, Vec::new(alloc))
+}
+
+fn play(rt: &HostRuntime, words: &[&str], mut input: MemSource, mut output: MemSink) -> Left {
+    let alloc = rt.alloc();
+    let mut errors = ample(alloc);
+    let status = run(rt, alloc, words, &mut input, &mut output, &mut errors);
+    Left {
+        status,
+        output,
+        errors,
+    }
+}
+
+fn embedded(rt: &HostRuntime, input: &[u8], cut: usize) -> Result<Left, AllocError>
+    requires { 0 < cut }
+{
+    let alloc = rt.alloc();
+    let input = source(alloc, input, cut, Vec::new(alloc))?;
+    Ok(play(rt, &["embed"], input, ample(alloc)))
+}
+
+// The first row that gives something else, in one piece or byte by byte.
+fn first_wrong(rt: &HostRuntime, rows: &[Row]) -> Result<Option<&'static str>, AllocError> {
+    for row in rows {
+        for whole in [true, false] {
+            let left = embedded(rt, row.input, if whole { 4_096 } else { 1 })?;
+            if left.status != row.status
+                || left.output.bytes() != row.output
+                || left.errors.bytes() != row.line
+            {
+                return Ok(Some(row.name));
+            }
+        }
+    }
+    Ok(None)
+}
+
+#[test]
+fn rows_however_they_are_cut(rt: HostRuntime) -> Result<(), Fail> {
+    assert_eq!(rt; first_wrong(&rt, ROWS)?, None);
+    Ok(())
+}
+
+#[test]
+fn refusals_have_their_exact_words(rt: HostRuntime) -> Result<(), Fail> {
+    assert_eq!(rt; first_wrong(&rt, REFUSALS)?, None);
+    Ok(())
+}
+
+// The replies that are due where so many bytes of the two requests came.
+fn due(came: usize) -> &'static [u8] {
+    if came < FIRST {
+        b""
+    } else if came < SET_GET.len() {
+        &REPLIES[..FIRST_REPLY]
+    } else {
+        REPLIES
+    }
+}
+
+// Each beginning of the two requests ends between them or inside one of them.
+#[test]
+fn beginnings_are_cut_where_a_request_is(rt: HostRuntime) -> Result<(), Fail> {
+    for came in 0..=SET_GET.len() {
+        let left = embedded(&rt, &SET_GET[..came], 3)?;
+        let line = if came == 0 || came == FIRST || came == SET_GET.len() {
+            String::new(rt.alloc())
+        } else {
+            let begun = if came < FIRST { 0 } else { FIRST };
+            format!(in rt.alloc(); "nvimd: malformed input: cut at {begun}\n")?
+        };
+        assert_eq!(rt; left.status, if line.is_empty() { 0 } else { 6 }, "{came}");
+        assert_eq!(rt; left.output.bytes(), due(came), "{came}");
+        assert_eq!(rt; left.errors.bytes(), line.as_bytes(), "{came}");
+    }
+    Ok(())
+}
+
+// One byte a read, where one of the reads fails.
+#[test]
+fn a_read_that_fails_ends_it(rt: HostRuntime) -> Result<(), Fail> {
+    let alloc = rt.alloc();
+    for came in 0..=SET_GET.len() {
+        let fails = vec![in alloc; came as u64]?;
+        let input = source(alloc, SET_GET, 1, fails)?;
+        let left = play(&rt, &["embed"], input, ample(alloc));
+        assert_eq!(rt; left.status, 3, "{came}");
+        assert_eq!(rt; left.output.bytes(), due(came), "{came}");
+        assert_eq!(rt;
+            left.errors.bytes(),
+            b"nvimd: read fault\n".as_slice(),
+            "{came}"
+        );
+    }
+    Ok(())
+}
+
+// One byte a write, where one of the writes fails.
+#[test]
+fn a_write_that_fails_ends_it(rt: HostRuntime) -> Result<(), Fail> {
+    let alloc = rt.alloc();
+    for went in 0..REPLIES.len() {
+        let fails = vec![in alloc; went as u64]?;
+        let input = source(alloc, SET_GET, 4_096, Vec::new(alloc))?;
+        let left = play(&rt, &["embed"], input, MemSink::new(alloc, 1, fails));
+        assert_eq!(rt; left.status, 4, "{went}");
+        assert_eq!(rt; left.output.bytes(), &REPLIES[..went], "{went}");
+        assert_eq!(rt;
+            left.errors.bytes(),
+            b"nvimd: write fault\n".as_slice(),
+            "{went}"
+        );
+    }
+    Ok(())
+}
+
+#[test]
+fn other_words_are_refused(rt: HostRuntime) -> Result<(), Fail> {
+    let alloc = rt.alloc();
+    let refused: [&[&str]; 4] = [&[], &["serve"], &["embed", "embed"], &["Embed"]];
+    for words in refused {
+        let input = source(alloc, SET_GET, 1, Vec::new(alloc))?;
+        let left = play(&rt, words, input, ample(alloc));
+        assert_eq!(rt; left.status, 2);
+        assert_eq!(rt; left.output.bytes(), b"".as_slice());
+        assert_eq!(rt;
+            left.errors.bytes(),
+            b"nvimd: bad command line\n".as_slice()
+        );
+    }
+    Ok(())
+}
+
+#[test]
+fn all_is_answered_over_sure_devices(rt: HostRuntime) -> Result<(), Fail> {
+    let alloc = rt.alloc();
+    let bytes = Vec::from_slice(alloc, SET_GET)?;
+    let (status, output) = answer_all(&rt, alloc, bytes, vec![in alloc; 7]?);
+    assert_eq!(rt; status, 0);
+    assert_eq!(rt; output.bytes(), REPLIES);
+    Ok(())
+}
