@@ -1,0 +1,4 @@
+pub mod Tree
+pub mod Ways
+pub mod Runs
+pub mod Laws
