@@ -1,8 +1,9 @@
 // The lock: how a thread comes in and leaves, waits, and how passes are joined.
-ghost use Rattle.std.specs.Prelude.{◌≡◌, ℕ, true, List, [], ◌∷◌, ◌++◌, length, Some, None};
+ghost use Rattle.std.specs.Prelude.{◌≡◌, ℕ, true, false, List, [], ◌∷◌, ◌++◌, length, Some, None};
 ghost use Rattle.nv_turn.specs.Story.{Has, HasAll, Follows, longer};
 ghost use Rattle.nv_turn.specs.Passes.{IsSamePass, SeesMore};
-ghost use Rattle.nv_turn.specs.Rule.{seen_of, carried};
+ghost use Rattle.nv_turn.specs.Rule.{seen_of, carried, longest, EachKnows};
+ghost use Rattle.nv_turn.specs.Steps.{looking, together};
 ghost use Rattle.nv_turn.specs.Seats.{passed, IsSeated};
 
 use crate::held::Held;
@@ -163,13 +164,29 @@ impl<T: Story> Turn<T> {
             number: _,
             count: other_count,
         } = b;
-        self.table.shared.join_seat::<Both>(&mut seat, other);
-        self.table.shared.load::<Merge<T>>(&mut seat, 0);
+        self.put_together(&mut seat, other);
         Pass {
             seat,
             number,
             count: count.max(other_count),
         }
+    }
+
+    // The first seat takes over what the second one knows, and makes one note of all.
+    fn put_together(
+        &self,
+        seat: &mut Seat<Option<T>, View<T::Entry, T::Start>>,
+        other: Seat<Option<T>, View<T::Entry, T::Start>>,
+    )
+        requires turn { (seat.old.table_id ≡ self.now.turn) × (other.table_id ≡ self.now.turn) }
+        requires rest { (seat.old.me.0.holds ≡ false) × (other.me.0.holds ≡ false) × (other.me.1 ≡ []) }
+        requires number { (n : ℕ) × Has n (carried seat.old.me.0) }
+        ensures turn { seat.new.table_id ≡ seat.old.table_id }
+        ensures view { seat.new.me ≡ (looking (longest (together seat.old.me.0 other.me.0).notes) (together seat.old.me.0 other.me.0), seat.old.me.1) }
+        ensures knows { EachKnows T.caller (longest (seat.old.me.0.notes ++ other.me.0.notes)) (seat.old.me.0.notes ++ other.me.0.notes) }
+    {
+        self.table.shared.join_seat::<Both>(seat, other);
+        self.table.shared.load::<Merge<T>>(seat, 0);
     }
 
     /// Gives the value back once all passes were joined into the last one.
