@@ -194,7 +194,7 @@ impl Buffer {
             return Ok(None);
         }
         let at = self.text().offset(from);
-        let old = self.text().offset(to) - at;
+        let old = self.text().flat_len_between(from, to);
         Ok(Some(self.put_rows(from, to, new, at, old)?))
     }
 
@@ -262,7 +262,7 @@ impl Buffer {
             return Ok(None);
         }
         let at = self.offset_of(start);
-        let old = self.offset_of(stop) - at;
+        let old = self.bytes_between(start, stop);
         let lines = self.lines_between(start, stop, new)?;
         let spliced = self.put_rows(start.row as usize, stop.row as usize + 1, lines, at, old)?;
         Ok(Some(spliced))
@@ -274,6 +274,19 @@ impl Buffer {
         ensures { result ≡ offset_of self.now.text place }
     {
         self.text.offset(place.row as usize) + place.col as u64
+    }
+
+    // How many bytes of the flat text stand between two places.
+    fn bytes_between(&self, start: Pos, stop: Pos) -> u64
+        requires start_in { IsInLine self.now.text start }
+        requires stop_in { IsInLine self.now.text stop }
+        requires order { is_before stop start ≡ false }
+        ensures { offset_of self.now.text start + result ≡ offset_of self.now.text stop }
+    {
+        let rows = self
+            .text()
+            .flat_len_between(start.row as usize, stop.row as usize);
+        rows + stop.col as u64 - start.col as u64
     }
 
     // Lines put between two places, with what stands before and behind them in its rows.

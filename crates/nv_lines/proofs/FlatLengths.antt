@@ -1,6 +1,6 @@
 -- Lemmas on the length of flat text.
 use Rattle.std.proofs.Common.{◌≡◌, ℕ, ◌+◌, ◌-◌, ◌<◌, ◌≤◌, List, [], ◌∷◌, ◌++◌, length, take, drop, get_or, refl, sym, ap, ◌∙◌, arith, length-append}
-use Rattle.std.proofs.lemmas.List.{take-append-drop, take_more, drop-drop}
+use Rattle.std.proofs.lemmas.List.{take-append-drop, take_all, take_more, drop-drop, length-drop}
 use Rattle.std.specs.List.{splice}
 use Rattle.nv_places.specs.Flat.{flat, row_start}
 
@@ -9,12 +9,22 @@ length-flat-append [] b = omega arith
 length-flat-append (line ∷ a) b =
     omega (arith, length-append line (10 ∷ flat (a ++ b)), length-append line (10 ∷ flat a), length-flat-append a b)
 
+-- the flat text up to a row and from there on
+pub flat_halves : (lines : List (List ℕ)) (row : ℕ) → length (flat lines) ≡ row_start lines row + length (flat (drop row lines))
+flat_halves lines row =
+    sym (ap (λ ls. length (flat ls)) (take-append-drop row lines)) ∙ length-flat-append (take row lines) (drop row lines)
+
 -- the flat text up to a row is no longer than all of it
 pub row_start-le : (lines : List (List ℕ)) (row : ℕ) → row_start lines row ≤ length (flat lines)
-row_start-le lines row =
-    let whole : length (flat lines) ≡ row_start lines row + length (flat (drop row lines)) =
-    sym (ap (λ ls. length (flat ls)) (take-append-drop row lines)) ∙ length-flat-append (take row lines) (drop row lines) in
-    omega arith
+row_start-le lines row = omega (arith, flat_halves lines row)
+
+-- what precedes a row, and the rows from there on
+pub flat_rest : (lines was : List (List ℕ)) (row : ℕ) → was ≡ lines
+    → length (flat lines) ≡ row_start lines row + length (flat (take (length was - row) (drop row was)))
+flat_rest lines was row same =
+    let rest : take (length was - row) (drop row was) ≡ drop row lines =
+    take_all (length was - row) (drop row was) (omega (arith, length-drop row was)) ∙ ap (drop row) same in
+    omega (arith, flat_halves lines row, ap (λ ls. length (flat ls)) rest)
 
 -- the row after this one begins past its bytes and its line end
 pub row_start-more : (lines : List (List ℕ)) (row : ℕ) (line : List ℕ) → row < length lines → line ≡ get_or lines row line
@@ -44,6 +54,11 @@ flat_parts lines was from to same h =
     let middle : length (flat (take (to - from) (drop from was))) ≡ length (flat (take (to - from) rest)) =
     ap (λ ls. length (flat (take (to - from) (drop from ls)))) same in
     omega (arith, front, back, middle, ap (λ ls. length (flat ls)) after)
+
+-- how far apart two rows begin
+pub rows_apart : (lines was : List (List ℕ)) (from to : ℕ) → was ≡ lines → from ≤ to
+    → row_start lines from + length (flat (take (to - from) (drop from was))) ≡ row_start lines to
+rows_apart lines was from to same h = omega (arith, flat_parts lines was from to same h, flat_halves lines to)
 
 -- the flat text after rows were replaced
 pub length-flat-splice : (lines new : List (List ℕ)) (from to : ℕ)

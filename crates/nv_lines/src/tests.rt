@@ -97,6 +97,10 @@ fn offsets_count_the_line_ends(rt: HostRuntime) -> Result<(), Fail> {
         assert!(rt; offset <= text.flat_len());
         assert_eq!(rt; text.row_at(offset), row);
     }
+    for (from, to, bytes) in [(1usize, 1usize, 0u64), (0, 2, 4), (1, 3, 3)] {
+        assert!(rt; from <= to && to <= text.count());
+        assert_eq!(rt; text.flat_len_between(from, to), bytes);
+    }
     Ok(())
 }
 

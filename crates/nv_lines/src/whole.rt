@@ -70,7 +70,19 @@ impl Lines {
         requires { row ≤ length self.now }
         ensures { result ≡ row_start self.now row }
     {
-        flat_len(&self.lines[..row])
+        if row <= self.count() / 2 {
+            return flat_len(&self.lines[..row]);
+        }
+        self.bytes - flat_len(&self.lines[row..])
+    }
+
+    /// The number of bytes of the flat text of the rows from `from` up to before `to`.
+    pub fn flat_len_between(&self, from: usize, to: usize) -> u64
+        requires order { from ≤ to }
+        requires within { to ≤ length self.now }
+        ensures { row_start self.now from + result ≡ row_start self.now to }
+    {
+        flat_len(&self.lines[from..to])
     }
 
     /// The row in which an offset lies. The end of the flat text gives the count.
@@ -92,7 +104,7 @@ impl Lines {
         ensures err { OnErr result (self.new ≡ self.old) }
     {
         let new = new.into_vec();
-        let kept = self.bytes - flat_len(&self.lines[from..to]);
+        let kept = self.bytes - self.flat_len_between(from, to);
         let bytes = kept + flat_len(&new);
         put_lines(&mut self.lines, from, to, new)?;
         self.bytes = bytes;

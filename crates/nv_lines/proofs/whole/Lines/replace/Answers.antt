@@ -1,37 +1,34 @@
 use Rattle.std.proofs.Common.{◌∙◌, ap, arith, length}
 use Rattle.std.specs.List.{splice}
-use Rattle.nv_lines.proofs.FlatLengths.{flat_parts, length-flat-splice}
+use Rattle.nv_lines.proofs.FlatLengths.{flat_halves, row_start-le, length-flat-splice}
 use Rattle.nv_lines.proofs.Splices.{All-splice, length-splice_some}
 use Rattle.nv_places.specs.Flat.{flat, IsLine}
 use Rattle.nv_lines.proofs.whole.Lines.replace.Goals as goal
 
-pub flat_len-requires : goal.flat_len-requires
-flat_len-requires c =
-    omega (arith, c.self.invariant.0.small, flat_parts c.self.inside.lines.items _ c.args.from c.args.to c.deref.ensures.value c.requires.order)
-
 pub overflow_sub-kept : goal.overflow_sub-kept
 overflow_sub-kept c =
-    omega (arith, c.flat_len.ensures, c.self.invariant.1, flat_parts c.self.inside.lines.items _ c.args.from c.args.to c.deref.ensures.value c.requires.order)
+    let whole = ap (λ ls. length (flat ls)) c.self.view_is in
+    omega (arith, c.flat_len_between.ensures, c.self.invariant.1, whole, row_start-le c.args.self.now c.args.to)
 
-pub flat_len-requires-2 : goal.flat_len-requires-2
-flat_len-requires-2 c =
-    let added = ap (λ ls. length (flat ls)) (c.deref-2.ensures.value ∙ c.into_vec-new.ensures.value) in
+pub flat_len-requires : goal.flat_len-requires
+flat_len-requires c =
+    let added = ap (λ ls. length (flat ls)) (c.deref.ensures.value ∙ c.into_vec-new.ensures.value) in
     omega (arith, c.requires.small, added, length-flat-splice c.args.self.now c.args.new c.args.from c.args.to)
 
 pub overflow_add-bytes : goal.overflow_add-bytes
 overflow_add-bytes c =
-    let same = ap (λ ls. length (flat (splice ls c.args.from c.args.to c.args.new))) c.self.view_is in
-    let added = ap (λ ls. length (flat ls)) (c.deref-2.ensures.value ∙ c.into_vec-new.ensures.value) in
+    let whole = ap (λ ls. length (flat ls)) c.self.view_is in
+    let added = ap (λ ls. length (flat ls)) (c.deref.ensures.value ∙ c.into_vec-new.ensures.value) in
     omega (
       arith,
+      c.flat_len_between.ensures,
       c.flat_len.ensures,
-      c.flat_len-2.ensures,
       c.self.invariant.1,
       c.requires.small,
-      same,
+      whole,
       added,
-      flat_parts c.self.inside.lines.items _ c.args.from c.args.to c.deref.ensures.value c.requires.order,
-      length-flat-splice c.self.inside.lines.items c.args.new c.args.from c.args.to,
+      flat_halves c.args.self.now c.args.to,
+      length-flat-splice c.args.self.now c.args.new c.args.from c.args.to,
     )
 
 pub invariant_of-self-2 : goal.invariant_of-self-2
@@ -39,9 +36,10 @@ invariant_of-self-2 c =
     let lines = c.self.inside.lines.items in
     let new = c.into_vec-new.result.items in
     let put = c.in_ok-put_lines.ensures.ok in
+    let whole = ap (λ ls. length (flat ls)) c.self.view_is in
     let same = ap (λ ls. length (flat (splice ls c.args.from c.args.to c.args.new))) c.self.view_is in
     let given = ap (λ ls. length (flat (splice lines c.args.from c.args.to ls))) c.into_vec-new.ensures.value in
-    let added = ap (λ ls. length (flat ls)) c.deref-2.ensures.value in
+    let added = ap (λ ls. length (flat ls)) (c.deref.ensures.value ∙ c.into_vec-new.ensures.value) in
     let old_count = ap length c.self.view_is in
     let new_count = ap length c.into_vec-new.ensures.value in
     rw put (
@@ -54,11 +52,14 @@ invariant_of-self-2 c =
       },
       omega (
         arith,
+        c.flat_len_between.ensures,
         c.flat_len.ensures,
-        c.flat_len-2.ensures,
         c.self.invariant.1,
+        whole,
+        same,
+        given,
         added,
-        flat_parts lines _ c.args.from c.args.to c.deref.ensures.value c.requires.order,
-        length-flat-splice lines new c.args.from c.args.to,
+        flat_halves c.args.self.now c.args.to,
+        length-flat-splice c.args.self.now c.args.new c.args.from c.args.to,
       ),
     )
