@@ -25,7 +25,7 @@ use Rattle.nv_text.specs.Pieces.{Part, cluster_cells, is_control, control_kind, 
 abbrev pub is_printable : ℕ → Bool
 is_printable = is_in_range 0x20 0x7E
 
-printable_bounds : (c : ℕ) → is_printable c ≡ true → (0x20 ≤ c) × (c ≤ 0x7E)
+pub printable_bounds : (c : ℕ) → is_printable c ≡ true → (0x20 ≤ c) × (c ≤ 0x7E)
 printable_bounds c h = (grind (arith, nat_tests), grind (arith, nat_tests))
 
 -- ---- printable characters stand alone
@@ -42,16 +42,16 @@ other_if_printable : (c : ℕ) → c < 0x7F → (not (is_printable c) || is_othe
 unfolding tables grapheme_cluster_break_stepped
 other_if_printable = Stepped-below grapheme_cluster_break grapheme_cluster_break_stepped (λ c v. not (is_printable c) || is_other v) 0x7F refl
 
-other_from_printable : (c : ℕ) → is_printable c ≡ true → Other ≡ grapheme_cluster_break c
+pub other_from_printable : (c : ℕ) → is_printable c ≡ true → Other ≡ grapheme_cluster_break c
 other_from_printable c h =
     is_other-same (grapheme_cluster_break c)
     (ap (λ b. not b || is_other (grapheme_cluster_break c)) (sym h) ∙ other_if_printable c (omega (arith, printable_bounds c h)))
 
-break_after : (before : List ℕ) (c d : ℕ) (after : List ℕ) → is_printable c ≡ true → is_printable d ≡ true → true ≡ is_grapheme_break true (c ∷ before) (d ∷ after)
+pub break_after : (before : List ℕ) (c d : ℕ) (after : List ℕ) → is_printable c ≡ true → is_printable d ≡ true → true ≡ is_grapheme_break true (c ∷ before) (d ∷ after)
 break_after before c d after h g =
     is_grapheme_break-others true (c ∷ before) d after (omega arith) (omega (arith, printable_bounds d g)) (other_from_printable c h) (other_from_printable d g)
 
-abbrev alone : List ℕ → List (List ℕ)
+abbrev pub alone : List ℕ → List (List ℕ)
 alone [] = []
 alone (c ∷ cs) = (c ∷ []) ∷ alone cs
 
@@ -66,13 +66,13 @@ cut_alone before (c ∷ (d ∷ cs)) h =
     ap (λ b. cond b ((c ∷ []) ∷ rest) (prepend (c ∷ []) rest)) (sym (break_after before c d (cs ++ []) first.0 second.0))
     ∙ ap (λ t. (c ∷ []) ∷ t) (cut_alone (c ∷ before) (d ∷ cs) first.1)
 
-encode_alone : (cs : List ℕ) → list_all is_printable cs ≡ true → map encode_utf8_all (alone cs) ≡ alone cs
+pub encode_alone : (cs : List ℕ) → list_all is_printable cs ≡ true → map encode_utf8_all (alone cs) ≡ alone cs
 encode_alone [] h = refl
 encode_alone (c ∷ cs) h =
     let parts = and_parts (is_printable c) (list_all is_printable cs) h in
     ap₂ (λ (x : List ℕ) t. x ∷ t) (append-nil (encode_utf8 c) ∙ encode_ascii c (omega (arith, printable_bounds c parts.0))) (encode_alone cs parts.1)
 
-ascii_from_printable : (cs : List ℕ) → list_all is_printable cs ≡ true → IsAscii cs
+pub ascii_from_printable : (cs : List ℕ) → list_all is_printable cs ≡ true → IsAscii cs
 ascii_from_printable [] h i = omega arith
 ascii_from_printable (c ∷ cs) h zero = omega (arith, printable_bounds c (and_parts (is_printable c) (list_all is_printable cs) h).0)
 ascii_from_printable (c ∷ cs) h (suc i) = ascii_from_printable cs (and_parts (is_printable c) (list_all is_printable cs) h).1 i
@@ -107,7 +107,7 @@ abbrev pub plain_parts : List ℕ → List Part
 plain_parts [] = []
 plain_parts (c ∷ cs) = (c ∷ [], Cluster 1) ∷ plain_parts cs
 
-flat_alone : (cs : List ℕ) → list_all is_printable cs ≡ true → flat_map cluster_parts (alone cs) ≡ plain_parts cs
+pub flat_alone : (cs : List ℕ) → list_all is_printable cs ≡ true → flat_map cluster_parts (alone cs) ≡ plain_parts cs
 flat_alone [] h = refl
 flat_alone (c ∷ cs) h =
     let parts = and_parts (is_printable c) (list_all is_printable cs) h in
@@ -116,7 +116,7 @@ flat_alone (c ∷ cs) h =
 pub plain_text : (text : List ℕ) → list_all is_printable text ≡ true → text_parts text ≡ plain_parts text
 plain_text text h = ap (flat_map cluster_parts) (graphemes_alone text h) ∙ flat_alone text h
 
-plain_parts-cells : (text : List ℕ) → parts_cells (plain_parts text) ≡ length text
+pub plain_parts-cells : (text : List ℕ) → parts_cells (plain_parts text) ≡ length text
 plain_parts-cells [] = refl
 plain_parts-cells (c ∷ cs) = omega (arith, plain_parts-cells cs)
 

@@ -4,7 +4,7 @@ ghost use Rattle.std.specs.List.{list_all};
 ghost use Rattle.std.specs.Prelude.{◌≡◌, ◌+◌, ◌<◌, ◌^◌, ◌++◌, true, length, OnOk, IfOk};
 ghost use Rattle.nv_text.specs.Pieces.{cluster_parts, text_parts, placed, pieces_of};
 
-use crate::kinds::{cluster_kind, is_plain, text_at_front};
+use crate::kinds::{cluster_kind, plain_len, text_at_front};
 use crate::piece::{Kind, Piece};
 use std::alloc::{AllocError, Global};
 use unicode_segmentation::UnicodeSegmentation;
@@ -54,11 +54,10 @@ fn push_text(pieces: &mut Vec<Piece>, from: usize, text: &str) -> Result<(), All
     requires { from + length text.now < 2 ^ 64 }
     ensures { OnOk result (pieces.new.items ≡ pieces.old.items ++ placed from (text_parts text.now)) }
 {
-    if is_plain(text) {
-        return push_plain(pieces, from, text);
-    }
-    let mut at = from;
-    let mut clusters = text.graphemes(true);
+    let (front, rest) = text.split_at(plain_len(text));
+    push_plain(pieces, from, front)?;
+    let mut at = from + front.len();
+    let mut clusters = rest.graphemes(true);
     while let Some(cluster) = clusters.next() {
         push_cluster(pieces, at, cluster)?;
         at += cluster.len();

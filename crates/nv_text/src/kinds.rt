@@ -1,9 +1,10 @@
 //! The text at the front of bytes, and what its clusters are.
-ghost use Rattle.std.specs.Prelude.{◌≡◌, ◌≤◌, true, take, length, slice_index};
+ghost use Rattle.std.specs.Prelude.{◌≡◌, ◌≤◌, ◌++◌, true, take, drop, length, slice_index};
 ghost use Rattle.std.specs.Int.{is_in_range};
-ghost use Rattle.std.specs.List.{list_all};
+ghost use Rattle.std.specs.List.{list_all, prefix_len};
+ghost use Rattle.std.specs.Str.{IsCharBoundary};
 ghost use Rattle.std.specs.Str.Lossy.{utf8_valid_len};
-ghost use Rattle.nv_text.specs.Pieces.{cluster_cells, cluster_kind, control_kind, is_control, is_late_control};
+ghost use Rattle.nv_text.specs.Pieces.{cluster_cells, cluster_kind, control_kind, is_control, is_late_control, text_parts};
 
 use crate::piece::Kind;
 use unicode_width::UnicodeWidthStr;
@@ -20,16 +21,31 @@ pub(crate) fn text_at_front(bytes: &[u8]) -> &str
     }
 }
 
-/// Whether each byte is a printable character of ASCII: such a text has one cluster of width 1 for each byte.
-pub(crate) fn is_plain(text: &str) -> bool
-    ensures { result ≡ list_all (is_in_range 0x20 0x7E) text.now }
+// How many bytes at the front are printable characters of ASCII.
+fn printable_len(text: &str) -> usize
+    ensures { result ≡ prefix_len (is_in_range 0x20 0x7E) text.now }
 {
-    for byte in text.as_bytes() {
+    for (at, byte) in text.as_bytes().iter().enumerate() {
         if !(0x20..=0x7E).contains(byte) {
-            return false;
+            return at;
         }
     }
-    true
+    text.len()
+}
+
+/// How many printable characters of ASCII at the front are clusters by themselves: all of them where nothing else
+/// follows, and else all but the last, which what follows may join.
+pub(crate) fn plain_len(text: &str) -> usize
+    ensures plain { list_all (is_in_range 0x20 0x7E) (take result text.now) ≡ true }
+    ensures boundary { IsCharBoundary text.now result }
+    ensures cut { text_parts text.now ≡ text_parts (take result text.now) ++ text_parts (drop result text.now) }
+{
+    let printable = printable_len(text);
+    if printable == text.len() {
+        printable
+    } else {
+        printable.saturating_sub(1)
+    }
 }
 
 fn is_control(cluster: &[u8]) -> bool

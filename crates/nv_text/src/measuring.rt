@@ -2,7 +2,7 @@
 ghost use Rattle.std.specs.Prelude.{◌≡◌, ◌≤◌, ◌<◌, ◌*◌, ◌^◌, length};
 ghost use Rattle.nv_text.specs.Pieces.{kind_cells, cluster_parts, text_parts, parts_cells, strwidth_of};
 
-use crate::kinds::{cluster_kind, is_plain, text_at_front};
+use crate::kinds::{cluster_kind, plain_len, text_at_front};
 use crate::piece::Kind;
 use unicode_segmentation::UnicodeSegmentation;
 
@@ -31,11 +31,9 @@ fn text_width(text: &str) -> u64
     ensures value { result ≡ parts_cells (text_parts text.now) }
     ensures bound { result ≤ 4 * length text.now }
 {
-    if is_plain(text) {
-        return text.len() as u64;
-    }
-    let mut cells = 0;
-    let mut clusters = text.graphemes(true);
+    let (front, rest) = text.split_at(plain_len(text));
+    let mut cells = front.len() as u64;
+    let mut clusters = rest.graphemes(true);
     while let Some(cluster) = clusters.next() {
         cells += cluster_width(cluster);
     }

@@ -6,7 +6,7 @@ use Rattle.nv_text.proofs.cutting.push_text.Given as goal
 
 abbrev pub invariant-loop-cluster : goal.invariant-loop-cluster
 invariant-loop-cluster l = record {
-  pushed : l.pieces.items ++ placed l.at (flat_map cluster_parts (graphemes_left l.clusters)) ≡ l.initial.pieces.items ++ placed l.from (text_parts l.text);
+  pushed : l.pieces.items ++ placed l.at (flat_map cluster_parts (graphemes_left l.clusters)) ≡ l.fn.pieces.items ++ placed l.from (text_parts l.text);
   place : l.at + length (concat (graphemes_left l.clusters)) ≡ l.from + length l.text;
 }
 
