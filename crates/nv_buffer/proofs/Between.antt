@@ -1,7 +1,8 @@
 -- Lemmas on lines that are put within a line.
-use Rattle.std.proofs.Common.{◌≡◌, ℕ, ◌+◌, ◌<◌, ◌≤◌, List, [], ◌∷◌, ◌++◌, length, take, drop, Some, None, slice_get, get_or, All, refl, sym, ap, suc, ◌∙◌, append_assoc, add-one, arith, rules}
+use Rattle.std.proofs.Common.{◌≡◌, ℕ, ◌+◌, ◌<◌, ◌≤◌, List, [], ◌∷◌, ◌++◌, length, take, drop, Some, None, slice_get, slice_range, get_or, All, refl, sym, ap, suc, ◌∙◌, append_assoc, add-one, arith, rules}
 use Rattle.std.proofs.Math.Seq.{take-add, drop-cons}
 use Rattle.std.proofs.lemmas.List.{take-append-le, drop-append-le, drop-drop, take_more}
+use Rattle.std.proofs.lemmas.List.Edits.{between_more}
 use Rattle.std.proofs.lemmas.List.Elements.{All-append, All-cons, All-get_or}
 use Rattle.std.proofs.lemmas.Option.{get_or_from_slice_get, slice_get-get_or}
 use Rattle.std.specs.List.{splice, join_with_byte}
@@ -138,3 +139,11 @@ flat-text_splice lines new start stop s e some =
     ap (λ (t : List ℕ). t ++ (join_with_byte 10 new ++ drop (offset_of lines stop) (flat lines))) (take-place lines start.row start.col s.row s.col)
     ∙ ap (λ (t : List ℕ). (flat (take start.row lines) ++ front) ++ (join_with_byte 10 new ++ t)) (drop-place lines stop.row stop.col e.row e.col)
     )
+
+-- rows of a text that have got one row further
+pub range_more : (text rows more : List (List ℕ)) (from row : ℕ) (line new : List ℕ) → from ≤ row → row < length text
+    → rows ≡ slice_range text from row → Some line ≡ slice_get text row → new ≡ line → more ≡ rows ++ new ∷ []
+    → more ≡ slice_range text from (row + 1)
+range_more text rows more from row line new order within rows_is here new_is more_is =
+    let there : new ≡ get_or text row line = new_is ∙ sym (get_or_from_slice_get text row line line (sym here)) in
+    more_is ∙ (λ i. rows_is i ++ there i ∷ []) ∙ sym (between_more text from row line order within)

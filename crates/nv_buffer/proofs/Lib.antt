@@ -1,3 +1,11 @@
 pub mod Between
 pub mod Measures
+pub mod WayBack
 pub mod Edits
+pub mod KeptTexts
+pub mod TreeAhead
+pub mod Keeping
+pub mod LeadingBack
+pub mod Making
+pub mod Going
+pub mod Costs

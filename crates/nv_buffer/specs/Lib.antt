@@ -1,2 +1,5 @@
 pub mod Splices
+pub mod Changes
 pub mod Content
+pub mod Steps
+pub mod Laws

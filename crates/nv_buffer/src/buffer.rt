@@ -1,18 +1,25 @@
 // A buffer.
-ghost use Rattle.std.specs.Prelude.{◌≡◌, ◌+◌, ◌-◌, ◌^◌, ◌<◌, ◌≤◌, ◌↔◌, ◌<ℤ◌, ◌+ℤ◌, pos, true, false, [], ◌∷◌, length, All, IsTrue, IsSome, IfSome, IfOk, OnOk, OnErr};
+ghost use Rattle.std.specs.Prelude.{◌≡◌, ◌+◌, ◌-◌, ◌^◌, ◌<◌, ◌≤◌, ◌↔◌, ◌<ℤ◌, ◌+ℤ◌, pos, true, false, [], ◌∷◌, length, All, Some, slice_get, IsTrue, IsSome, IfSome, IfOk, OnOk, OnErr};
 ghost use Rattle.std.specs.List.{splice, join_with_byte};
 ghost use Rattle.nv_places.specs.Flat.{flat, row_start};
 ghost use Rattle.nv_places.specs.Places.{offset_of, is_before};
 ghost use Rattle.nv_lines.specs.Text.{IsText};
 ghost use Rattle.nv_buffer.specs.Splices.{IsInLine, IsNarrowLine, IsNarrowText, lines_between};
-ghost use Rattle.nv_buffer.specs.Content.{IsEdit, edited, lines_told, text_told};
+ghost use Rattle.nv_buffer.specs.Changes.{Replaces, Fits, inverses, text_at, origin, edits_of, leg_edits};
+ghost use Rattle.nv_buffer.specs.Content.{IsEdit, edited, edit_of, told, lines_told, text_told, sealed};
+ghost use Rattle.nv_buffer.specs.Steps.{IsBuffer, IsNext, kept_count};
+ghost use Rattle.nv_undo.specs.Tree.{no_changes, last, gone, parent_of, child_of, path};
+ghost use Rattle.nv_undo.specs.Ways.{Leads};
 
-use crate::copying::copied;
+use crate::copying::{copied, rows};
+use crate::edit::{Change, Edit, Step};
 use crate::joining::{before, behind, is_one_empty, joined};
 use nv_lines::{Line, LineList, Lines};
 use nv_places::Pos;
+use nv_undo::{Leg, UndoTree};
 use std::alloc::{AllocError, Global};
 use std::marker::Model;
+use std::mem;
 
 /// What a splice of a buffer's text has changed, in numbers of the buffer before it. Rows and offsets count from 0.
 #[derive(Drop)]
@@ -33,8 +40,8 @@ pub struct Spliced {
     pub new: u64,
 }
 
-/// A buffer: its text, its changedtick, its name, its options and its handle. The text has a line at least, and its
-/// rows and columns are numbers of 32 bits.
+/// A buffer: its text, its changedtick, its name, its options and its handle, and its changes. The text has a line at
+/// least, and its rows and columns are numbers of 32 bits.
 #[derive(Drop)]
 pub struct Buffer {
     alloc: Global,
@@ -46,24 +53,29 @@ pub struct Buffer {
     modified: bool,
     listed: bool,
     tabstop: u32,
+    tree: UndoTree<Change>,
+    // The steps that were made since the last change was closed.
+    unsealed: Vec<Step>,
 }
 
 impl Model for Buffer {
     ghost use Rattle.std.specs.Prelude.{◌≤◌};
     ghost use Rattle.nv_buffer.specs.Splices.{IsNarrowText};
     ghost use Rattle.nv_buffer.specs.Content.{Content};
+    ghost use Rattle.nv_buffer.specs.Steps.{tree_ahead, edits_ahead, IsBuffer, AllLeadBack};
 
     ghost Value = { Content };
 
-    ghost view = { λ b. record { handle = b.handle; text = b.text; tick = b.tick; name = b.name; modifiable = b.modifiable; modified = b.modified; listed = b.listed; tabstop = b.tabstop } };
+    ghost view = { λ b. record { handle = b.handle; text = b.text; tick = b.tick; name = b.name; modifiable = b.modifiable; modified = b.modified; listed = b.listed; tabstop = b.tabstop; undo = tree_ahead b.tree; unsealed = edits_ahead b.unsealed.items } };
 
-    ghost invariant = { λ b. IsNarrowText b.text × (1 ≤ b.tabstop) × (b.tabstop ≤ 9999) };
+    ghost invariant = { λ b. IsNarrowText b.text × (1 ≤ b.tabstop) × (b.tabstop ≤ 9999) × IsBuffer b.text b.tick (tree_ahead b.tree) (edits_ahead b.unsealed.items) × AllLeadBack b.tree b.unsealed.items };
 }
 
 impl Buffer {
-    /// A buffer with one empty line, no name, changedtick 2, 'tabstop' 8, modifiable, not modified and listed.
+    /// A buffer with one empty line, no name, changedtick 2, 'tabstop' 8, modifiable, not modified, listed and without
+    /// changes.
     pub fn new(alloc: Global, handle: i64) -> Result<Buffer, AllocError>
-        ensures { IfOk result (λ buffer. buffer ≡ record { handle = handle; text = [] ∷ []; tick = pos 2; name = []; modifiable = true; modified = false; listed = true; tabstop = 8 }) }
+        ensures { IfOk result (λ buffer. buffer ≡ record { handle = handle; text = [] ∷ []; tick = pos 2; name = []; modifiable = true; modified = false; listed = true; tabstop = 8; undo = no_changes; unsealed = [] }) }
     {
         let text = Lines::new(alloc)?;
         Ok(Buffer {
@@ -76,6 +88,8 @@ impl Buffer {
             modified: false,
             listed: true,
             tabstop: 8,
+            tree: UndoTree::new(alloc)?,
+            unsealed: Vec::new(alloc),
         })
     }
 
@@ -215,20 +229,44 @@ impl Buffer {
         requires tick { self.old.tick <ℤ i64.MAX }
         requires removed { old ≤ length (flat self.old.text) }
         requires kept { length (flat self.old.text) ≤ length (flat (splice self.old.text from to lines)) + old }
-        ensures ok { OnOk result (self.new ≡ edited self.old (splice self.old.text from to lines)) }
+        requires bytes { Replaces (flat self.old.text) (flat (splice self.old.text from to lines)) at old (length (flat (splice self.old.text from to lines)) - (length (flat self.old.text) - old)) }
+        ensures ok { IfOk result (λ event. self.new ≡ edited self.old (edit_of event)) }
         ensures told { IfOk result (λ event. event ≡ record { tick = self.old.tick +ℤ pos 1; first = from; last = to; lines = lines; at = at; old = old; new = length (flat (splice self.old.text from to lines)) - (length (flat self.old.text) - old) }) }
         ensures err { OnErr result (self.new ≡ self.old) }
     {
         let told = copied(self.alloc, &lines)?;
+        let put = copied(self.alloc, &lines)?;
+        let taken = rows(self.alloc, &self.text, from, to)?;
+        self.unsealed.reserve(1)?;
         let kept = self.text.flat_len() - old;
         self.text.replace(from, to, lines)?;
         let new = self.text.flat_len() - kept;
         self.tick += 1;
         self.modified = true;
+        let first = from as u32;
+        let last = to as u32;
+        let ahead = Edit {
+            first,
+            last,
+            lines: put,
+            at,
+            old,
+            new,
+        };
+        let end = first + told.len() as u32;
+        let back = Edit {
+            first,
+            last: end,
+            lines: taken,
+            at,
+            old: new,
+            new: old,
+        };
+        self.unsealed.push_reserved(Step { ahead, back });
         Ok(Spliced {
             tick: self.tick,
-            first: from as u32,
-            last: to as u32,
+            first,
+            last,
             lines: told,
             at,
             old,
@@ -304,5 +342,173 @@ impl Buffer {
         let front = before(&self.text, start);
         let back = behind(&self.text, stop);
         joined(self.alloc, front, new, back)
+    }
+
+    /// Closes the edits that were made since this was last called as one change: where there are any they are the next
+    /// change, made at the current number, and that is current (help: undo-blocks). Where memory is wanting nothing
+    /// changes.
+    pub fn seal(&mut self) -> Result<(), AllocError>
+        ensures ok { OnOk result (self.new ≡ sealed self.old) }
+        ensures sealed { OnOk result (self.new.unsealed ≡ []) }
+        ensures err { OnErr result (self.new ≡ self.old) }
+    {
+        if self.unsealed.is_empty() {
+            return Ok(());
+        }
+        let steps = mem::replace(&mut self.unsealed, Vec::new(self.alloc));
+        match self.tree.push(Change::from_vec(steps)) {
+            Ok(_) => Ok(()),
+            Err((change, error)) => {
+                self.unsealed = change.into_vec();
+                Err(error)
+            }
+        }
+    }
+
+    /// The number of the current change: the text is that of this number with the edits made since the last change was
+    /// closed. 0 is the text at first (help: undo-tree).
+    pub fn undone(&self) -> u64
+        ensures value { result ≡ self.now.undo.current }
+        ensures within { result ≤ last self.now.undo }
+    {
+        self.tree.current()
+    }
+
+    /// The number of the last change. Changes are numbered from 1 in the order in which they were closed.
+    pub fn changes(&self) -> u64
+        ensures { result ≡ last self.now.undo }
+    {
+        self.tree.last()
+    }
+
+    // What is known of each buffer.
+    pub(crate) fn known(&self)
+        ensures buffer { IsBuffer self.now.text self.now.tick self.now.undo self.now.unsealed }
+        ensures small { kept_count self.now.undo self.now.unsealed < 2 ^ 63 }
+    {
+        let _ = &self.tree;
+        let _tick = self.tick();
+    }
+
+    // What allocates.
+    pub(crate) fn alloc(&self) -> Global {
+        self.alloc
+    }
+
+    /// The number of edits since the last change was closed.
+    pub fn unsealed_len(&self) -> usize
+        ensures { result ≡ length self.now.unsealed }
+    {
+        self.unsealed.len()
+    }
+
+    // The number that a change was made at.
+    pub(crate) fn origin(&self, n: u64) -> u64
+        ensures { result ≡ origin self.now.undo n }
+    {
+        self.tree.parent(n).unwrap_or(0)
+    }
+
+    // The child last entered of the current number.
+    pub(crate) fn child(&self) -> Option<u64>
+        ensures number { result ≡ child_of self.now.undo self.now.undo.current }
+        ensures child { IfSome result (λ n. parent_of self.now.undo n ≡ Some self.now.undo.current) }
+    {
+        self.tree.child()
+    }
+
+    // The legs from the current number to another.
+    pub(crate) fn legs_to(&self, n: u64) -> Result<Vec<Leg>, AllocError>
+        requires { n ≤ last self.now.undo }
+        ensures path { IfOk result (λ legs. legs.items ≡ path self.now.undo self.now.undo.current n) }
+        ensures way { IfOk result (λ legs. Leads self.now.undo self.now.undo.current legs.items n) }
+    {
+        match self.tree.path_to(self.alloc, n)? {
+            Some(legs) => Ok(legs),
+            None => unreachable!(),
+        }
+    }
+
+    // The number of edits of a change, and 0 where there is no such change.
+    pub(crate) fn change_len(&self, n: u64) -> usize
+        ensures { result ≡ length (edits_of self.now.undo n) }
+    {
+        match self.tree.change(n) {
+            Some(change) => change.len(),
+            None => 0,
+        }
+    }
+
+    // An edit of a leg once more, by its place from 0.
+    pub(crate) fn leg_edit(&self, leg: Leg, place: usize) -> Result<Edit, AllocError>
+        requires { place < length (leg_edits self.now.undo leg) }
+        ensures { IfOk result (λ edit. slice_get (leg_edits self.now.undo leg) place ≡ Some edit) }
+    {
+        match leg {
+            Leg::Back(n) => self.edit_back(n, place),
+            Leg::Ahead(n) => self.edit_ahead(n, place),
+        }
+    }
+
+    // An edit that takes a change back, by its place from 0: that of the last step comes first.
+    fn edit_back(&self, n: u64, place: usize) -> Result<Edit, AllocError>
+        requires { place < length (edits_of self.now.undo n) }
+        ensures { IfOk result (λ edit. slice_get (inverses (text_at self.now.undo (origin self.now.undo n)) (edits_of self.now.undo n)) place ≡ Some edit) }
+    {
+        match self.tree.change(n) {
+            Some(change) => change
+                .step(change.len() - 1 - place)
+                .back
+                .copied(self.alloc),
+            None => unreachable!(),
+        }
+    }
+
+    // An edit of a change, by its place from 0.
+    fn edit_ahead(&self, n: u64, place: usize) -> Result<Edit, AllocError>
+        requires { place < length (edits_of self.now.undo n) }
+        ensures { IfOk result (λ edit. slice_get (edits_of self.now.undo n) place ≡ Some edit) }
+    {
+        match self.tree.change(n) {
+            Some(change) => change.step(place).ahead.copied(self.alloc),
+            None => unreachable!(),
+        }
+    }
+
+    // Makes an edit that fits, as it is kept in a change.
+    pub(crate) fn put_edit(&mut self, edit: Edit) -> Result<Spliced, AllocError>
+        requires fits { Fits self.old.text edit }
+        requires tick { self.old.tick <ℤ i64.MAX }
+        ensures ok { OnOk result (self.new ≡ edited self.old edit) }
+        ensures told { IfOk result (λ event. event ≡ told (self.old.tick +ℤ pos 1) edit) }
+    {
+        let first = edit.first as usize;
+        self.put_rows(first, edit.last as usize, edit.lines, edit.at, edit.old)
+    }
+
+    // Goes a leg in the tree, once its edits are made.
+    pub(crate) fn arrive(&mut self, leg: Leg)
+        requires next { IsNext self.old.undo leg }
+        requires text { self.old.text ≡ text_at self.old.undo (gone leg self.old.undo).current }
+        ensures { self.new ≡ record self.old { modified = true; undo = gone leg self.old.undo; unsealed = [] } }
+    {
+        go_leg(&mut self.tree, leg);
+        self.modified = true;
+        self.unsealed.clear();
+    }
+}
+
+// Goes a leg in a tree.
+fn go_leg(tree: &mut UndoTree<Change>, leg: Leg)
+    requires { IsNext tree.old leg }
+    ensures { tree.new ≡ gone leg tree.old }
+{
+    match leg {
+        Leg::Back(_) => {
+            let _ = tree.back();
+        }
+        Leg::Ahead(n) => {
+            let _ = tree.ahead(n);
+        }
     }
 }

@@ -1,13 +1,15 @@
 // Copies of lines.
-ghost use Rattle.std.specs.Prelude.{◌≡◌, IfOk};
+ghost use Rattle.std.specs.Prelude.{◌≡◌, ◌≤◌, length, slice_range, IfOk};
+ghost use Rattle.nv_places.specs.Flat.{IsLine};
 
-use nv_lines::{Line, LineList};
+use nv_lines::{Line, LineList, Lines};
 use std::alloc::{AllocError, Global};
 
-fn copied_line(alloc: Global, line: &Line) -> Result<Line, AllocError>
+fn copied_line(alloc: Global, line: &[u8]) -> Result<Line, AllocError>
+    requires { IsLine line.now }
     ensures { IfOk result (λ copy. copy ≡ line.now) }
 {
-    let bytes = line.as_slice().to_vec(alloc)?;
+    let bytes = line.to_vec(alloc)?;
     Ok(Line::from_vec(bytes))
 }
 
@@ -20,7 +22,23 @@ pub fn copied(alloc: Global, lines: &LineList) -> Result<LineList, AllocError>
         let Some(line) = lines.get(place) else {
             return Ok(copy);
         };
-        copy.push(copied_line(alloc, line)?)?;
+        copy.push(copied_line(alloc, line.as_slice())?)?;
     }
     Ok(copy)
+}
+
+/// The rows of a text from `from` up to before `to`, once more.
+pub fn rows(alloc: Global, text: &Lines, from: usize, to: usize) -> Result<LineList, AllocError>
+    requires order { from ≤ to }
+    requires within { to ≤ length text.now }
+    ensures { IfOk result (λ rows. rows ≡ slice_range text.now from to) }
+{
+    let mut rows = LineList::new(alloc);
+    for row in from..to {
+        let Some(line) = text.get(row) else {
+            return Ok(rows);
+        };
+        rows.push(copied_line(alloc, line)?)?;
+    }
+    Ok(rows)
 }

@@ -1,18 +1,27 @@
-//! A buffer: its lines, its changedtick, its name and its options, and the two ways to change its text.
+//! A buffer: its lines, its changedtick, its name and its options, the two ways to change its text, and its changes,
+//! which can be undone and made again.
 //!
-//! Each change of the text is a splice of its flat text, in which the byte 10 follows each line. It is told by the
-//! lines event (help: nvim_buf_lines_event) in rows of the buffer before, and by the bytes that it replaced.
+//! Each edit of the text is a splice of its flat text, in which the byte 10 follows each line. It is told by the
+//! lines event (help: nvim_buf_lines_event) in rows of the buffer before, and by the bytes that it replaced. The edits
+//! between two calls of `seal` are one change, and the changes are a tree (help: undo-tree).
 #![tactic(auto)]
 
 mod buffer;
 mod copying;
+mod edit;
 mod fitting;
 mod joining;
+mod laws;
+mod undoing;
 
 pub use buffer::{Buffer, Spliced};
+pub use edit::Edit;
 pub use fitting::{is_in_line, is_narrow};
+pub use laws::{change_laws, edit_laws};
 pub use nv_lines::{Line, LineList, Lines};
 pub use nv_places::Pos;
 
 #[cfg(test)]
 mod tests;
+#[cfg(test)]
+mod undo_tests;

@@ -8,7 +8,7 @@ use std::mem;
 use std::test::Fail;
 
 // The lines of a flat text, each ended by the byte 10.
-fn list(alloc: Global, flat: &[u8]) -> Result<LineList, AllocError> {
+pub(crate) fn list(alloc: Global, flat: &[u8]) -> Result<LineList, AllocError> {
     let mut list = LineList::new(alloc);
     let mut line = Line::new(alloc);
     for byte in flat {
@@ -22,7 +22,7 @@ fn list(alloc: Global, flat: &[u8]) -> Result<LineList, AllocError> {
 }
 
 // The flat text of lines.
-fn flat(alloc: Global, lines: &LineList) -> Result<Vec<u8>, AllocError> {
+pub(crate) fn flat(alloc: Global, lines: &LineList) -> Result<Vec<u8>, AllocError> {
     let mut bytes = Vec::new(alloc);
     for place in 0..lines.len() {
         if let Some(line) = lines.get(place) {
@@ -34,7 +34,7 @@ fn flat(alloc: Global, lines: &LineList) -> Result<Vec<u8>, AllocError> {
 }
 
 // The flat text of a buffer.
-fn text(alloc: Global, buffer: &Buffer) -> Result<Vec<u8>, AllocError> {
+pub(crate) fn text(alloc: Global, buffer: &Buffer) -> Result<Vec<u8>, AllocError> {
     let mut bytes = Vec::new(alloc);
     for row in 0..buffer.text().count() {
         if let Some(line) = buffer.text().get(row) {
@@ -46,7 +46,7 @@ fn text(alloc: Global, buffer: &Buffer) -> Result<Vec<u8>, AllocError> {
 }
 
 // Puts lines, where the call's conditions hold.
-fn put_lines(
+pub(crate) fn put_lines(
     buffer: &mut Buffer,
     from: usize,
     to: usize,
@@ -75,7 +75,7 @@ fn put_lines(
 }
 
 // Puts text, where the call's conditions hold.
-fn put_text(
+pub(crate) fn put_text(
     alloc: Global,
     buffer: &mut Buffer,
     start: Pos,
@@ -162,7 +162,7 @@ fn lines_are_put(rt: HostRuntime) -> Result<(), Fail> {
     Ok(())
 }
 
-fn at(place: (u32, u32)) -> Pos {
+pub(crate) fn at(place: (u32, u32)) -> Pos {
     Pos {
         row: place.0,
         col: place.1,

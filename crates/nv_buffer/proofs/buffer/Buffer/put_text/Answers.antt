@@ -3,7 +3,7 @@ use Rattle.std.specs.List.{splice}
 use Rattle.nv_places.specs.Flat.{flat, line_at}
 use Rattle.nv_buffer.proofs.Between.{length-between}
 use Rattle.nv_buffer.proofs.Measures.{offset_of-lt}
-use Rattle.nv_buffer.proofs.Edits.{text_kept, text_told-is, text_put}
+use Rattle.nv_buffer.proofs.Edits.{text_kept, text_told-is, text_put, text_replaces}
 use Rattle.nv_buffer.proofs.buffer.Buffer.put_text.Goals as goal
 
 pub put_rows-requires-clause-count : goal.put_rows-requires-clause-count
@@ -25,6 +25,12 @@ put_rows-requires-clause-kept c =
     let kept = text_kept text c.args.new c.args.start c.args.stop c.requires.start_in c.requires.stop_in c.requires.order c.requires.some_line in
     omega (arith, put ∙ kept, c.bytes_between-old.ensures)
 
+pub put_rows-requires-clause-bytes : goal.put_rows-requires-clause-bytes
+put_rows-requires-clause-bytes c =
+    text_replaces c.args.self.now.text c.args.new c.in_ok-lines.lines c.args.start c.args.stop c.offset_of-at.result
+    c.bytes_between-old.result c.requires.start_in c.requires.stop_in c.requires.order c.requires.some_line c.in_ok-lines.ensures
+    c.offset_of-at.ensures (omega (arith, c.offset_of-at.ensures, c.bytes_between-old.ensures))
+
 pub returns-clause-told : goal.returns-clause-told
 returns-clause-told c =
     text_told-is c.args.self.now c.args.new c.in_ok-lines.lines c.args.start c.args.stop c.offset_of-at.result c.bytes_between-old.result
@@ -33,8 +39,8 @@ returns-clause-told c =
 
 pub returns-clause-edit : goal.returns-clause-edit
 returns-clause-edit c =
-    text_put c.args.self.now c.put_rows.new.self c.args.new c.in_ok-lines.lines c.args.start c.args.stop c.in_ok-spliced.spliced c.requires.start_in
-    c.requires.stop_in c.requires.order c.requires.some_line c.in_ok-lines.ensures c.in_ok-spliced.ensures.ok (
+    text_put c.args.self.now c.put_rows.new.self c.args.new c.args.start c.args.stop c.in_ok-spliced.spliced c.requires.start_in c.requires.stop_in
+    c.requires.order c.requires.some_line c.in_ok-spliced.ensures.ok (
     text_told-is c.args.self.now c.args.new c.in_ok-lines.lines c.args.start c.args.stop c.offset_of-at.result c.bytes_between-old.result
     _ _ c.requires.start_in c.requires.stop_in c.requires.order c.requires.some_line c.in_ok-lines.ensures
     c.in_ok-spliced.ensures.told c.offset_of-at.ensures (omega (arith, c.offset_of-at.ensures, c.bytes_between-old.ensures)) refl

@@ -1,0 +1,255 @@
+//! Changes that are undone and made again, against tables written by hand from the documented effect of :undo, :redo and
+//! :undo N, and against texts kept beside.
+
+ghost use Rattle.std.specs.Prelude.{◌↔◌, ◌+ℤ◌, ◌≤ℤ◌, pos, IsTrue};
+
+use crate::tests::{at, flat, list, put_lines, put_text, text};
+use crate::{Buffer, Spliced, change_laws, edit_laws};
+use std::alloc::{AllocError, Global};
+use std::test::Fail;
+
+// Whether a changedtick can rise so far.
+fn has_room(tick: i64, count: u64) -> bool
+    ensures { IsTrue result ↔ ((tick +ℤ pos count) ≤ℤ i64.MAX) }
+{
+    count <= i64::MAX.abs_diff(tick)
+}
+
+// Undo, where the call's condition holds.
+fn undo(buffer: &mut Buffer) -> Result<Option<Vec<Spliced>>, AllocError> {
+    if !has_room(buffer.tick(), buffer.cost_back()) {
+        return Ok(None);
+    }
+    Ok(Some(buffer.undo()?))
+}
+
+// Redo, where the call's condition holds.
+fn redo(buffer: &mut Buffer) -> Result<Option<Vec<Spliced>>, AllocError> {
+    if !has_room(buffer.tick(), buffer.cost_ahead()) {
+        return Ok(None);
+    }
+    Ok(Some(buffer.redo()?))
+}
+
+// Undo to a number, where the call's conditions hold.
+fn undo_to(buffer: &mut Buffer, n: u64) -> Result<Option<Vec<Spliced>>, AllocError> {
+    buffer.seal()?;
+    if n > buffer.changes() {
+        return Ok(None);
+    }
+    if !has_room(buffer.tick(), buffer.cost_to(n)) {
+        return Ok(None);
+    }
+    Ok(Some(buffer.undo_to(n)?))
+}
+
+// Puts lines in place of all, as one change.
+fn set(alloc: Global, buffer: &mut Buffer, lines: &[u8]) -> Result<bool, AllocError> {
+    let count = buffer.text().count();
+    let put = put_lines(buffer, 0, count, list(alloc, lines)?)?;
+    buffer.seal()?;
+    Ok(put.is_some())
+}
+
+// Does what a command says: "undo", "redo", "undo N" with one digit, or else these lines in place of all.
+fn was_done(alloc: Global, buffer: &mut Buffer, command: &[u8]) -> Result<bool, AllocError> {
+    match command {
+        b"undo" => Ok(undo(buffer)?.is_some()),
+        b"redo" => Ok(redo(buffer)?.is_some()),
+        [b'u', b'n', b'd', b'o', b' ', digit] => {
+            Ok(undo_to(buffer, u64::from(digit.wrapping_sub(48)))?.is_some())
+        }
+        lines => set(alloc, buffer, lines),
+    }
+}
+
+// Each row: what is done, and then the changedtick, the current change and the text.
+fn branches() -> &'static [(&'static [u8], i64, u64, &'static [u8])] {
+    &[
+        (b"a\n", 3, 1, b"a\n"),
+        (b"undo", 4, 0, b"\n"),
+        (b"b\n", 5, 2, b"b\n"),
+        (b"undo 1", 7, 1, b"a\n"),
+        (b"redo", 7, 1, b"a\n"),
+        (b"undo 0", 8, 0, b"\n"),
+        (b"undo", 8, 0, b"\n"),
+        (b"redo", 9, 1, b"a\n"),
+        (b"undo 2", 11, 2, b"b\n"),
+        (b"undo", 12, 0, b"\n"),
+        (b"redo", 13, 2, b"b\n"),
+    ]
+}
+
+// Whether a buffer stands so.
+fn stands(
+    alloc: Global,
+    buffer: &Buffer,
+    tick: i64,
+    current: u64,
+    lines: &[u8],
+) -> Result<bool, AllocError> {
+    if buffer.tick() != tick || buffer.undone() != current {
+        return Ok(false);
+    }
+    Ok(text(alloc, buffer)?.as_slice() == lines)
+}
+
+#[test]
+fn undo_branches(rt: HostRuntime) -> Result<(), Fail> {
+    edit_laws();
+    change_laws();
+    let mut buffer = Buffer::new(rt.alloc(), 1)?;
+    for (command, tick, current, after) in branches() {
+        let done = was_done(rt.alloc(), &mut buffer, command)?;
+        assert!(rt; done && stands(rt.alloc(), &buffer, *tick, *current, after)?);
+    }
+    assert!(rt; !was_done(rt.alloc(), &mut buffer, b"undo 3")?);
+    Ok(())
+}
+
+// Whether a splice was told so: the tick, the rows, the lines, and the offset, the bytes removed and the bytes put.
+fn was_told(
+    alloc: Global,
+    event: Option<&Spliced>,
+    tick: i64,
+    rows: (u32, u32),
+    lines: &[u8],
+    bytes: (u64, u64, u64),
+) -> Result<bool, AllocError> {
+    let Some(event) = event else {
+        return Ok(false);
+    };
+    if event.tick != tick || (event.first, event.last) != rows {
+        return Ok(false);
+    }
+    if (event.at, event.old, event.new) != bytes {
+        return Ok(false);
+    }
+    Ok(flat(alloc, &event.lines)?.as_slice() == lines)
+}
+
+// A buffer with "hello" and "world" as its first change, and a second change of two edits: "ell" becomes "ipp", and the
+// second line goes.
+fn two_edits(alloc: Global) -> Result<Buffer, AllocError> {
+    let mut buffer = Buffer::new(alloc, 1)?;
+    let _ = set(alloc, &mut buffer, b"hello\nworld\n")?;
+    let _ = put_text(
+        alloc,
+        &mut buffer,
+        at((0, 1)),
+        at((0, 4)),
+        list(alloc, b"ipp\n")?,
+    )?;
+    let _ = put_lines(&mut buffer, 1, 2, list(alloc, b"")?)?;
+    Ok(buffer)
+}
+
+// Undo takes the last edit back first.
+fn back_is_told(alloc: Global, buffer: &mut Buffer) -> Result<bool, AllocError> {
+    let cost = buffer.cost_back();
+    let Some(events) = undo(buffer)? else {
+        return Ok(false);
+    };
+    let first = was_told(alloc, events.get(0), 6, (1, 1), b"world\n", (6, 0, 6))?;
+    let second = was_told(alloc, events.get(1), 7, (0, 1), b"hello\n", (1, 3, 3))?;
+    let text = stands(alloc, buffer, 7, 1, b"hello\nworld\n")?;
+    Ok(cost == 2 && events.len() == 2 && first && second && text)
+}
+
+// Redo makes the edits in their order.
+fn ahead_is_told(alloc: Global, buffer: &mut Buffer) -> Result<bool, AllocError> {
+    let cost = buffer.cost_ahead();
+    let Some(events) = redo(buffer)? else {
+        return Ok(false);
+    };
+    let first = was_told(alloc, events.get(0), 8, (0, 1), b"hippo\n", (1, 3, 3))?;
+    let second = was_told(alloc, events.get(1), 9, (1, 2), b"", (6, 6, 0))?;
+    let text = stands(alloc, buffer, 9, 2, b"hippo\n")?;
+    Ok(cost == 2 && events.len() == 2 && first && second && text)
+}
+
+// A line is broken, and undo joins it again, though its edit was not yet a change.
+fn open_is_told(alloc: Global, buffer: &mut Buffer) -> Result<bool, AllocError> {
+    let _ = put_text(alloc, buffer, at((0, 2)), at((0, 2)), list(alloc, b"\n\n")?)?;
+    let broken = stands(alloc, buffer, 10, 2, b"hi\nppo\n")?;
+    let Some(events) = undo(buffer)? else {
+        return Ok(false);
+    };
+    let joined = was_told(alloc, events.get(0), 11, (0, 2), b"hippo\n", (2, 1, 0))?;
+    Ok(broken && joined && stands(alloc, buffer, 11, 2, b"hippo\n")?)
+}
+
+#[test]
+fn splices_are_told(rt: HostRuntime) -> Result<(), Fail> {
+    let mut buffer = two_edits(rt.alloc())?;
+    assert!(rt; back_is_told(rt.alloc(), &mut buffer)?);
+    assert!(rt; ahead_is_told(rt.alloc(), &mut buffer)?);
+    assert!(rt; open_is_told(rt.alloc(), &mut buffer)?);
+    Ok(())
+}
+
+// A number below `count`, by chance, and 0 where that is 0.
+fn below(chance: &mut u64, count: usize) -> usize {
+    *chance = chance
+        .wrapping_mul(6364136223846793005)
+        .wrapping_add(1442695040888963407);
+    if count == 0 {
+        return 0;
+    }
+    (*chance >> 33) as usize % count
+}
+
+// Makes a change of two edits by chance, at the number where the buffer stands.
+fn change(alloc: Global, buffer: &mut Buffer, chance: &mut u64) -> Result<(), AllocError> {
+    let row = below(chance, buffer.text().count());
+    let new = match below(chance, 3) {
+        0 => list(alloc, b"\n")?,
+        1 => list(alloc, b"yz\n")?,
+        _ => list(alloc, b"\n\n\n")?,
+    };
+    let _ = put_lines(buffer, row, row.saturating_add(1), new)?;
+    let _ = put_text(
+        alloc,
+        buffer,
+        at((0, 0)),
+        at((0, 0)),
+        list(alloc, b"p\n\n")?,
+    )?;
+    buffer.seal()
+}
+
+// Goes to a number by chance, and tells whether the text there is the one that was kept.
+fn is_kept(
+    alloc: Global,
+    buffer: &mut Buffer,
+    texts: &[Vec<u8>],
+    chance: &mut u64,
+) -> Result<bool, AllocError> {
+    let n = below(chance, texts.len());
+    let Some(kept) = texts.get(n) else {
+        return Ok(false);
+    };
+    if undo_to(buffer, n as u64)?.is_none() {
+        return Ok(false);
+    }
+    Ok(buffer.undone() == n as u64 && text(alloc, buffer)?.as_slice() == kept.as_slice())
+}
+
+// A hundred changes, each made at a number by chance, and then each number gone to by chance.
+#[test]
+fn a_hundred_changes_are_gone_to(rt: HostRuntime) -> Result<(), Fail> {
+    let mut buffer = Buffer::new(rt.alloc(), 1)?;
+    let mut texts: Vec<Vec<u8>> = Vec::new(rt.alloc());
+    texts.push(text(rt.alloc(), &buffer)?)?;
+    let mut chance = 7;
+    for _ in 0..100 {
+        assert!(rt; is_kept(rt.alloc(), &mut buffer, texts.as_slice(), &mut chance)?);
+        change(rt.alloc(), &mut buffer, &mut chance)?;
+        texts.push(text(rt.alloc(), &buffer)?)?;
+    }
+    for _ in 0..200 {
+        assert!(rt; is_kept(rt.alloc(), &mut buffer, texts.as_slice(), &mut chance)?);
+    }
+    assert!(rt; buffer.changes() == 100);
+    Ok(())
+}
