@@ -1,27 +1,14 @@
 -- A call that came in is bounded.
-use Rattle.std.proofs.Common.{◌≡◌, ℕ, zero, suc, pos, ◌+◌, ◌≤◌, Bool, true, false, cond, List, [], ◌∷◌, length, get_or, Option, Some, None, refl, sym, ap, ◌∙◌, subst, arith, length-append}
+use Rattle.std.proofs.Common.{◌≡◌, ℕ, zero, suc, pos, ◌≤◌, Bool, true, false, cond, List, [], ◌∷◌, length, get_or, Option, Some, None, refl, sym, ap, ◌∙◌, subst, arith, length-append}
 use Rattle.std.specs.Prelude.{nat_lt, ◌-◌, ◌-ℤ◌}
 use Rattle.nv_value.specs.Content.{Tree, Trees, nil, truth, integer, big, text, bin, list, pairs, ext, opaque, no_more, one}
 use Rattle.nv_msgpack.specs.Spelling.{told, Raw, of_text, of_bin, of_ext, unsigned, signed, float, Many, of_list, of_map, Form, unused, alone, raw, many, form, middle, made, gathered, SpelledBy, SpelledWith, Each, SpellsIn}
 use Rattle.nv_msgpack.specs.Within.{SpellsWithin}
-use Rattle.nv_msgpack.specs.Shortest.{HasSpelling, HaveSpellings}
 use Rattle.nv_rpc.specs.Steps.{◌>>=◌}
 use Rattle.nv_rpc.specs.Calls.{Call, request, notice, is_number, msgid_in, name_in, params_in, request_in, notice_in, call_in}
+use Rattle.nv_args.specs.Weight.{weight, weights, AreLight}
 use Rattle.nvimd.specs.Reading.{most_depth, most_bytes}
 use Rattle.nvimd.specs.Calling.{IsCallBounded}
-
-abbrev mutual
-  -- how many bytes of strings are in a value
-  pub weight : Tree → ℕ
-  weight (text bytes) = length bytes
-  weight (bin bytes) = length bytes
-  weight (list ts) = weights ts
-  weight (pairs ts) = weights ts
-  weight _ = 0
-
-  pub weights : Trees → ℕ
-  weights no_more = 0
-  weights (one t ts) = weight t + weights ts
 
 -- a value that is told by its first byte alone has no string in it
 abbrev pub IsPlain : Form → Type 0
@@ -119,18 +106,18 @@ name_weight (pairs x) method h = cc
 name_weight (ext k x) method h = cc
 name_weight (opaque x) method h = cc
 
--- the arguments in a value that has a spelling
-params_spelled : (t : Tree) (params : Trees) → params_in t ≡ Some params → HasSpelling t → HaveSpellings params
-params_spelled (list x) params h s = let e : x ≡ params = cc in subst HaveSpellings e s.1
-params_spelled (text x) params h s = cc
-params_spelled (bin x) params h s = cc
-params_spelled nil params h s = cc
-params_spelled (truth x) params h s = cc
-params_spelled (integer x) params h s = cc
-params_spelled (big x) params h s = cc
-params_spelled (pairs x) params h s = cc
-params_spelled (ext k x) params h s = cc
-params_spelled (opaque x) params h s = cc
+-- the bytes of the strings in the arguments
+params_weight : (t : Tree) (params : Trees) → params_in t ≡ Some params → weights params ≡ weight t
+params_weight (list x) params h = let e : x ≡ params = cc in ap weights (sym e)
+params_weight (text x) params h = cc
+params_weight (bin x) params h = cc
+params_weight nil params h = cc
+params_weight (truth x) params h = cc
+params_weight (integer x) params h = cc
+params_weight (big x) params h = cc
+params_weight (pairs x) params h = cc
+params_weight (ext k x) params h = cc
+params_weight (opaque x) params h = cc
 
 -- a call of this name and these arguments, if there is one, is bounded
 abbrev pub IsBoundedIn : Option Call → Type 0
@@ -142,7 +129,7 @@ bounded_if true o h = h
 bounded_if false o h = tt
 
 request_bounded : (id : Option ℕ) (method : Option (List ℕ)) (params : Option Trees)
-    → ((m : List ℕ) → method ≡ Some m → length m ≤ most_bytes) → ((ts : Trees) → params ≡ Some ts → HaveSpellings ts)
+    → ((m : List ℕ) → method ≡ Some m → length m ≤ most_bytes) → ((ts : Trees) → params ≡ Some ts → AreLight ts)
     → IsBoundedIn (id >>= (λ i. method >>= (λ m. params >>= (λ ts. Some (request i m ts)))))
 request_bounded None method params p q = tt
 request_bounded (Some i) None params p q = tt
@@ -150,26 +137,26 @@ request_bounded (Some i) (Some m) None p q = tt
 request_bounded (Some i) (Some m) (Some ts) p q = (p m refl, q ts refl)
 
 notice_bounded : (method : Option (List ℕ)) (params : Option Trees)
-    → ((m : List ℕ) → method ≡ Some m → length m ≤ most_bytes) → ((ts : Trees) → params ≡ Some ts → HaveSpellings ts)
+    → ((m : List ℕ) → method ≡ Some m → length m ≤ most_bytes) → ((ts : Trees) → params ≡ Some ts → AreLight ts)
     → IsBoundedIn (method >>= (λ m. params >>= (λ ts. Some (notice m ts))))
 notice_bounded None params p q = tt
 notice_bounded (Some m) None p q = tt
 notice_bounded (Some m) (Some ts) p q = (p m refl, q ts refl)
 
-in_bounded : (value : Tree) → weight value ≤ most_bytes → HasSpelling value → IsBoundedIn (call_in value)
+in_bounded : (value : Tree) → weight value ≤ most_bytes → IsBoundedIn (call_in value)
 unfolding call_in
-in_bounded (list (one kind (one msgid (one name (one params no_more))))) w s =
+in_bounded (list (one kind (one msgid (one name (one params no_more))))) w =
     bounded_if (is_number (pos 0) kind) (request_in msgid name params)
     (request_bounded (msgid_in msgid) (name_in name) (params_in params)
-    (λ m e. omega (arith, name_weight name m e)) (λ ts e. params_spelled params ts e (s.1.1.1.1.0)))
-in_bounded (list (one kind (one name (one params no_more)))) w s =
+    (λ m e. omega (arith, name_weight name m e)) (λ ts e. omega (arith, params_weight params ts e)))
+in_bounded (list (one kind (one name (one params no_more)))) w =
     bounded_if (is_number (pos 2) kind) (notice_in name params)
     (notice_bounded (name_in name) (params_in params)
-    (λ m e. omega (arith, name_weight name m e)) (λ ts e. params_spelled params ts e (s.1.1.1.0)))
-in_bounded _ w s = tt
+    (λ m e. omega (arith, name_weight name m e)) (λ ts e. omega (arith, params_weight params ts e)))
+in_bounded _ w = tt
 
 -- a call that came in is bounded
-pub call_bounded : (value : Tree) (front : List ℕ) (call : Call) → SpellsWithin most_depth most_bytes value front → HasSpelling value → call_in value ≡ Some call → IsCallBounded call
-call_bounded value front call h s e =
+pub call_bounded : (value : Tree) (front : List ℕ) (call : Call) → SpellsWithin most_depth most_bytes value front → call_in value ≡ Some call → IsCallBounded call
+call_bounded value front call h e =
     let light : weight value ≤ length front = in_weight most_depth value front h.0 in
-    subst IsBoundedIn e (in_bounded value (omega (arith, h.1)) s)
+    subst IsBoundedIn e (in_bounded value (omega (arith, h.1)))

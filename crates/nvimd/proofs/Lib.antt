@@ -1,11 +1,6 @@
-pub mod Bounded
 pub mod CallBounds
-pub mod Handles
 pub mod Lines
-pub mod Newlines
 pub mod Outcomes
 pub mod ReadsOnce
 pub mod Serving
 pub mod Steps
-pub mod TextLemmas
-pub mod Words

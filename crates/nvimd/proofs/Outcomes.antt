@@ -8,9 +8,10 @@ use Rattle.nv_rpc.specs.Calls.{request, notice}
 use Rattle.nv_rpc.specs.Frames.{call_of_frame}
 use Rattle.nv_rpc.specs.declared.frame.Frame.{Frame}
 use Rattle.nv_rpc.specs.declared.frame.Frame.TheVariants.{Request, Notice}
+use Rattle.nv_args.specs.Arguments.{listed}
+use Rattle.nv_buffer.specs.Content.{Content}
 use Rattle.nvimd.specs.Answers.{due, outcome_of}
-use Rattle.nvimd.specs.Arguments.{listed}
-use Rattle.nvimd.specs.Methods.{Text, Outcome, outcome}
+use Rattle.nvimd.specs.Methods.{Outcome, outcome, one_change}
 
 -- the values of a list, one by one, are their contents
 pub listed-contents : (values : List Value) → listed (contents values) ≡ map content values
@@ -18,33 +19,33 @@ listed-contents [] = refl
 listed-contents (value ∷ values) = ap (λ (ts : List Tree). content value ∷ ts) (listed-contents values)
 
 -- the outcome of a request's method
-pub outcome-request : (frame : Frame) (msgid : ℕ) (method name : List ℕ) (params : Vec Value Global) (lines : Text) → frame ≡ Request msgid method params → name ≡ method
-    → outcome_of (call_of_frame frame) lines ≡ outcome name (map content params.items) lines
-outcome-request frame msgid method name params lines is same =
-    ap (λ (f : Frame). outcome_of (call_of_frame f) lines) is
-    ∙ ap (λ (arguments : List Tree). outcome method arguments lines) (listed-contents params.items)
-    ∙ ap (λ (m : List ℕ). outcome m (map content params.items) lines) (sym same)
+pub outcome-request : (frame : Frame) (msgid : ℕ) (method name : List ℕ) (params : Vec Value Global) (buffer : Content) → frame ≡ Request msgid method params → name ≡ method
+    → outcome_of (call_of_frame frame) buffer ≡ one_change (outcome name (map content params.items) buffer)
+outcome-request frame msgid method name params buffer is same =
+    ap (λ (f : Frame). outcome_of (call_of_frame f) buffer) is
+    ∙ ap (λ (arguments : List Tree). one_change (outcome method arguments buffer)) (listed-contents params.items)
+    ∙ ap (λ (m : List ℕ). one_change (outcome m (map content params.items) buffer)) (sym same)
 
 -- the outcome of a notification's method
-pub outcome-notice : (frame : Frame) (method name : List ℕ) (params : Vec Value Global) (lines : Text) → frame ≡ Notice method params → name ≡ method
-    → outcome_of (call_of_frame frame) lines ≡ outcome name (map content params.items) lines
-outcome-notice frame method name params lines is same =
-    ap (λ (f : Frame). outcome_of (call_of_frame f) lines) is
-    ∙ ap (λ (arguments : List Tree). outcome method arguments lines) (listed-contents params.items)
-    ∙ ap (λ (m : List ℕ). outcome m (map content params.items) lines) (sym same)
+pub outcome-notice : (frame : Frame) (method name : List ℕ) (params : Vec Value Global) (buffer : Content) → frame ≡ Notice method params → name ≡ method
+    → outcome_of (call_of_frame frame) buffer ≡ one_change (outcome name (map content params.items) buffer)
+outcome-notice frame method name params buffer is same =
+    ap (λ (f : Frame). outcome_of (call_of_frame f) buffer) is
+    ∙ ap (λ (arguments : List Tree). one_change (outcome method arguments buffer)) (listed-contents params.items)
+    ∙ ap (λ (m : List ℕ). one_change (outcome m (map content params.items) buffer)) (sym same)
 
 -- what a request makes due
-pub due-request : (frame : Frame) (msgid : ℕ) (method name : List ℕ) (params : Vec Value Global) (lines : Text) (result : Result Tree ApiFault)
-    → frame ≡ Request msgid method params → name ≡ method → (outcome name (map content params.items) lines).result ≡ result
-    → due (request msgid method (contents params.items)) result ≡ due (call_of_frame frame) (outcome_of (call_of_frame frame) lines).result
-due-request frame msgid method name params lines result is same gives =
-    ap (due (request msgid method (contents params.items))) (sym gives ∙ sym (ap (λ (o : Outcome). o.result) (outcome-request frame msgid method name params lines is same)))
-    ∙ ap (λ (f : Frame). due (call_of_frame f) (outcome_of (call_of_frame frame) lines).result) (sym is)
+pub due-request : (frame : Frame) (msgid : ℕ) (method name : List ℕ) (params : Vec Value Global) (buffer : Content) (result : Result Tree ApiFault)
+    → frame ≡ Request msgid method params → name ≡ method → (one_change (outcome name (map content params.items) buffer)).result ≡ result
+    → due (request msgid method (contents params.items)) result ≡ due (call_of_frame frame) (outcome_of (call_of_frame frame) buffer).result
+due-request frame msgid method name params buffer result is same gives =
+    ap (due (request msgid method (contents params.items))) (sym gives ∙ sym (ap (λ (o : Outcome). o.result) (outcome-request frame msgid method name params buffer is same)))
+    ∙ ap (λ (f : Frame). due (call_of_frame f) (outcome_of (call_of_frame frame) buffer).result) (sym is)
 
 -- what a notification makes due
-pub due-notice : (frame : Frame) (method name : List ℕ) (params : Vec Value Global) (lines : Text) (result : Result Tree ApiFault)
-    → frame ≡ Notice method params → name ≡ method → (outcome name (map content params.items) lines).result ≡ result
-    → due (notice method (contents params.items)) result ≡ due (call_of_frame frame) (outcome_of (call_of_frame frame) lines).result
-due-notice frame method name params lines result is same gives =
-    ap (due (notice method (contents params.items))) (sym gives ∙ sym (ap (λ (o : Outcome). o.result) (outcome-notice frame method name params lines is same)))
-    ∙ ap (λ (f : Frame). due (call_of_frame f) (outcome_of (call_of_frame frame) lines).result) (sym is)
+pub due-notice : (frame : Frame) (method name : List ℕ) (params : Vec Value Global) (buffer : Content) (result : Result Tree ApiFault)
+    → frame ≡ Notice method params → name ≡ method → (one_change (outcome name (map content params.items) buffer)).result ≡ result
+    → due (notice method (contents params.items)) result ≡ due (call_of_frame frame) (outcome_of (call_of_frame frame) buffer).result
+due-notice frame method name params buffer result is same gives =
+    ap (due (notice method (contents params.items))) (sym gives ∙ sym (ap (λ (o : Outcome). o.result) (outcome-notice frame method name params buffer is same)))
+    ∙ ap (λ (f : Frame). due (call_of_frame f) (outcome_of (call_of_frame frame) buffer).result) (sym is)

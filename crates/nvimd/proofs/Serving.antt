@@ -9,8 +9,8 @@ use Rattle.nv_io.specs.declared.ending.Flaw.TheVariants.{Bad, TooDeep, TooLong, 
 use Rattle.nv_io.specs.declared.ending.Ended.{Ended}
 use Rattle.nv_io.specs.declared.ending.Ended.TheVariants.{Closed, Malformed, Overflowed, ReadFault, WriteFault, Quit, NoMemory}
 use Rattle.nv_rpc.specs.Calls.{Call}
-use Rattle.nvimd.specs.Methods.{Text}
-use Rattle.nvimd.specs.Answers.{outcome_of, answer, answers, text_after}
+use Rattle.nv_buffer.specs.Content.{Content}
+use Rattle.nvimd.specs.Answers.{outcome_of, answer, answers, buffer_after}
 use Rattle.nvimd.specs.Reading.{Calls, ReadsFrom}
 use Rattle.nvimd.specs.Ends.{WasRead, AllAnswered, SomeAnswered, IfInside, Ends}
 use Rattle.nvimd.specs.Serving.{IsNew, Served, Finished, CutShort, EndsIn, ended_by, Serves, Turns}
@@ -32,15 +32,15 @@ calls_then [] more a b p q = subst (λ (l : List ℕ). Calls more (l ++ b)) (sym
 calls_then (call ∷ calls) more a b p q =
     (p.0, p.1 ++ b, p.2, ap (λ (l : List ℕ). l ++ b) p.3 ∙ append_assoc p.0 p.1 b, calls_then calls more p.1 b p.4 q)
 
-pub text_then : (calls more : List Call) (lines : Text) → text_after (calls ++ more) lines ≡ text_after more (text_after calls lines)
-text_then [] more lines = refl
-text_then (call ∷ calls) more lines = text_then calls more (outcome_of call lines).text_after
+pub buffer_then : (calls more : List Call) (buffer : Content) → buffer_after (calls ++ more) buffer ≡ buffer_after more (buffer_after calls buffer)
+buffer_then [] more buffer = refl
+buffer_then (call ∷ calls) more buffer = buffer_then calls more (outcome_of call buffer).after
 
-pub answers_then : (calls more : List Call) (lines : Text) → answers (calls ++ more) lines ≡ answers calls lines ++ answers more (text_after calls lines)
-answers_then [] more lines = refl
-answers_then (call ∷ calls) more lines =
-    ap (λ (l : List ℕ). answer call lines ++ l) (answers_then calls more (outcome_of call lines).text_after)
-    ∙ sym (append_assoc (answer call lines) (answers calls (outcome_of call lines).text_after) (answers more (text_after calls (outcome_of call lines).text_after)))
+pub answers_then : (calls more : List Call) (buffer : Content) → answers (calls ++ more) buffer ≡ answers calls buffer ++ answers more (buffer_after calls buffer)
+answers_then [] more buffer = refl
+answers_then (call ∷ calls) more buffer =
+    ap (λ (l : List ℕ). answer call buffer ++ l) (answers_then calls more (outcome_of call buffer).after)
+    ∙ sym (append_assoc (answer call buffer) (answers calls (outcome_of call buffer).after) (answers more (buffer_after calls (outcome_of call buffer).after)))
 
 reads_at : (number other place spot : ℕ) (calls : List Call) (bytes : List ℕ) (flaw : Option Flaw) → number ≡ other → place ≡ spot → ReadsFrom number place calls bytes flaw → ReadsFrom other spot calls bytes flaw
 reads_at number other place spot calls bytes flaw e d h =
@@ -63,7 +63,7 @@ reads_then number place (call ∷ calls) more whole bytes flaw p q =
     )
 
 -- what went out for calls, and then for more
-written_then : (calls more : List Call) (first middle : Text) (before between after : Option (List ℕ)) (n : List ℕ) → between ≡ append_known before (answers calls first) → after ≡ append_known between n → after ≡ append_known before (answers calls first ++ n)
+written_then : (calls more : List Call) (first middle : Content) (before between after : Option (List ℕ)) (n : List ℕ) → between ≡ append_known before (answers calls first) → after ≡ append_known between n → after ≡ append_known before (answers calls first ++ n)
 written_then calls more first middle before between after n p q =
     q ∙ ap (λ (o : Option (List ℕ)). append_known o n) p ∙ known_then before (answers calls first) n
 
@@ -85,8 +85,8 @@ pub served_then : (bytes piece : List ℕ) (first second third : Session) (a b c
 served_then bytes piece first second third a b c p q =
     let lengths : length (p.calls ++ q.calls) ≡ length p.calls + length q.calls = length-append p.calls q.calls in
     let sizes : length (p.whole ++ q.whole) ≡ length p.whole + length q.whole = length-append p.whole q.whole in
-    let all : answers (p.calls ++ q.calls) first.lines ≡ answers p.calls first.lines ++ answers q.calls second.lines =
-    answers_then p.calls q.calls first.lines ∙ ap (λ (t : Text). answers p.calls first.lines ++ answers q.calls t) (sym p.after_them) in
+    let all : answers (p.calls ++ q.calls) first.buffer ≡ answers p.calls first.buffer ++ answers q.calls second.buffer =
+    answers_then p.calls q.calls first.buffer ∙ ap (λ (b : Content). answers p.calls first.buffer ++ answers q.calls b) (sym p.after_them) in
     record {
       calls = p.calls ++ q.calls;
       whole = p.whole ++ q.whole;
@@ -95,8 +95,8 @@ served_then bytes piece first second third a b c p q =
           ∙ ap (λ (l : List ℕ). p.whole ++ l) q.parts ∙ sym (append_assoc p.whole q.whole third.stream.held);
       place = omega (arith, p.place, q.place);
       number = omega (arith, p.number, q.number);
-      after_them = q.after_them ∙ ap (λ (t : Text). text_after q.calls t) p.after_them ∙ sym (text_then p.calls q.calls first.lines);
-      written = written_then p.calls q.calls first.lines second.lines a b c (answers q.calls second.lines) p.written q.written
+      after_them = q.after_them ∙ ap (λ (b : Content). buffer_after q.calls b) p.after_them ∙ sym (buffer_then p.calls q.calls first.buffer);
+      written = written_then p.calls q.calls first.buffer second.buffer a b c (answers q.calls second.buffer) p.written q.written
           ∙ ap (λ (l : List ℕ). append_known a l) (sym all);
     }
 
@@ -117,8 +117,8 @@ held_more piece old new before after h =
 
 finished_then : (flaw : Option Flaw) (bytes piece : List ℕ) (first second : Session) (a b c : Option (List ℕ)) → Served bytes first second a b → Finished flaw (second.stream.held ++ piece) second b c → Finished flaw (bytes ++ piece) first a c
 finished_then flaw bytes piece first second a b c p q =
-    let all : answers (p.calls ++ q.calls) first.lines ≡ answers p.calls first.lines ++ answers q.calls second.lines =
-    answers_then p.calls q.calls first.lines ∙ ap (λ (t : Text). answers p.calls first.lines ++ answers q.calls t) (sym p.after_them) in
+    let all : answers (p.calls ++ q.calls) first.buffer ≡ answers p.calls first.buffer ++ answers q.calls second.buffer =
+    answers_then p.calls q.calls first.buffer ∙ ap (λ (b : Content). answers p.calls first.buffer ++ answers q.calls b) (sym p.after_them) in
     let split : bytes ++ piece ≡ p.whole ++ (second.stream.held ++ piece) =
     ap (λ (l : List ℕ). l ++ piece) p.parts ∙ append_assoc p.whole second.stream.held piece in
     record {
@@ -126,7 +126,7 @@ finished_then flaw bytes piece first second a b c p q =
       reads = subst (λ (l : List ℕ). ReadsFrom first.number first.stream.start (p.calls ++ q.calls) l flaw) (sym split)
           (reads_then first.number first.stream.start p.calls q.calls p.whole (second.stream.held ++ piece) flaw p.spelled
           (reads_at second.number (first.number + length p.calls) second.stream.start (first.stream.start + length p.whole) q.calls (second.stream.held ++ piece) flaw p.number p.place q.reads));
-      written = written_then p.calls q.calls first.lines second.lines a b c (answers q.calls second.lines) p.written q.written
+      written = written_then p.calls q.calls first.buffer second.buffer a b c (answers q.calls second.buffer) p.written q.written
           ∙ ap (λ (l : List ℕ). append_known a l) (sym all);
     }
 
@@ -139,8 +139,8 @@ take_past (x ∷ a) b n =
 
 cut_then : (bytes piece : List ℕ) (first second : Session) (a b c : Option (List ℕ)) → Served bytes first second a b → CutShort (second.stream.held ++ piece) second b c → CutShort (bytes ++ piece) first a c
 cut_then bytes piece first second a b c p q =
-    let all : answers (p.calls ++ q.calls) first.lines ≡ answers p.calls first.lines ++ answers q.calls second.lines =
-    answers_then p.calls q.calls first.lines ∙ ap (λ (t : Text). answers p.calls first.lines ++ answers q.calls t) (sym p.after_them) in
+    let all : answers (p.calls ++ q.calls) first.buffer ≡ answers p.calls first.buffer ++ answers q.calls second.buffer =
+    answers_then p.calls q.calls first.buffer ∙ ap (λ (b : Content). answers p.calls first.buffer ++ answers q.calls b) (sym p.after_them) in
     record {
       calls = p.calls ++ q.calls;
       whole = p.whole ++ q.whole;
@@ -148,10 +148,10 @@ cut_then bytes piece first second a b c p q =
       parts = ap (λ (l : List ℕ). l ++ piece) p.parts ∙ append_assoc p.whole second.stream.held piece
           ∙ ap (λ (l : List ℕ). p.whole ++ l) q.parts ∙ sym (append_assoc p.whole q.whole q.rest);
       spelled = calls_then p.calls q.calls p.whole q.whole p.spelled q.spelled;
-      count = length (answers p.calls first.lines) + q.count;
-      written = written_then p.calls q.calls first.lines second.lines a b c (take q.count (answers q.calls second.lines)) p.written q.written
-          ∙ ap (λ (l : List ℕ). append_known a l) (sym (take_past (answers p.calls first.lines) (answers q.calls second.lines) q.count)
-          ∙ ap (λ (l : List ℕ). take (length (answers p.calls first.lines) + q.count) l) (sym all));
+      count = length (answers p.calls first.buffer) + q.count;
+      written = written_then p.calls q.calls first.buffer second.buffer a b c (take q.count (answers q.calls second.buffer)) p.written q.written
+          ∙ ap (λ (l : List ℕ). append_known a l) (sym (take_past (answers p.calls first.buffer) (answers q.calls second.buffer) q.count)
+          ∙ ap (λ (l : List ℕ). take (length (answers p.calls first.buffer) + q.count) l) (sym all));
     }
 
 -- steps, and then an end
@@ -191,7 +191,7 @@ all_answered : (flaw : Option Flaw) (bytes : List ℕ) (s : Session) (a b : Opti
 all_answered flaw bytes s a b n h = record {
   calls = h.calls;
   reads = reads_at s.number 0 s.stream.start 0 h.calls bytes flaw n.none n.place h.reads;
-  written = h.written ∙ ap (λ (t : Text). append_known a (answers h.calls t)) n.empty;
+  written = h.written ∙ ap (λ (b : Content). append_known a (answers h.calls b)) n.first;
 }
 
 some_answered : (bytes : List ℕ) (s : Session) (a b : Option (List ℕ)) → IsNew s → CutShort bytes s a b → SomeAnswered bytes a b
@@ -202,7 +202,7 @@ some_answered bytes s a b n h = record {
   parts = h.parts;
   reads = h.spelled;
   count = h.count;
-  written = h.written ∙ ap (λ (t : Text). append_known a (take h.count (answers h.calls t))) n.empty;
+  written = h.written ∙ ap (λ (b : Content). append_known a (take h.count (answers h.calls b))) n.first;
 }
 
 -- the end of a session that stood at its first byte
@@ -216,7 +216,7 @@ ends_new (Overflowed entry) bytes left s a b n h = absurd h
 ends_new (Quit entry) bytes left s a b n h = absurd h
 
 -- a session that holds a piece more
-pub served_fed : (piece : List ℕ) (old middle : Session) (out : Option (List ℕ)) → middle.stream ≡ fed old.stream piece → middle.number ≡ old.number → middle.lines ≡ old.lines → Served (old.stream.held ++ piece) old middle out out
+pub served_fed : (piece : List ℕ) (old middle : Session) (out : Option (List ℕ)) → middle.stream ≡ fed old.stream piece → middle.number ≡ old.number → middle.buffer ≡ old.buffer → Served (old.stream.held ++ piece) old middle out out
 served_fed piece old middle out s n t =
     let place : middle.stream.start ≡ old.stream.start = ap (λ (x : State). x.start) s in
     record {
@@ -231,7 +231,7 @@ served_fed piece old middle out s n t =
     }
 
 -- a piece was held, and then its calls were served
-pub turned : {A : Type 0} (over : Type 0) (done : Result A Ended) (piece : List ℕ) (old middle new : Session) (before after : Option (List ℕ)) → middle.stream ≡ fed old.stream piece → middle.number ≡ old.number → middle.lines ≡ old.lines
+pub turned : {A : Type 0} (over : Type 0) (done : Result A Ended) (piece : List ℕ) (old middle new : Session) (before after : Option (List ℕ)) → middle.stream ≡ fed old.stream piece → middle.number ≡ old.number → middle.buffer ≡ old.buffer
     → 0 < length piece → length piece ≤ 65536 → Serves ⊥ done middle.stream.held middle new before after → Turns over done piece old new before after
 turned over (Ok done) piece old middle new before after s n t some few h =
     (served_on (old.stream.held ++ piece) old middle new before before after (served_fed piece old middle before s n t) h.0, h.1, h.2, some, few)

@@ -1,7 +1,6 @@
 -- What each step of a session is, in the words of its bytes.
-use Rattle.std.proofs.Common.{◌≡◌, ◌⊎◌, ℕ, ◌+◌, ◌^◌, ◌<◌, ◌≤◌, List, [], ◌∷◌, ◌++◌, length, take, Option, Some, None, refl, sym, ap, ◌∙◌, subst, arith, length-append, inl, inr, ⊎_elim}
+use Rattle.std.proofs.Common.{◌≡◌, ◌⊎◌, ℕ, ◌+◌, ◌<◌, ◌≤◌, List, [], ◌∷◌, ◌++◌, length, take, Option, Some, None, refl, sym, ap, ◌∙◌, subst, arith, length-append, inl, inr, ⊎_elim}
 use Rattle.std.proofs.lemmas.List.{append-nil}
-use Rattle.std.proofs.lemmas.List.Elements.{All-nil, All-cons}
 use Rattle.std.specs.Option.{option_or}
 use Rattle.std.specs.Io.KnownBytes.{append_known}
 use Rattle.nv_value.specs.View.{content}
@@ -17,8 +16,8 @@ use Rattle.nv_stream.specs.State as stream
 use Rattle.nv_stream.specs.Answers.{NeedsMore, Gives, IsFlawAt}
 use Rattle.nv_stream.specs.declared.stream.Next.TheVariants.{Value as TheValue, Flaw as TheFlaw}
 use Rattle.nv_rpc.specs.Calls.{Call, call_in}
-use Rattle.nvimd.specs.Methods.{Text, fresh}
-use Rattle.nvimd.specs.Bounds.{IsBounded}
+use Rattle.nv_buffer.specs.Content.{Content}
+use Rattle.nvimd.specs.Methods.{fresh}
 use Rattle.nvimd.specs.Answers.{outcome_of, answer, answers}
 use Rattle.nvimd.specs.Reading.{most_depth, most_bytes, Calls, EndsAt}
 use Rattle.nvimd.specs.Ends.{IsUnfinished, IfInside}
@@ -26,20 +25,16 @@ use Rattle.nvimd.specs.Serving.{IsReady, IsNew, Begins, Answered, Stops, Served,
 use Rattle.nvimd.specs.declared.session.Session.{Session}
 use Rattle.nvimd.proofs.Serving.{known_none, served_none}
 
-fresh_bounded : IsBounded fresh
-fresh_bounded = record { few = omega arith; short = All-cons (λ (line : List ℕ). length line < 2 ^ 32) [] [] (omega arith) (All-nil (λ (line : List ℕ). length line < 2 ^ 32)) }
-
 -- a session to which no byte has come
-pub begun : (s : Session) → s.stream ≡ stream.fresh most_depth most_bytes → s.lines ≡ fresh → s.number ≡ 0 → IsNew s × IsReady s
+pub begun : (s : Session) → s.stream ≡ stream.fresh most_depth most_bytes → s.buffer ≡ fresh → s.number ≡ 0 → IsNew s × IsReady s
 begun s e t n =
     let place : s.stream.start ≡ 0 = ap (λ (x : State). x.start) e in (
-      record { place = place; nothing = ap (λ (x : State). x.held) e; none = n; empty = t },
+      record { place = place; nothing = ap (λ (x : State). x.held) e; none = n; first = t },
       record {
         depth = ap (λ (x : State). x.depth) e;
         most = ap (λ (x : State). x.most) e;
         no_flaw = ap (λ (x : State). x.flaw) e;
         counted = omega arith;
-        bounded = subst IsBounded (sym t) fresh_bounded;
       },
     )
 
@@ -98,7 +93,7 @@ fails_held over s out r h = let w = held_ends s out r h in ends_last over ReadFa
 pub record Given (v : Value) (old middle : Session) : Type 0 where
   pub gives : Gives (TheValue v) old.stream middle.stream
   pub number : middle.number ≡ old.number
-  pub lines : middle.lines ≡ old.lines
+  pub buffer : middle.buffer ≡ old.buffer
 
 within_bounds : (v : Value) (old middle : Session) (front : List ℕ) → IsReady old → SpellsWithin old.stream.depth old.stream.most (content v) front → SpellsWithin most_depth most_bytes (content v) front
 within_bounds v old middle front r h =
@@ -138,10 +133,10 @@ one_call : (v : Value) (old middle : Session) (call : Call) (g : Given v old mid
 one_call v old middle call g r e =
     (g.gives.0, [], record { value = content v; spelled = spelled_given v old middle g r; is_call = e }, sym (append-nil g.gives.0), refl)
 
-one_answer : (call : Call) (old middle : Text) → middle ≡ old → answer call middle ≡ answers (call ∷ []) old
+one_answer : (call : Call) (old middle : Content) → middle ≡ old → answer call middle ≡ answers (call ∷ []) old
 one_answer call old middle e = ap (answer call) e ∙ sym (append-nil (answer call old))
 
-cut_in_call : (v : Value) (old middle : Session) (before after : Option (List ℕ)) (call : Call) → IsReady old → Given v old middle → call_in (content v) ≡ Some call → Begins (answer call middle.lines) before after → CutShort old.stream.held old before after
+cut_in_call : (v : Value) (old middle : Session) (before after : Option (List ℕ)) (call : Call) → IsReady old → Given v old middle → call_in (content v) ≡ Some call → Begins (answer call middle.buffer) before after → CutShort old.stream.held old before after
 cut_in_call v old middle before after call r g e b = record {
   calls = call ∷ [];
   whole = g.gives.0;
@@ -149,7 +144,7 @@ cut_in_call v old middle before after call r g e b = record {
   parts = g.gives.3;
   spelled = one_call v old middle call g r e;
   count = b.0;
-  written = b.1 ∙ ap (λ (l : List ℕ). append_known before (take b.0 l)) (one_answer call old.lines middle.lines g.lines);
+  written = b.1 ∙ ap (λ (l : List ℕ). append_known before (take b.0 l)) (one_answer call old.buffer middle.buffer g.buffer);
 }
 
 -- the value that the stream gave wasn't answered
@@ -182,15 +177,14 @@ served_one v old middle new before after call r g e a =
         parts = parts;
         place = place;
         number = number;
-        after_them = a.after_it ∙ ap (λ (t : Text). (outcome_of call t).text_after) g.lines;
-        written = a.written ∙ ap (λ (l : List ℕ). append_known before l) (one_answer call old.lines middle.lines g.lines);
+        after_them = a.after_it ∙ ap (λ (b : Content). (outcome_of call b).after) g.buffer;
+        written = a.written ∙ ap (λ (l : List ℕ). append_known before l) (one_answer call old.buffer middle.buffer g.buffer);
       },
       record {
         depth = ap (λ (x : State). x.depth) state ∙ r.depth;
         most = ap (λ (x : State). x.most) state ∙ r.most;
         no_flaw = ap (λ (x : State). x.flaw) state ∙ r.no_flaw;
         counted = omega arith;
-        bounded = a.bounded;
       },
       omega (arith, ap (length {A = ℕ}) parts, length-append g.gives.0 new.stream.held),
     )

@@ -1,12 +1,8 @@
 pub mod Answers
-pub mod Arguments
-pub mod Bounds
 pub mod Called
 pub mod Calling
 pub mod Command
 pub mod Ends
-pub mod Faults
 pub mod Methods
 pub mod Reading
-pub mod Refusals
 pub mod Serving

@@ -10,8 +10,7 @@ use Rattle.nv_stream.specs.State.{fed}
 use Rattle.nv_stream.specs.Answers.{NeedsMore}
 use Rattle.nv_rpc.specs.Calls.{Call, call_in}
 use Rattle.nvimd.specs.Methods.{fresh}
-use Rattle.nvimd.specs.Bounds.{IsBounded}
-use Rattle.nvimd.specs.Answers.{outcome_of, answer, answers, text_after}
+use Rattle.nvimd.specs.Answers.{outcome_of, answer, answers, buffer_after}
 use Rattle.nvimd.specs.Reading.{most_depth, most_bytes, Calls, ReadsFrom}
 use Rattle.nvimd.specs.Ends.{IfInside, IsUnfinished}
 use Rattle.nvimd.specs.declared.session.Session.{Session}
@@ -22,14 +21,13 @@ pub record IsReady (s : Session) : Type 0 where
   pub most : s.stream.most ≡ most_bytes
   pub no_flaw : s.stream.flaw ≡ None
   pub counted : s.number ≤ s.stream.start
-  pub bounded : IsBounded s.lines
 
 -- the state of a session to which no byte has come
 pub record IsNew (s : Session) : Type 0 where
   pub place : s.stream.start ≡ 0
   pub nothing : s.stream.held ≡ []
   pub none : s.number ≡ 0
-  pub empty : s.lines ≡ fresh
+  pub first : s.buffer ≡ fresh
 
 -- a part of these bytes went out, from their front
 abbrev pub Begins : List ℕ → Option (List ℕ) → Option (List ℕ) → Type 0
@@ -39,9 +37,8 @@ Begins bytes before after = (count : ℕ) × (after ≡ append_known before (tak
 pub record Answered (call : Call) (old new : Session) (before after : Option (List ℕ)) : Type 0 where
   pub stream : new.stream ≡ old.stream
   pub number : new.number ≡ old.number + 1
-  pub after_it : new.lines ≡ (outcome_of call old.lines).text_after
-  pub bounded : IsBounded new.lines
-  pub written : after ≡ append_known before (answer call old.lines)
+  pub after_it : new.buffer ≡ (outcome_of call old.buffer).after
+  pub written : after ≡ append_known before (answer call old.buffer)
 
 -- an end on the way out: writing failed, or memory was wanting
 abbrev pub IsCutShort : Ended → Type 0
@@ -52,7 +49,7 @@ IsCutShort _ = ⊥
 -- how a session ends that was to answer a value: the value is no call, or its answer was cut short
 abbrev pub Stops : Ended → Tree → Session → Option (List ℕ) → Option (List ℕ) → Type 0
 Stops (Malformed flaw) value s before after = (flaw ≡ NoCall s.number) × (call_in value ≡ None) × (after ≡ before)
-Stops ended value s before after = IsCutShort ended × (call : Call) × (call_in value ≡ Some call) × Begins (answer call s.lines) before after
+Stops ended value s before after = IsCutShort ended × (call : Call) × (call_in value ≡ Some call) × Begins (answer call s.buffer) before after
 
 -- Of bytes that begin where a session stood, the calls at their front were answered, and the others are held.
 pub record Served (bytes : List ℕ) (old new : Session) (before after : Option (List ℕ)) : Type 0 where
@@ -62,14 +59,14 @@ pub record Served (bytes : List ℕ) (old new : Session) (before after : Option 
   pub parts : bytes ≡ whole ++ new.stream.held
   pub place : new.stream.start ≡ old.stream.start + length whole
   pub number : new.number ≡ old.number + length calls
-  pub after_them : new.lines ≡ text_after calls old.lines
-  pub written : after ≡ append_known before (answers calls old.lines)
+  pub after_them : new.buffer ≡ buffer_after calls old.buffer
+  pub written : after ≡ append_known before (answers calls old.buffer)
 
 -- the bytes that begin where a session stood hold calls and then this flaw or none, and all of the calls were answered
 pub record Finished (flaw : Option Flaw) (bytes : List ℕ) (s : Session) (before after : Option (List ℕ)) : Type 0 where
   pub calls : List Call
   pub reads : ReadsFrom s.number s.stream.start calls bytes flaw
-  pub written : after ≡ append_known before (answers calls s.lines)
+  pub written : after ≡ append_known before (answers calls s.buffer)
 
 -- the bytes that begin where a session stood begin with calls, and a part of the answers to them went out, from their front
 pub record CutShort (bytes : List ℕ) (s : Session) (before after : Option (List ℕ)) : Type 0 where
@@ -79,7 +76,7 @@ pub record CutShort (bytes : List ℕ) (s : Session) (before after : Option (Lis
   pub parts : bytes ≡ whole ++ rest
   pub spelled : Calls calls whole
   pub count : ℕ
-  pub written : after ≡ append_known before (take count (answers calls s.lines))
+  pub written : after ≡ append_known before (take count (answers calls s.buffer))
 
 -- How a session ends within bytes that begin where it stood, where `over` says that no more bytes come.
 abbrev pub EndsIn : Type 0 → Ended → List ℕ → Session → Option (List ℕ) → Option (List ℕ) → Type 0
@@ -111,7 +108,7 @@ Serves over (Err ended) bytes old new before after = EndsIn over ended bytes old
 -- what one read gave to a session: a piece that it holds, or its end, where `over` says that no more bytes come
 abbrev pub Takes : {A : Type 0} → Type 0 → Result A Ended → List ℕ → Session → Session → Type 0
 Takes over (Ok done) piece old new =
-    (new.stream ≡ fed old.stream piece) × (new.number ≡ old.number) × (new.lines ≡ old.lines) × (0 < length piece) × (length piece ≤ 65536)
+    (new.stream ≡ fed old.stream piece) × (new.number ≡ old.number) × (new.buffer ≡ old.buffer) × (0 < length piece) × (length piece ≤ 65536)
 Takes over (Err ended) piece old new = (out : Option (List ℕ)) → EndsIn over ended (old.stream.held ++ piece) old out out
 
 -- what a session did with a piece: it answered the calls that are whole by it and needs more bytes, or it ended

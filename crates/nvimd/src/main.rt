@@ -2,12 +2,9 @@
 #![tactic(auto)]
 
 mod answering;
-mod arguments;
 mod command;
-mod faults;
 mod laws;
 mod methods;
-mod range;
 mod session;
 mod speaking;
 mod telling;

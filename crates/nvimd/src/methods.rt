@@ -1,200 +1,118 @@
-//! The methods on the lines of the buffer (Neovim help `api-buffer`).
-ghost use Rattle.std.specs.Prelude.{◌≡◌, ◌≤◌, ◌<◌, ◌^◌, All, map, length, slice_range, option_map, ◌+◌, ◌-◌, true, false, IfOk, IfSome, IfNone, OnErr};
-ghost use Rattle.std.specs.List.{list_any, splice};
-ghost use Rattle.nv_value.specs.Content.{list};
+//! The methods by their names, and the call of one (Neovim help `api-buffer`, `nvim_command()`).
+ghost use Rattle.std.specs.Prelude.{◌≡◌, ◌≤◌, length, map};
 ghost use Rattle.nv_value.specs.View.{content, contents};
-ghost use Rattle.nv_msgpack.specs.Shortest.{HasSpelling, HaveSpellings};
-ghost use Rattle.nvimd.specs.Arguments.{lines_in};
-ghost use Rattle.nvimd.specs.Methods.{get_lines, set_lines, set_arguments, put_lines, rows_in, replaced, strings, is_live, leaves_text, has_newline};
-ghost use Rattle.nvimd.specs.Bounds.{IsBounded};
-ghost use Rattle.nvimd.specs.Refusals.{Meets};
+ghost use Rattle.nv_args.specs.Weight.{AreLight};
+ghost use Rattle.nvimd.specs.Called.{HasOutcome, CanBeSent};
+ghost use Rattle.nvimd.specs.Methods.{method_named, outcome_by, outcome, one_change};
+ghost use Rattle.nvimd.specs.Reading.{most_bytes};
 
-use crate::arguments::{is_outside, row_of, string_of};
-use crate::faults::{
-    Fail, limit_reached, newline_inside, no_buffer, out_of_bounds, start_after_end, wrong_type,
+use nv_api_buf::{
+    nvim_buf_get_changedtick, nvim_buf_get_lines, nvim_buf_get_offset, nvim_buf_get_text,
+    nvim_buf_line_count, nvim_buf_set_lines, nvim_buf_set_text, nvim_command,
 };
-use crate::range::{Range, range_of};
-use nv_lines::{Line, LineList, Lines, is_line};
-use nv_value::{Bytes, Items, Value};
-use std::alloc::{AllocError, Global};
+use nv_args::{Fail, unknown_method};
+use nv_buffer::Buffer;
+use nv_value::{Items, Value};
+use std::alloc::Global;
 
-/// How many lines a text may have.
-const MOST_LINES: usize = 16_777_216;
-
-/// Whether the handle names the buffer: 1, or 0 for the current one.
-fn is_live(handle: i64) -> bool
-    ensures { result ≡ is_live handle }
-{
-    handle == 0 || handle == 1
+/// The methods that are answered.
+#[derive(Clone, Copy)]
+pub enum Method {
+    LineCount,
+    GetChangedtick,
+    GetOffset,
+    GetLines,
+    SetLines,
+    GetText,
+    SetText,
+    Command,
 }
 
-/// Whether a strict range has an index outside a text of so many lines.
-fn leaves_text(range: &Range, text: &Lines) -> bool
-    ensures { result ≡ leaves_text range.now text.now }
+/// The method of a name.
+pub fn method_of(name: &[u8]) -> Option<Method>
+    ensures { result ≡ method_named name.now }
 {
-    let count = text.count();
-    range.strict && (is_outside(range.start, count) || is_outside(range.end, count))
-}
-
-/// The lines from the row `from` to before the row `to`, as strings.
-fn strings_of(alloc: Global, text: &Lines, from: usize, to: usize) -> Result<Items, AllocError>
-    requires { to ≤ length text.now }
-    ensures strings { IfOk result (λ items. contents items.items ≡ strings (slice_range text.now from to)) }
-    ensures spelled { IsBounded text.now → IfOk result (λ items. HasSpelling (list (contents items.items))) }
-{
-    let mut items = Vec::with_capacity(alloc, to.saturating_sub(from))?;
-    for row in from..to {
-        let Some(line) = text.get(row) else {
-            unreachable!();
-        };
-        items.push(Value::Text(Bytes::from_slice(alloc, line)?))?;
+    if name == b"nvim_buf_line_count".as_slice() {
+        return Some(Method::LineCount);
     }
-    Ok(items)
+    if name == b"nvim_buf_get_changedtick".as_slice() {
+        return Some(Method::GetChangedtick);
+    }
+    if name == b"nvim_buf_get_offset".as_slice() {
+        return Some(Method::GetOffset);
+    }
+    if name == b"nvim_buf_get_lines".as_slice() {
+        return Some(Method::GetLines);
+    }
+    if name == b"nvim_buf_set_lines".as_slice() {
+        return Some(Method::SetLines);
+    }
+    if name == b"nvim_buf_get_text".as_slice() {
+        return Some(Method::GetText);
+    }
+    if name == b"nvim_buf_set_text".as_slice() {
+        return Some(Method::SetText);
+    }
+    if name == b"nvim_command".as_slice() {
+        return Some(Method::Command);
+    }
+    None
 }
 
-/// The rows of a range of the text, from the first to before the second.
-fn rows_of(alloc: Global, range: &Range, text: &Lines) -> Result<(usize, usize), Fail>
-    ensures row { Meets (λ rows. (rows.0, rows.1)) result (rows_in range.now text.now) }
-    ensures within { IfOk result (λ rows. (rows.0 ≤ length text.now) × (rows.1 ≤ length text.now)) }
-{
-    if !is_live(range.buffer) {
-        return Err(no_buffer(alloc, range.buffer));
-    }
-    if leaves_text(range, text) {
-        return Err(out_of_bounds(alloc));
-    }
-    let count = text.count();
-    Ok((row_of(range.start, count), row_of(range.end, count)))
-}
-
-/// `nvim_buf_get_lines`: the lines of a range.
-pub fn get_lines(alloc: Global, params: Items, text: &Lines) -> Result<Value, Fail>
-    ensures row { Meets content result (get_lines (map content params.items) text.now) }
-    ensures spelled { IsBounded text.now → IfOk result (λ value. HasSpelling (content value)) }
-{
-    let range = range_of(alloc, "nvim_buf_get_lines", 4, params.as_slice())?;
-    let (from, to) = rows_of(alloc, &range, text)?;
-    match strings_of(alloc, text, from, to) {
-        Ok(items) => Ok(Value::List(items)),
-        Err(_) => Err(Fail::NoMemory),
-    }
-}
-
-/// The strings of a list argument, or nothing where it isn't a list of strings.
-fn strings_in(alloc: Global, value: Value) -> Result<Option<Vec<Bytes>>, AllocError>
-    ensures { IfOk result (λ found. option_map (λ v. v.items) found ≡ lines_in (content value)) }
-{
-    let Value::List(items) = value else {
-        return Ok(None);
-    };
-    let mut strings = Vec::with_capacity(alloc, items.len())?;
-    for item in items {
-        let Some(string) = string_of(item) else {
-            return Ok(None);
-        };
-        strings.push(string)?;
-    }
-    Ok(Some(strings))
-}
-
-/// The strings as lines, or nothing where one of them holds a line feed.
-fn lines_from(alloc: Global, strings: Vec<Bytes>) -> Result<Option<LineList>, AllocError>
-    ensures some { IfOk result (λ found. IfSome found (λ lines. (lines ≡ strings.items) × (list_any has_newline strings.items ≡ false))) }
-    ensures none { IfOk result (λ found. IfNone found (list_any has_newline strings.items ≡ true)) }
-{
-    let mut lines = Vec::with_capacity(alloc, strings.len())?;
-    for string in strings {
-        let bytes = string.into_vec();
-        if !is_line(&bytes) {
-            return Ok(None);
-        }
-        lines.push(Line::from_vec(bytes))?;
-    }
-    Ok(Some(LineList::from_vec(lines)))
-}
-
-/// The lines to put in place of the rows from `from` to before `to`: one empty line where none would be
-/// left.
-fn or_fresh(
+// Calls a method.
+fn call_method(
     alloc: Global,
-    text: &Lines,
-    from: usize,
-    to: usize,
-    lines: LineList,
-) -> Result<LineList, AllocError>
-    requires order { from ≤ to }
-    requires within { to ≤ length text.now }
-    ensures same { IfOk result (λ new. splice text.now from to new ≡ replaced from to lines text.now) }
-    ensures len { IfOk result (λ new. length (replaced from to lines text.now) + (to - from) ≡ length text.now + length new) }
-    ensures left { IfOk result (λ new. to < from + length new + length text.now) }
+    method: Method,
+    params: Items,
+    buffer: &mut Buffer,
+) -> Result<Value, Fail>
+    requires light { AreLight (contents params.items) }
+    ensures outcome { HasOutcome result (outcome_by method (map content params.items) buffer.old) buffer.new }
+    ensures sent { CanBeSent result }
 {
-    let rest = text.count() - (to - from);
-    if rest > 0 {
-        return Ok(lines);
+    match method {
+        Method::LineCount => nvim_buf_line_count(alloc, params, buffer),
+        Method::GetChangedtick => nvim_buf_get_changedtick(alloc, params, buffer),
+        Method::GetOffset => nvim_buf_get_offset(alloc, params, buffer),
+        Method::GetLines => nvim_buf_get_lines(alloc, params, buffer),
+        Method::GetText => nvim_buf_get_text(alloc, params, buffer),
+        Method::SetLines => match nvim_buf_set_lines(alloc, params, buffer) {
+            Ok(()) => Ok(Value::Nil),
+            Err(fail) => Err(fail),
+        },
+        Method::SetText => match nvim_buf_set_text(alloc, params, buffer) {
+            Ok(()) => Ok(Value::Nil),
+            Err(fail) => Err(fail),
+        },
+        Method::Command => match nvim_command(alloc, params, buffer) {
+            Ok(()) => Ok(Value::Nil),
+            Err(fail) => Err(fail),
+        },
     }
-    if lines.len() > 0 {
-        return Ok(lines);
-    }
-    Ok(LineList::from_vec(vec![in alloc; Line::new(alloc)]?))
 }
 
-/// Puts lines in place of the rows from `from` to before `to`. Where the call is refused, and where
-/// memory is wanting, the text stays as it was.
-fn put_lines(
-    alloc: Global,
-    text: &mut Lines,
-    from: usize,
-    to: usize,
-    new: Vec<Bytes>,
-) -> Result<(), Fail>
-    requires within { (from ≤ length text.old) × (to ≤ length text.old) }
-    requires bounded { IsBounded text.old }
-    requires short { All (λ string. length string < 2 ^ 32) new.items }
-    ensures row { Meets (λ _. text.new) result (put_lines from to new.items text.old) }
-    ensures kept { OnErr result (text.new ≡ text.old) }
-    ensures bounded { IsBounded text.new }
+// Calls the method of a name, if there is one.
+fn call_named(alloc: Global, name: &[u8], params: Items, buffer: &mut Buffer) -> Result<Value, Fail>
+    requires name { length name.now ≤ most_bytes }
+    requires light { AreLight (contents params.items) }
+    ensures outcome { HasOutcome result (outcome name.now (map content params.items) buffer.old) buffer.new }
+    ensures sent { CanBeSent result }
 {
-    if to < from {
-        return Err(start_after_end(alloc));
+    match method_of(name) {
+        Some(method) => call_method(alloc, method, params, buffer),
+        None => Err(unknown_method(alloc, name)),
     }
-    let Some(new) = lines_from(alloc, new)? else {
-        return Err(newline_inside(alloc));
-    };
-    let new = or_fresh(alloc, text, from, to, new)?;
-    if text.count() - (to - from) + new.len() > MOST_LINES {
-        return Err(limit_reached(alloc));
-    }
-    text.replace(from, to, new)?;
-    Ok(())
 }
 
-/// The range of a call of `nvim_buf_set_lines`, and the strings of its last argument.
-fn set_arguments(alloc: Global, params: Items) -> Result<(Range, Vec<Bytes>), Fail>
-    requires { HaveSpellings (contents params.items) }
-    ensures row { Meets (λ found. (found.0, found.1.items)) result (set_arguments (map content params.items)) }
-    ensures short { IfOk result (λ found. All (λ string. length string < 2 ^ 32) found.1.items) }
+/// Calls the method of a name, and closes the change that the call made in the buffer. A call that is
+/// refused leaves the buffer as it was; where memory is wanting the call may have been done, or a part of it.
+pub fn call(alloc: Global, name: &[u8], params: Items, buffer: &mut Buffer) -> Result<Value, Fail>
+    requires name { length name.now ≤ most_bytes }
+    requires light { AreLight (contents params.items) }
+    ensures outcome { HasOutcome result (one_change (outcome name.now (map content params.items) buffer.old)) buffer.new }
+    ensures sent { CanBeSent result }
 {
-    let mut params = params;
-    let range = range_of(alloc, "nvim_buf_set_lines", 5, params.as_slice())?;
-    let Some(replacement) = params.pop() else {
-        unreachable!();
-    };
-    let Some(new) = strings_in(alloc, replacement)? else {
-        return Err(wrong_type(alloc, 5, "nvim_buf_set_lines", "Array"));
-    };
-    Ok((range, new))
-}
-
-/// `nvim_buf_set_lines`: puts lines in place of a range. Where the call is refused, and where memory is
-/// wanting, the text stays as it was.
-pub fn set_lines(alloc: Global, params: Items, text: &mut Lines) -> Result<(), Fail>
-    requires bounded { IsBounded text.old }
-    requires spelled { HaveSpellings (contents params.items) }
-    ensures row { Meets (λ _. text.new) result (set_lines (map content params.items) text.old) }
-    ensures kept { OnErr result (text.new ≡ text.old) }
-    ensures bounded { IsBounded text.new }
-{
-    let (range, new) = set_arguments(alloc, params)?;
-    let (from, to) = rows_of(alloc, &range, text)?;
-    put_lines(alloc, text, from, to, new)
+    let answered = call_named(alloc, name, params, buffer);
+    buffer.seal()?;
+    answered
 }

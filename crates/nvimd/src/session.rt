@@ -5,13 +5,11 @@ ghost use Rattle.nv_io.specs.Faults.{Rose};
 ghost use Rattle.nv_io.specs.Streams.{Gave};
 ghost use Rattle.nv_value.specs.View.{content};
 ghost use Rattle.nv_msgpack.specs.Within.{SpellsWithin};
-ghost use Rattle.nv_msgpack.specs.Shortest.{HasSpelling};
 ghost use Rattle.nv_stream.specs.State.{fresh, end_of};
 ghost use Rattle.nv_stream.specs.Answers.{NeedsMore};
 ghost use Rattle.nv_rpc.specs.Calls.{Call, call_in};
 ghost use Rattle.nv_rpc.specs.Frames.{call_of_frame};
 ghost use Rattle.nvimd.specs.Answers.{answer};
-ghost use Rattle.nvimd.specs.Bounds.{IsBounded};
 ghost use Rattle.nvimd.specs.Calling.{IsCallBounded};
 ghost use Rattle.nvimd.specs.Ends.{Ends};
 ghost use Rattle.nvimd.specs.Reading.{most_depth, most_bytes};
@@ -19,8 +17,8 @@ ghost use Rattle.nvimd.specs.Serving.{IsReady, IsNew, Begins, Answered, IsCutSho
 
 use crate::answering::answer;
 use crate::speaking::speak;
+use nv_buffer::Buffer;
 use nv_io::{Ended, Flaw, Got, Sink, Source};
-use nv_lines::Lines;
 use nv_msgpack::Bounds;
 use nv_rpc::{Frame, call_of};
 use nv_stream::{Next, Stream};
@@ -42,12 +40,12 @@ const PIECE: usize = 65_536;
 /// A source from which so many bytes were taken counts as ended.
 const MOST_TAKEN: u64 = 1 << 62;
 
-/// One session over a stream of bytes and the text of the one buffer.
+/// One session over a stream of bytes and the one buffer.
 #[derive(Drop)]
 pub struct Session {
     alloc: Global,
     stream: Stream,
-    lines: Lines,
+    buffer: Buffer,
     // The calls answered so far.
     number: u64,
     // The bytes of the message that goes out.
@@ -62,7 +60,7 @@ impl Session {
         Ok(Session {
             alloc,
             stream: Stream::new(alloc, BOUNDS)?,
-            lines: Lines::new(alloc)?,
+            buffer: Buffer::new(alloc, 1)?,
             number: 0,
             room: Vec::new(alloc),
         })
@@ -91,16 +89,15 @@ impl Session {
         R: Files<File = File> + Net<Listener = TcpListener, Stream = TcpStream>,
         S: Sink,
     >(&mut self, rt: &R, call: Frame, output: &mut S) -> Result<(), Ended>
-        requires bounded { IsBounded self.old.lines }
         requires call { IsCallBounded (call_of_frame call) }
         requires number { self.old.number < 2 ^ 63 }
         ensures ok { OnOk result (Answered (call_of_frame call) self.old self.new (S.taken output.old) (S.taken output.new)) }
         ensures err { IfErr result (λ ended. IsCutShort ended
-            × Begins (answer (call_of_frame call) self.old.lines) (S.taken output.old) (S.taken output.new)) }
+            × Begins (answer (call_of_frame call) self.old.buffer) (S.taken output.old) (S.taken output.new)) }
         ensures later { S.faults output.old ≤ S.faults output.new }
         ensures fault { result ≡ Err Ended.WriteFault → Rose (S.faults output.old) (S.faults output.new) }
     {
-        let Ok(message) = answer(self.alloc, call, &mut self.lines) else {
+        let Ok(message) = answer(self.alloc, call, &mut self.buffer) else {
             return Err(Ended::NoMemory);
         };
         speak(rt, self.alloc, message, &mut self.room, output)?;
@@ -115,9 +112,7 @@ impl Session {
         value: Value,
         output: &mut S,
     ) -> Result<(), Ended>
-        requires bounded { IsBounded self.old.lines }
         requires spelled { (front : List ℕ) × SpellsWithin most_depth most_bytes (content value) front }
-        requires told { HasSpelling (content value) }
         requires number { self.old.number < 2 ^ 63 }
         ensures ok { OnOk result ((call : Call) × (call_in (content value) ≡ Some call)
             × Answered call self.old self.new (S.taken output.old) (S.taken output.new)) }
@@ -221,7 +216,7 @@ impl Session {
     }
 }
 
-/// Answers the calls of `input` on `output`, one after another, from a text of one empty line.
+/// Answers the calls of `input` on `output`, one after another, from a fresh buffer on.
 pub fn embed<
     R: Files<File = File> + Net<Listener = TcpListener, Stream = TcpStream>,
     I: Source,

@@ -8,45 +8,45 @@ use Rattle.nvimd.proofs.answering.answer.Goals as goal
 
 pub returns-in-Ok-clause-due : goal.returns-in-Ok-clause-due
 returns-in-Ok-clause-due c =
-    let gave = rw c.in-Ok.is at c.in_ok-result-in-Request.ensures.outcome in
-    due-request c.args.frame c.in-Request.msgid c.in-Request.method _ c.in-Request.params c.args.text.now _ c.in-Request.is c.as_slice.ensures gave.0
+    let gave = c.in-Ok.ensures.outcome in
+    due-request c.args.frame c.in-Request.msgid c.in-Request.method _ c.in-Request.params c.args.buffer.now _ c.in-Request.is c.as_slice.ensures gave.0
 
-pub returns-in-Ok-clause-text : goal.returns-in-Ok-clause-text
-returns-in-Ok-clause-text c =
-    let gave = rw c.in-Ok.is at c.in_ok-result-in-Request.ensures.outcome in
+pub returns-in-Ok-clause-after : goal.returns-in-Ok-clause-after
+returns-in-Ok-clause-after c =
+    let gave = c.in-Ok.ensures.outcome in
     sym gave.1
-    ∙ sym (ap (λ (o : Outcome). o.text_after) (outcome-request c.args.frame c.in-Request.msgid c.in-Request.method _ c.in-Request.params c.args.text.now c.in-Request.is c.as_slice.ensures))
+    ∙ sym (ap (λ (o : Outcome). o.after) (outcome-request c.args.frame c.in-Request.msgid c.in-Request.method _ c.in-Request.params c.args.buffer.now c.in-Request.is c.as_slice.ensures))
 
-pub returns-in-Request-clause-due : goal.returns-in-Request-clause-due
-returns-in-Request-clause-due c =
-    let gave = rw c.in-Err.is at c.in_ok-result-in-Request.ensures.outcome in
-    ap (λ (t : Tree). reply c.in-Request.msgid (Some c.in-Err.fault) t ∷ []) content-Nil
-    ∙ due-request c.args.frame c.in-Request.msgid c.in-Request.method _ c.in-Request.params c.args.text.now _ c.in-Request.is c.as_slice.ensures gave.0
+pub returns-in-Err-Api-clause-due : goal.returns-in-Err-Api-clause-due
+returns-in-Err-Api-clause-due c =
+    let gave = rw c.in-Err-Api.field-0-is at c.in-Err-Api.ensures.outcome in
+    ap (λ (t : Tree). reply c.in-Request.msgid (Some c.in-Err-Api.fault) t ∷ []) content-Nil
+    ∙ due-request c.args.frame c.in-Request.msgid c.in-Request.method _ c.in-Request.params c.args.buffer.now _ c.in-Request.is c.as_slice.ensures gave.0
 
-pub returns-in-Request-clause-text : goal.returns-in-Request-clause-text
-returns-in-Request-clause-text c =
-    let gave = rw c.in-Err.is at c.in_ok-result-in-Request.ensures.outcome in
+pub returns-in-Err-Api-clause-after : goal.returns-in-Err-Api-clause-after
+returns-in-Err-Api-clause-after c =
+    let gave = rw c.in-Err-Api.field-0-is at c.in-Err-Api.ensures.outcome in
     sym gave.1
-    ∙ sym (ap (λ (o : Outcome). o.text_after) (outcome-request c.args.frame c.in-Request.msgid c.in-Request.method _ c.in-Request.params c.args.text.now c.in-Request.is c.as_slice.ensures))
+    ∙ sym (ap (λ (o : Outcome). o.after) (outcome-request c.args.frame c.in-Request.msgid c.in-Request.method _ c.in-Request.params c.args.buffer.now c.in-Request.is c.as_slice.ensures))
 
-pub returns-in-Ok-2-clause-due : goal.returns-in-Ok-2-clause-due
-returns-in-Ok-2-clause-due c =
-    let gave = rw c.in-Ok-2.is at c.in_ok-call_method-in-Notice.ensures.outcome in
-    due-notice c.args.frame c.in-Notice.method _ c.in-Notice.params c.args.text.now _ c.in-Notice.is c.as_slice-in-Notice.ensures gave.0
+pub returns-in-Ok-call-clause-due : goal.returns-in-Ok-call-clause-due
+returns-in-Ok-call-clause-due c =
+    let gave = c.in-Ok-call.ensures.outcome in
+    due-notice c.args.frame c.in-Notice.method _ c.in-Notice.params c.args.buffer.now _ c.in-Notice.is c.as_slice-in-Notice.ensures gave.0
 
-pub returns-in-Ok-2-clause-text : goal.returns-in-Ok-2-clause-text
-returns-in-Ok-2-clause-text c =
-    let gave = rw c.in-Ok-2.is at c.in_ok-call_method-in-Notice.ensures.outcome in
+pub returns-in-Ok-call-clause-after : goal.returns-in-Ok-call-clause-after
+returns-in-Ok-call-clause-after c =
+    let gave = c.in-Ok-call.ensures.outcome in
     sym gave.1
-    ∙ sym (ap (λ (o : Outcome). o.text_after) (outcome-notice c.args.frame c.in-Notice.method _ c.in-Notice.params c.args.text.now c.in-Notice.is c.as_slice-in-Notice.ensures))
+    ∙ sym (ap (λ (o : Outcome). o.after) (outcome-notice c.args.frame c.in-Notice.method _ c.in-Notice.params c.args.buffer.now c.in-Notice.is c.as_slice-in-Notice.ensures))
 
-pub returns-clause-due : goal.returns-clause-due
-returns-clause-due c =
-    let gave = rw c.in-Err-2.is at c.in_ok-call_method-in-Notice.ensures.outcome in
-    due-notice c.args.frame c.in-Notice.method _ c.in-Notice.params c.args.text.now _ c.in-Notice.is c.as_slice-in-Notice.ensures gave.0
+pub returns-in-Err-Api-call-clause-due : goal.returns-in-Err-Api-call-clause-due
+returns-in-Err-Api-call-clause-due c =
+    let gave = rw c.in-Err-Api-call.field-0-is at c.in-Err-Api-call.ensures.outcome in
+    due-notice c.args.frame c.in-Notice.method _ c.in-Notice.params c.args.buffer.now _ c.in-Notice.is c.as_slice-in-Notice.ensures gave.0
 
-pub returns-clause-text : goal.returns-clause-text
-returns-clause-text c =
-    let gave = rw c.in-Err-2.is at c.in_ok-call_method-in-Notice.ensures.outcome in
+pub returns-in-Err-Api-call-clause-after : goal.returns-in-Err-Api-call-clause-after
+returns-in-Err-Api-call-clause-after c =
+    let gave = rw c.in-Err-Api-call.field-0-is at c.in-Err-Api-call.ensures.outcome in
     sym gave.1
-    ∙ sym (ap (λ (o : Outcome). o.text_after) (outcome-notice c.args.frame c.in-Notice.method _ c.in-Notice.params c.args.text.now c.in-Notice.is c.as_slice-in-Notice.ensures))
+    ∙ sym (ap (λ (o : Outcome). o.after) (outcome-notice c.args.frame c.in-Notice.method _ c.in-Notice.params c.args.buffer.now c.in-Notice.is c.as_slice-in-Notice.ensures))

@@ -4,4 +4,4 @@ use Rattle.nvimd.proofs.session.Session.serve.Goals as goal
 
 pub answer_call-requires-clause-call : goal.answer_call-requires-clause-call
 answer_call-requires-clause-call g c =
-    call_bounded (content c.args.value) c.requires.spelled.0 _ c.requires.spelled.1 c.requires.told c.in-Ok.ensures.ok
+    call_bounded (content c.args.value) c.requires.spelled.0 _ c.requires.spelled.1 c.in-Ok.ensures.ok

@@ -1,0 +1,9 @@
+pub mod Newlines
+pub mod TextLemmas
+pub mod Spelled
+pub mod Nothing
+pub mod Between
+pub mod Long
+pub mod Passing
+pub mod Placing
+pub mod Digits

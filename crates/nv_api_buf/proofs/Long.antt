@@ -1,0 +1,65 @@
+-- Lemmas on lines that are too long, and on those that join what stands before and behind them.
+use Rattle.std.proofs.Common.{◌≡◌, ℕ, zero, suc, ◌+◌, ◌<◌, ◌≤◌, Bool, true, false, ◌||◌, List, [], ◌∷◌, length, take, get_or, All, Some, slice_get, refl, sym, ap, ap₂, ◌∙◌, arith}
+use Rattle.std.proofs.lemmas.Bool.{false≢true}
+use Rattle.std.proofs.lemmas.Bool.Decides.{nat_tests}
+use Rattle.std.proofs.lemmas.List.{take_more, take_all}
+use Rattle.std.proofs.lemmas.List.Folds.{list_any-append}
+use Rattle.std.proofs.lemmas.List.Elements.{All-nil, All-cons}
+use Rattle.std.proofs.lemmas.Option.{get_or_from_slice_get}
+use Rattle.std.specs.List.{list_any}
+use Rattle.nv_buffer.specs.Splices.{IsNarrowLine, with_front, with_back}
+use Rattle.nv_buffer.proofs.Between.{length-between}
+use Rattle.nv_api_buf.specs.Limits.{is_too_long}
+use Rattle.nv_api_buf.specs.Parts.{joined_line}
+use Rattle.nv_api_buf.proofs.Between.{joined-at}
+
+pub or_false : (a b : Bool) → a || b ≡ false → (a ≡ false) × (b ≡ false)
+or_false true b e = absurd (false≢true (sym e))
+or_false false b e = (refl, e)
+
+or_true : (a b : Bool) → b ≡ true → a || b ≡ true
+or_true true b e = refl
+or_true false b e = e
+
+-- one more line that isn't too long
+pub long-more : (lines : List (List ℕ)) (k : ℕ) → k < length lines → list_any is_too_long (take k lines) ≡ false
+    → is_too_long (get_or lines k []) ≡ false → list_any is_too_long (take (k + 1) lines) ≡ false
+long-more lines k h before this =
+    ap (list_any is_too_long) (take_more lines k [] h)
+    ∙ list_any-append is_too_long (take k lines) (get_or lines k [] ∷ [])
+    ∙ ap₂ (λ a b. a || (b || false)) before this
+
+-- one that is too long
+pub long-found : (lines : List (List ℕ)) (k : ℕ) → k < length lines → is_too_long (get_or lines k []) ≡ true → true ≡ list_any is_too_long lines
+long-found [] k h e = absurd (omega arith)
+long-found (line ∷ lines) zero h e = sym (ap (λ b. b || list_any is_too_long lines) e)
+long-found (line ∷ lines) (suc k) h e = sym (or_true (is_too_long line) (list_any is_too_long lines) (sym (long-found lines k (omega arith) e)))
+
+-- none is where none of as many as there are is
+pub long-none : (lines : List (List ℕ)) (k : ℕ) → length lines ≤ k → list_any is_too_long (take k lines) ≡ false → false ≡ list_any is_too_long lines
+long-none lines k h none = sym (ap (list_any is_too_long) (sym (take_all k lines h)) ∙ none)
+
+-- lines of which none is too long are narrow
+pub short-narrow : (lines : List (List ℕ)) → list_any is_too_long lines ≡ false → All IsNarrowLine lines
+short-narrow [] none = All-nil IsNarrowLine
+short-narrow (line ∷ lines) none =
+    let parts = or_false (is_too_long line) (list_any is_too_long lines) none in
+    let here : length line ≤ 16777216 = let e : is_too_long line ≡ false = parts.0 in grind (arith, nat_tests) in
+    All-cons IsNarrowLine line lines (omega arith) (short-narrow lines parts.1)
+
+-- the line that is got from a list
+pub line-is : (lines : List (List ℕ)) (k : ℕ) (line : List ℕ) → Some line ≡ slice_get lines k → get_or lines k [] ≡ line
+line-is lines k line e = get_or_from_slice_get lines k line [] (sym e)
+
+-- the same of lines that are joined
+pub joined-is : (front back : List ℕ) (lines : List (List ℕ)) (k n : ℕ) (line : List ℕ) → n ≡ length lines → k < n → Some line ≡ slice_get lines k
+    → get_or (with_back (with_front front lines) back) k [] ≡ joined_line line k n front back
+joined-is front back lines k n line same h e = joined-at front back lines k n line same h (sym (line-is lines k line e))
+
+pub joined-within : (front back : List ℕ) (lines : List (List ℕ)) (k n : ℕ) → n ≡ length lines → k < n
+    → k < length (with_back (with_front front lines) back)
+joined-within front back lines k n same h = omega (arith, length-between front back lines (omega arith))
+
+pub joined-end : (front back : List ℕ) (lines : List (List ℕ)) (k n : ℕ) → n ≡ length lines → 0 < length lines → n ≤ k
+    → length (with_back (with_front front lines) back) ≤ k
+joined-end front back lines k n same some h = omega (arith, length-between front back lines some)

@@ -1,5 +1,0 @@
-use Rattle.nvimd.proofs.Words.{refuses_with, wrong_count-short}
-use Rattle.nvimd.proofs.faults.wrong_count.Goals as goal
-
-pub returns-in-Ok : goal.returns-in-Ok
-returns-in-Ok c = refuses_with _ 1 2 _ _ c.fault.ensures c.in-Ok.ensures.ok (wrong_count-short c.args.expected c.args.found c.ranges.expected.fits c.ranges.found.fits)
