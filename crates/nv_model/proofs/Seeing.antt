@@ -1,0 +1,52 @@
+-- What is seen of an editor is what is seen of the model that it stands for.
+use Rattle.std.proofs.Common.{◌≡◌, map, refl, ap, sym, ◌∙◌, Option, Some, None}
+use Rattle.std.specs.Prelude.{option_map, nat_abs}
+use Rattle.nv_places.specs.Flat.{lines_of}
+use Rattle.nv_places.proofs.FlatLemmas.{lines_of-flat}
+use Rattle.nv_marks.proofs.UniqueLemmas.{order_is_unique}
+use Rattle.nv_model.specs.Buffers.{ModelBuffer, text_of, tick_of, mark_of, marks_of}
+use Rattle.nv_model.specs.Editors.{at_handle}
+use Rattle.nv_model.specs.Seen.{seen_buffer}
+use Rattle.nv_model.specs.Standing.{Present, StandsFor, Both, seen_buffer_now}
+use Rattle.nv_model.specs.Keeping.{SeenIsSame}
+use Rattle.nv_model.proofs.MarkOrders.{in_order_is, names_apart}
+
+pub marks_same : (b : Present) (m : ModelBuffer) → StandsFor b m → b.marks.marks ≡ marks_of m
+unfolding marks_of
+marks_same b m is =
+    order_is_unique (map (mark_of m) m.marks) b.marks.marks (marks_of m) (names_apart m m.marks is.valid.named) is.marks
+    (in_order_is (map (mark_of m) m.marks))
+
+buffer_same : (b : Present) (m : ModelBuffer) → StandsFor b m → seen_buffer_now b ≡ seen_buffer m
+buffer_same b m is =
+    let lines : b.content.text ≡ lines_of (text_of m) = sym (lines_of-flat b.content.text is.lines) ∙ ap lines_of is.text in
+    let tick : nat_abs b.content.tick ≡ tick_of m = ap nat_abs is.tick in
+    let marks : b.marks.marks ≡ marks_of m = marks_same b m is in
+    let first = sym is.first in
+    λ i. record {
+      lines = lines i;
+      tick = tick i;
+      marks = marks i;
+      greatest = λ ns. is.greatest ns i;
+      first = first i;
+      undo = is.undo i;
+      unsealed = is.unsealed i;
+      name = is.name i;
+      modifiable = is.modifiable i;
+      modified = is.modified i;
+      listed = is.listed i;
+      tabstop = is.tabstop i;
+    }
+
+both_same : (o : Option Present) (p : Option ModelBuffer) → Both StandsFor o p → option_map seen_buffer_now o ≡ option_map seen_buffer p
+both_same None None is = refl
+both_same None (Some m) is = absurd is
+both_same (Some b) None is = absurd is
+both_same (Some b) (Some m) is = ap Some (buffer_same b m is)
+
+pub seen_is_same : SeenIsSame
+seen_is_same e m is = λ i. record {
+  buffer = λ n. both_same (at_handle e.buffers n) (at_handle m.buffers n) (is.buffers n) i;
+  handles = is.handles i;
+  stage = is.stage i;
+}
