@@ -1,0 +1,4 @@
+pub mod WorkedRuns
+pub mod CallLaws
+pub mod WorkedMarks
+pub mod WorkedWindows

@@ -1,0 +1,43 @@
+-- Laws of the rows on buffers.
+use Rattle.std.specs.Prelude.{◌≡◌, ℕ, ℤ, List, [], ◌∷◌, flat_map, ⊤, if◌then◌else◌}
+use Rattle.std.specs.Option.{option_map_or}
+use Rattle.std.specs.List.{AllByRecursion}
+use Rattle.std.specs.Ordering.{int_eq}
+use Rattle.nv_places.specs.Flat.{flat}
+use Rattle.nv_args.specs.Reading.{Arg}
+use Rattle.nv_buffer.specs.declared.buffer.Spliced.{Spliced}
+use Rattle.nv_model.specs.Buffers.{events_of}
+use Rattle.nv_model.specs.Seen.{Seen}
+use Rattle.nv_model.specs.Answers.{Answer, Fact, refused, replied, edited}
+use Rattle.nv_model.specs.Laws.{splices_among}
+use Rattle.nv_rows_buf.specs.Rows.{Row, buffer_rows}
+
+-- the splice of the buffer of a handle that a fact tells of
+abbrev pub edits_in : ℤ → Fact → List Spliced
+edits_in n (edited k event) = if int_eq k n then event ∷ [] else []
+edits_in n _ = []
+
+-- the splices of the buffer of a handle that facts tell of, in order
+abbrev pub edits_among : ℤ → List Fact → List Spliced
+edits_among n facts = flat_map (edits_in n) facts
+
+-- the flat text and the changedtick that are seen of a buffer
+abbrev pub text_seen : Seen → ℤ → List ℕ
+text_seen s n = option_map_or (λ b. flat b.lines) (s.buffer n) []
+
+abbrev pub tick_seen : Seen → ℤ → ℕ
+tick_seen s n = option_map_or (λ b. b.tick) (s.buffer n) 0
+
+-- what an answer tells of each buffer is its splices, one event for each, in order, with the changedtick counted up
+unfoldable pub TellsSplices : Seen → Answer → Type 0
+TellsSplices s (refused fault) = ⊤
+TellsSplices s (replied result changes facts) =
+    (n : ℤ) → edits_among n facts ≡ events_of (text_seen s n) (tick_seen s n) (splices_among n changes)
+
+-- so does each answer of a row
+abbrev pub RowTells : Row → Type 0
+RowTells row = (s : Seen) (session : ℕ) (args : List Arg) → TellsSplices s (row s session args)
+
+-- and so does each row
+unfoldable pub EachSpliceIsTold : Type 0
+EachSpliceIsTold = AllByRecursion (λ (entry : List ℕ × Row). RowTells entry.1) buffer_rows

@@ -1,0 +1,10 @@
+pub mod Answering
+pub mod Texts
+pub mod TextRows
+pub mod BufferRows
+pub mod OptionRows
+pub mod Commands
+pub mod CommandRows
+pub mod Metadata
+pub mod Rows
+pub mod Laws

@@ -1,0 +1,45 @@
+-- The rows of this crate by the names of their methods.
+use Prim.Native.String.{String}
+use Rattle.std.specs.Prelude.{ℕ, List, [], ◌∷◌, codes}
+use Rattle.nv_args.specs.Reading.{Arg}
+use Rattle.nv_model.specs.Seen.{Seen}
+use Rattle.nv_model.specs.Answers.{Answer}
+use Rattle.nv_rows_buf.specs.TextRows.{nvim_buf_line_count, nvim_buf_get_changedtick, nvim_buf_get_offset, nvim_buf_get_lines, nvim_buf_set_lines, nvim_buf_get_text, nvim_buf_set_text}
+use Rattle.nv_rows_buf.specs.BufferRows.{nvim_list_bufs, nvim_get_current_buf, nvim_set_current_buf, nvim_create_buf, nvim_buf_delete, nvim_buf_is_valid, nvim_buf_get_name, nvim_buf_set_name, nvim_buf_attach, nvim_buf_detach}
+use Rattle.nv_rows_buf.specs.OptionRows.{nvim_get_option_value, nvim_set_option_value}
+use Rattle.nv_rows_buf.specs.CommandRows.{nvim_command}
+use Rattle.nv_rows_buf.specs.Metadata.{nvim_get_api_info, nvim_set_client_info}
+
+-- what a method answers to a session by what is seen of the editor, its arguments read
+abbrev pub Row : Type 0
+Row = Seen → ℕ → List Arg → Answer
+
+-- a method's name and its row
+abbrev pub row : String → Row → List ℕ × Row
+row name answer = (codes name, answer)
+
+abbrev pub buffer_rows : List (List ℕ × Row)
+buffer_rows =
+    row "nvim_get_api_info" nvim_get_api_info
+    ∷ row "nvim_set_client_info" nvim_set_client_info
+    ∷ row "nvim_command" nvim_command
+    ∷ row "nvim_get_option_value" nvim_get_option_value
+    ∷ row "nvim_set_option_value" nvim_set_option_value
+    ∷ row "nvim_list_bufs" nvim_list_bufs
+    ∷ row "nvim_get_current_buf" nvim_get_current_buf
+    ∷ row "nvim_set_current_buf" nvim_set_current_buf
+    ∷ row "nvim_create_buf" nvim_create_buf
+    ∷ row "nvim_buf_delete" nvim_buf_delete
+    ∷ row "nvim_buf_is_valid" nvim_buf_is_valid
+    ∷ row "nvim_buf_get_name" nvim_buf_get_name
+    ∷ row "nvim_buf_set_name" nvim_buf_set_name
+    ∷ row "nvim_buf_line_count" nvim_buf_line_count
+    ∷ row "nvim_buf_get_changedtick" nvim_buf_get_changedtick
+    ∷ row "nvim_buf_get_offset" nvim_buf_get_offset
+    ∷ row "nvim_buf_get_lines" nvim_buf_get_lines
+    ∷ row "nvim_buf_set_lines" nvim_buf_set_lines
+    ∷ row "nvim_buf_get_text" nvim_buf_get_text
+    ∷ row "nvim_buf_set_text" nvim_buf_set_text
+    ∷ row "nvim_buf_attach" nvim_buf_attach
+    ∷ row "nvim_buf_detach" nvim_buf_detach
+    ∷ []

@@ -1,0 +1,51 @@
+-- Highlight groups as calls name them (help: highlight-groups, nvim_set_hl()).
+use Rattle.std.specs.Prelude.{ℕ, Bool, true, false, not, ◌&&◌, nat_le, List, [], ◌∷◌, length, codes, bytes_eq, Option, Some, None, is_some, unwrap_or, if◌then◌else◌}
+use Rattle.std.specs.List.{list_any}
+use Rattle.nv_value.specs.Content.{Tree}
+use Rattle.nv_value.specs.declared.fault.ApiFault.{ApiFault}
+use Rattle.nv_args.specs.Faults.{invalid_value}
+use Rattle.nv_args.specs.Arguments.{string_in, first_key}
+use Rattle.nv_args.specs.Maps.{Key, known, takes_value, unknown_key, missing_key, or_else}
+use Rattle.nv_hl.specs.Groups.{NamedGroup, known_id, with_named, empty_group}
+use Rattle.nv_model.specs.Changes.{Change, group_made}
+
+-- the length of a group's name: 1 to 200 bytes (own rule)
+abbrev pub is_group_name : List ℕ → Bool
+is_group_name name = nat_le 1 (length name) && nat_le (length name) 200
+
+-- a value that is no string, or the name of a group
+abbrev pub names_group : Option (List ℕ) → Bool
+names_group None = true
+names_group (Some name) = is_group_name name
+
+-- the fault of a name that is none
+abbrev pub misnamed : ApiFault
+misnamed = invalid_value (codes "name")
+
+-- whether a pair's key is one of these names
+abbrev pub is_one_of : List (List ℕ) → Option (List ℕ) → Bool
+is_one_of names None = false
+is_one_of names (Some name) = list_any (bytes_eq name) names
+
+-- the fault of the first pair whose value its key doesn't take, or that names a group, where its key does, by a name that is none
+abbrev pub wrong_value_of : List (List ℕ) → List Key → List (Tree × Tree) → Option ApiFault
+wrong_value_of naming keys [] = None
+wrong_value_of naming keys (pair ∷ pairs) =
+    if not (takes_value (known keys (string_in pair.0)) pair.1) then Some (invalid_value (first_key (pair ∷ pairs)))
+    else if is_one_of naming (string_in pair.0) && not (names_group (string_in pair.1)) then Some misnamed
+    else wrong_value_of naming keys pairs
+
+-- the fault of a Dict with keys of which some name a group
+abbrev pub naming_fault : List (List ℕ) → List Key → List (Tree × Tree) → Option ApiFault
+naming_fault naming keys pairs = or_else (unknown_key keys pairs) (or_else (wrong_value_of naming keys pairs) (missing_key keys pairs))
+
+-- what is changed where a group of this name is wanted: an unknown one is made empty
+abbrev pub makes_group : List NamedGroup → List ℕ → List Change
+makes_group groups name = if is_some (known_id groups name) then [] else group_made name ∷ []
+
+-- the groups once there is one of this name, and its id
+abbrev pub groups_with : List NamedGroup → List ℕ → List NamedGroup
+groups_with groups name = with_named groups (empty_group name)
+
+abbrev pub id_among : List NamedGroup → List ℕ → ℕ
+id_among groups name = unwrap_or (known_id (groups_with groups name) name) 0

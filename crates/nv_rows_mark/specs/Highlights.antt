@@ -1,0 +1,125 @@
+-- Attributes of groups as calls give them (help: nvim_set_hl(), nvim_get_hl()).
+use Rattle.std.specs.Prelude.{ℕ, ℤ, ◌==◌, Bool, true, false, ◌&&◌, List, [], ◌∷◌, ◌++◌, length, codes, bytes_eq, drop, take, Option, Some, None, is_some, option_map, option_and_then, if◌then◌else◌}
+use Rattle.std.specs.Char.{is_ascii_hexdigit}
+use Rattle.std.specs.List.{list_all}
+use Rattle.std.specs.Str.Parse.{digits_value}
+use Rattle.nv_value.specs.Content.{Tree, truth, text}
+use Rattle.nv_args.specs.Arguments.{integer_in, string_in}
+use Rattle.nv_args.specs.Maps.{Key, value_of}
+use Rattle.nv_hl.specs.Groups.{NamedGroup, name_at}
+use Rattle.nv_hl.specs.declared.attribute.Attr.{Attr}
+use Rattle.nv_hl.specs.declared.linking.Group.{Group}
+use Rattle.nv_hl.specs.declared.linking.Group.TheVariants.{Plain, Link}
+use Rattle.nv_rows_buf.specs.Metadata.{number, entry}
+use Rattle.nv_rows_mark.specs.Setting.{between, flag_or, optional, takes_flag}
+
+-- a colour by six hexadecimal digits behind a number sign
+abbrev pub colour_of_digits : List ℕ → Option ℕ
+colour_of_digits digits = if length digits == 6 && list_all is_ascii_hexdigit digits then Some (digits_value 16 digits) else None
+
+-- a colour by its words: none of its own, or its digits
+abbrev pub colour_in_words : List ℕ → Option (Option ℕ)
+colour_in_words words =
+    if bytes_eq words (codes "NONE") then Some None
+    else if bytes_eq (take 1 words) (codes "#") then option_map Some (colour_of_digits (drop 1 words))
+    else None
+
+-- a colour as a value: as words, or as a number
+abbrev pub colour_by : Option (List ℕ) → Option ℤ → Option (Option ℕ)
+colour_by (Some words) given = colour_in_words words
+colour_by None (Some n) = option_map Some (between 0 16777215 n)
+colour_by None None = None
+
+abbrev pub colour_in : Tree → Option (Option ℕ)
+colour_in t = colour_by (string_in t) (integer_in t)
+
+-- a terminal's colour
+abbrev pub terminal_colour_in : Tree → Option ℕ
+terminal_colour_in t = option_and_then (between 0 255) (integer_in t)
+
+-- values that a key takes
+abbrev takes_colour : Tree → Bool
+takes_colour t = is_some (colour_in t)
+
+abbrev takes_terminal_colour : Tree → Bool
+takes_terminal_colour t = is_some (terminal_colour_in t)
+
+abbrev takes_string : Tree → Bool
+takes_string t = is_some (string_in t)
+
+-- the keys
+abbrev pub highlight_keys : List Key
+highlight_keys =
+    optional (codes "fg") takes_colour
+    ∷ optional (codes "bg") takes_colour
+    ∷ optional (codes "sp") takes_colour
+    ∷ optional (codes "ctermfg") takes_terminal_colour
+    ∷ optional (codes "ctermbg") takes_terminal_colour
+    ∷ optional (codes "reverse") takes_flag
+    ∷ optional (codes "italic") takes_flag
+    ∷ optional (codes "bold") takes_flag
+    ∷ optional (codes "underline") takes_flag
+    ∷ optional (codes "undercurl") takes_flag
+    ∷ optional (codes "strikethrough") takes_flag
+    ∷ optional (codes "link") takes_string
+    ∷ optional (codes "default") takes_flag
+    ∷ []
+
+-- the key that names a group
+abbrev pub linking_keys : List (List ℕ)
+linking_keys = codes "link" ∷ []
+
+-- a colour by its key among pairs that count
+abbrev pub colour_at : List ℕ → List (Tree × Tree) → Option ℕ
+colour_at name pairs = option_and_then (λ colour. colour) (option_and_then colour_in (value_of name pairs))
+
+abbrev pub terminal_colour_at : List ℕ → List (Tree × Tree) → Option ℕ
+terminal_colour_at name pairs = option_and_then terminal_colour_in (value_of name pairs)
+
+-- the attribute that pairs that count give
+abbrev pub attr_in : List (Tree × Tree) → Attr
+attr_in pairs = record {
+  fg = colour_at (codes "fg") pairs;
+  bg = colour_at (codes "bg") pairs;
+  sp = colour_at (codes "sp") pairs;
+  ctermfg = terminal_colour_at (codes "ctermfg") pairs;
+  ctermbg = terminal_colour_at (codes "ctermbg") pairs;
+  reverse = flag_or false (codes "reverse") pairs;
+  italic = flag_or false (codes "italic") pairs;
+  bold = flag_or false (codes "bold") pairs;
+  underline = flag_or false (codes "underline") pairs;
+  undercurl = flag_or false (codes "undercurl") pairs;
+  strikethrough = flag_or false (codes "strikethrough") pairs;
+}
+
+-- what is told of a colour where there is one, and of a flag where it is set
+abbrev pub told_colour : Tree × Tree → Option ℕ → List (Tree × Tree)
+told_colour key None = []
+told_colour key (Some colour) = (key.0, number colour) ∷ []
+
+abbrev pub told_flag : Tree × Tree → Bool → List (Tree × Tree)
+told_flag key set = if set then key ∷ [] else []
+
+abbrev set : Tree
+set = truth true
+
+-- an attribute as it is told, its keys in their order
+abbrev pub attr_told : Attr → List (Tree × Tree)
+attr_told attr =
+    told_colour (entry "fg" set) attr.fg
+    ++ (told_colour (entry "bg" set) attr.bg
+    ++ (told_colour (entry "sp" set) attr.sp
+    ++ (told_colour (entry "ctermfg" set) attr.ctermfg
+    ++ (told_colour (entry "ctermbg" set) attr.ctermbg
+    ++ (told_flag (entry "reverse" set) attr.reverse
+    ++ (told_flag (entry "italic" set) attr.italic
+    ++ (told_flag (entry "bold" set) attr.bold
+    ++ (told_flag (entry "underline" set) attr.underline
+    ++ (told_flag (entry "undercurl" set) attr.undercurl
+    ++ told_flag (entry "strikethrough" set) attr.strikethrough)))))))))
+
+-- a group as it is told: the name that it links to, or its attribute
+abbrev pub group_told : List NamedGroup → Option Group → List (Tree × Tree)
+group_told groups None = []
+group_told groups (Some (Plain attr)) = attr_told attr
+group_told groups (Some (Link id)) = entry "link" (text (name_at groups id)) ∷ []

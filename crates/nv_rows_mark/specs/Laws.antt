@@ -1,0 +1,10 @@
+-- A law of the rows on marks and groups.
+use Rattle.std.specs.Prelude.{ℕ, List}
+use Rattle.std.specs.List.{AllByRecursion}
+use Rattle.nv_rows_buf.specs.Rows.{Row}
+use Rattle.nv_rows_buf.specs.Laws.{RowTells}
+use Rattle.nv_rows_mark.specs.Rows.{mark_rows}
+
+-- no row makes a splice, and none tells of one
+abbrev pub NoSpliceIsTold : Type 0
+NoSpliceIsTold = AllByRecursion (λ (entry : List ℕ × Row). RowTells entry.1) mark_rows

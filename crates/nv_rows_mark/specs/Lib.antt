@@ -1,0 +1,9 @@
+pub mod Namespaces
+pub mod Groups
+pub mod Setting
+pub mod MarkRows
+pub mod Listing
+pub mod Highlights
+pub mod GroupRows
+pub mod Rows
+pub mod Laws
