@@ -1,0 +1,10 @@
+pub mod Places
+pub mod Events
+pub mod Trees
+pub mod Buffers
+pub mod Windows
+pub mod Editors
+pub mod Answers
+pub mod Views
+pub mod Calls
+pub mod Options
