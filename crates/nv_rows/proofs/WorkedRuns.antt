@@ -1,11 +1,12 @@
 -- Worked examples, computed by the definitions.
 use Rattle.std.proofs.Common.{refl}
 use Rattle.std.specs.Fmt.{digits}
+use Rattle.nv_msgpack.specs.Shortest.{unsigned_spelling}
 use Rattle.nv_model.specs.Buffers.{text_of, offset_of, marks_of}
 use Rattle.nv_rows.specs.Worked.{EmptyText, IndexBounds, StartAboveEnd, TextPlaces, UndoBranches, SecondBuffer, NotModifiable, FaultTexts, CallsInOne}
 
 pub empty_text : EmptyText
-unfolding EmptyText text_of offset_of marks_of
+unfolding EmptyText unsigned_spelling text_of offset_of marks_of
 empty_text = refl
 
 pub index_bounds : IndexBounds

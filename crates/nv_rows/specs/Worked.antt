@@ -1,7 +1,7 @@
 -- Worked examples: what calls of one session to a fresh editor answer, computed by the definitions.
 use Prim.Native.String.{String}
 use Rattle.std.specs.Prelude.{◌≡◌, ℕ, pos, negsuc, true, false, List, [], ◌∷◌, codes, Result, Ok, Err}
-use Rattle.nv_value.specs.Content.{Tree, nil, truth, integer, text, list, pairs, no_more, trees_of, in_turn}
+use Rattle.nv_value.specs.Content.{Tree, nil, truth, integer, text, ext, list, pairs, no_more, trees_of, in_turn}
 use Rattle.nv_value.specs.declared.fault.ApiFault.{ApiFault}
 use Rattle.nv_rpc.specs.Messages.{buffer_handle}
 use Rattle.nv_args.specs.Faults.{invalid_key, out_of_bounds, start_after_end, not_modifiable, name_in_use, unsaved_changes}
@@ -49,7 +49,9 @@ commands words = asks "nvim_command" (string words ∷ [])
 
 -- all lines replaced by none leave one empty line
 unfoldable pub EmptyText : Type 0
-EmptyText = results_of (puts_all [] ∷ gets_all ∷ gets_tick ∷ []) ≡ gives nil ∷ gives (array (string "" ∷ [])) ∷ gives (int 3) ∷ []
+EmptyText =
+    results_of (puts_all [] ∷ gets_all ∷ gets_tick ∷ asks "nvim_get_current_win" [] ∷ [])
+    ≡ gives nil ∷ gives (array (string "" ∷ [])) ∷ gives (int 3) ∷ gives (ext (pos 1) (205 ∷ 3 ∷ 232 ∷ [])) ∷ []
 
 -- an index outside the text is refused where it is strict, and else the nearest one is meant
 unfoldable pub IndexBounds : Type 0
