@@ -9,7 +9,7 @@ use Rattle.nv_args.specs.Arguments.{listed, require, and_then}
 use Rattle.nv_args.specs.Faults.{wrong_type}
 use Rattle.nv_args.specs.Table.{Signature, method_named}
 use Rattle.nv_args.specs.Reading.{Arg, list as list_arg, read, checked, values_at, is_call}
-use Rattle.nv_model.specs.Buffers.{Splice, applied, events_of}
+use Rattle.nv_model.specs.Buffers.{tick_of, Splice, applied, events_of}
 use Rattle.nv_model.specs.Editors.{ModelEditor, handles_of}
 use Rattle.nv_model.specs.Seen.{Seen, seen_of}
 use Rattle.nv_model.specs.Changes.{Change, sealed_in, after, after_all}
@@ -18,13 +18,14 @@ use Rattle.nv_model.specs.Laws.{splices_in, splices_among}
 use Rattle.nv_rows_buf.specs.Answering.{array_of}
 use Rattle.nv_rows_buf.specs.Rows.{Row, buffer_rows}
 use Rattle.nv_rows_buf.specs.Laws.{TellsSplices, RowTells, EachSpliceIsTold, edits_in, edits_among, text_seen, tick_seen}
+use Rattle.nv_model.proofs.Texts.{changes_make_texts}
 use Rattle.nv_rows_buf.proofs.RowsTell.{each_splice_is_told}
 use Rattle.nv_rows_mark.specs.Rows.{mark_rows}
 use Rattle.nv_rows_mark.proofs.RowsTell.{no_splice_is_told as marks_tell}
 use Rattle.nv_rows_win.specs.Rows.{window_rows}
 use Rattle.nv_rows_win.proofs.RowsTell.{no_splice_is_told as windows_tell}
-use Rattle.nv_rows.specs.Calls.{Outcome, Batch, all_rows, row_of, left, comes_to, answer_read, made_by, made, first_string, values_in, second_values, made_of, in_front, then_others, made_all, of_batch, atomic_read, atomic_name, nvim_call_atomic, called, closing, closed_by, told_stop}
-use Rattle.nv_rows.specs.Laws.{NamesStandOnce, RowsStandInTable, RefusedLeavesAll, EachSpliceIsOneFact, IsFirst, OneByOne, atomic, ComesTo, AtomicIsOneByOne, AtomicStops}
+use Rattle.nv_rows.specs.Calls.{Outcome, Batch, all_rows, row_of, left, comes_to, answer_read, made_by, made, first_string, values_in, second_values, made_of, in_front, then_others, made_all, of_batch, atomic_read, atomic_name, nvim_call_atomic, called, closing, closed_by, told_stop, call}
+use Rattle.nv_rows.specs.Laws.{NamesStandOnce, RowsStandInTable, RefusedLeavesAll, EachSpliceIsOneFact, TicksCountFacts, IsFirst, OneByOne, atomic, ComesTo, AtomicIsOneByOne, AtomicStops}
 
 -- ---- the table
 
@@ -190,10 +191,19 @@ counts_closed n m o (Ok t) c =
     ∙ sym (ap length (flat_map-append (splices_in n) o.changes (closing (left m o)) ∙ ap (λ (ss : List Splice). splices_among n o.changes ++ ss) (none_sealed n (handles_of (left m o).buffers)) ∙ append-nil (splices_among n o.changes)))
 counts_closed n m o (Err f) c = c
 
+counts_whole : (n : ℤ) (m : ModelEditor) (session : ℕ) (name : List ℕ) (given : List Tree) → OutcomeCounts n (call m session name given)
+counts_whole n m session name given =
+    counts_closed n m (called m session name given) (called m session name given).result (counts_called n m session name given)
+
 pub each_splice_is_one_fact : EachSpliceIsOneFact
 unfolding EachSpliceIsOneFact
-each_splice_is_one_fact m session name given n =
-    counts_closed n m (called m session name given) (called m session name given).result (counts_called n m session name given)
+each_splice_is_one_fact m session name given n = counts_whole n m session name given
+
+pub ticks_count_facts : TicksCountFacts
+unfolding TicksCountFacts
+ticks_count_facts m session name given n numbered b later before after =
+    (changes_make_texts (call m session name given).changes m n numbered b later before after).tick
+    ∙ ap (λ (k : ℕ). tick_of b + k) (sym (counts_whole n m session name given))
 
 -- ---- calls in one
 

@@ -1,14 +1,15 @@
 -- Laws of calls.
-use Rattle.std.specs.Prelude.{◌≡◌, ℕ, ℤ, List, [], ◌∷◌, ◌++◌, length, map, Some, is_some, IsTrue, Result, Ok, Err}
+use Rattle.std.specs.Prelude.{◌≡◌, ℕ, ℤ, List, [], ◌∷◌, ◌++◌, ◌+◌, length, map, Some, is_some, IsTrue, Result, Ok, Err}
 use Rattle.std.specs.List.{list_all, range_with_len}
 use Rattle.nv_value.specs.Content.{Tree, nil, list, trees_of}
 use Rattle.nv_value.specs.declared.fault.ApiFault.{ApiFault}
 use Rattle.nv_args.specs.Table.{table, method_named, place_of}
 use Rattle.nv_args.specs.Reading.{is_call}
+use Rattle.nv_model.specs.Buffers.{tick_of}
 use Rattle.nv_model.specs.Editors.{ModelEditor}
 use Rattle.nv_model.specs.Changes.{Change, after_all}
 use Rattle.nv_model.specs.Answers.{Fact}
-use Rattle.nv_model.specs.Laws.{splices_among}
+use Rattle.nv_model.specs.Laws.{IsNumbered, OfBuffer, splices_among}
 use Rattle.nv_rows_buf.specs.Answering.{array_of}
 use Rattle.nv_rows_buf.specs.Laws.{edits_among}
 use Rattle.nv_rows.specs.Calls.{Outcome, all_rows, left, made_of, atomic_name, called, call, told_stop}
@@ -33,6 +34,12 @@ unfoldable pub EachSpliceIsOneFact : Type 0
 EachSpliceIsOneFact =
     (m : ModelEditor) (session : ℕ) (name : List ℕ) (given : List Tree) (n : ℤ)
     → length (edits_among n (call m session name given).facts) ≡ length (splices_among n (call m session name given).changes)
+
+-- so the changedtick of a buffer that stays rises by the number of facts that tell of its splices
+unfoldable pub TicksCountFacts : Type 0
+TicksCountFacts =
+    (m : ModelEditor) (session : ℕ) (name : List ℕ) (given : List Tree) (n : ℤ) → IsNumbered m
+    → OfBuffer (λ b later. tick_of later ≡ tick_of b + length (edits_among n (call m session name given).facts)) n m (left m (call m session name given))
 
 -- a call that succeeds, and what follows it in the editor that it leaves
 pub record IsFirst (o : Outcome) (others : List Tree → List Change → List Fact → Type 0) (results : List Tree) (changes : List Change) (facts : List Fact) : Type 0 where

@@ -1,6 +1,6 @@
 //! Laws of calls, each the contract of a function that does nothing.
 
-ghost use Rattle.nv_rows.specs.Laws.{AtomicIsOneByOne, AtomicStops, EachSpliceIsOneFact, NamesStandOnce, RefusedLeavesAll, RowsStandInTable};
+ghost use Rattle.nv_rows.specs.Laws.{AtomicIsOneByOne, AtomicStops, EachSpliceIsOneFact, NamesStandOnce, RefusedLeavesAll, RowsStandInTable, TicksCountFacts};
 ghost use Rattle.nv_rows.specs.WorkedMarks.{MarksMove, MarksPastEnd, MarksReverse, MarkDetails, MarkFaults, Namespaces, HighlightGroups};
 ghost use Rattle.nv_rows.specs.WorkedWindows.{SplitRight, WidthWish, CloseSplit, TabNewClose, CursorMoves, OpeningFaults};
 ghost use Rattle.nv_rows.specs.Worked.{EmptyText, IndexBounds, StartAboveEnd, TextPlaces, UndoBranches, SecondBuffer, NotModifiable, FaultTexts, CallsInOne};
@@ -45,10 +45,12 @@ pub fn table_laws()
     ensures rows { RowsStandInTable }
 {}
 
-/// A refused call leaves the editor as it was and tells nothing; and each splice that a call makes is one fact.
+/// A refused call leaves the editor as it was and tells nothing; each splice that a call makes is one fact, and raises the
+/// changedtick of its buffer by one.
 pub fn call_laws()
     ensures refused { RefusedLeavesAll }
     ensures facts { EachSpliceIsOneFact }
+    ensures ticks { TicksCountFacts }
 {}
 
 /// Calls in one are those calls one after another, up to the first that is refused.
