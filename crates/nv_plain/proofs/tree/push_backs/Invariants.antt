@@ -1,7 +1,0 @@
-use Rattle.std.proofs.Common.{◌≡◌, ◌++◌, take, map, ℕ}
-use Rattle.nv_undo.specs.declared.legs.Leg.TheVariants.{Back}
-use Rattle.nv_plain.proofs.tree.push_backs.Given as goal
-
--- the legs so far
-abbrev pub invariant-loop-change : goal.invariant-loop-change
-invariant-loop-change l = l.into.items ≡ l.fn.into.items ++ map (λ (n : ℕ). Back n) (take l.change-index l.changes)
