@@ -7,7 +7,7 @@ use Rattle.std.proofs.Math.Seq.{take-append-add}
 use Rattle.std.specs.List.{splice}
 use Rattle.nv_places.specs.Flat.{flat, IsLine}
 use Rattle.nv_places.specs.Places.{IsPlaceIn, offset_of, row_count, col_count, end_of, extent_of, further, is_before, place_of}
-use Rattle.nv_places.specs.Moves.{moved_offset, moved_place, carried}
+use Rattle.nv_places.specs.Moves.{moved_offset, moved_place, carried_place}
 use Rattle.nv_places.specs.declared.place.Pos.{Pos}
 use Rattle.nv_places.specs.declared.place.Extent.{Extent}
 use Rattle.nv_places.proofs.PlaceLemmas.{place-offset, offset-place, end_of-append}
@@ -20,21 +20,21 @@ pub not_before : (p : Pos) (e : Extent) → is_before (further p e) p ≡ false
 not_before p e = grind (arith, nat_tests)
 
 -- what stands an extent behind the old end stands that extent behind the new one
-pub carried-further : (old new : Pos) (e : Extent) → carried old new (further old e) ≡ further new e
-carried-further old new e = elim (eqb_tells e.rows 0) [
+pub carried_place-further : (old new : Pos) (e : Extent) → carried_place old new (further old e) ≡ further new e
+carried_place-further old new e = elim (eqb_tells e.rows 0) [
   | inl one_row ↦ in_one_row e.rows e.cols one_row.0
   | inr more ↦ in_more e.rows e.cols more.0 more.1
 ]
   where
     in_one_row : (rows cols : ℕ) → eqb rows 0 ≡ true
-        → carried old new (further old (record { rows = rows; cols = cols })) ≡ further new (record { rows = rows; cols = cols })
+        → carried_place old new (further old (record { rows = rows; cols = cols })) ≡ further new (record { rows = rows; cols = cols })
     in_one_row rows cols is =
         let here : eqb old.row old.row ≡ true = grind (arith, nat_tests) in
         let same : old.col + cols - old.col + new.col ≡ new.col + cols = omega arith in
         rw is (rw here (rw same refl))
 
     in_more : (rows cols : ℕ) → eqb rows 0 ≡ false → rows ≢ 0
-        → carried old new (further old (record { rows = rows; cols = cols })) ≡ further new (record { rows = rows; cols = cols })
+        → carried_place old new (further old (record { rows = rows; cols = cols })) ≡ further new (record { rows = rows; cols = cols })
     in_more rows cols is some =
         let below : eqb (old.row + rows) old.row ≡ false = grind (arith, nat_tests) in
         let same : old.row + rows - old.row + new.row ≡ new.row + rows = omega arith in
@@ -65,7 +65,7 @@ moved-before right start old new p before = rw before refl
 
 moved-behind : (right : Bool) (start : Pos) (old new : Extent) (p : Pos) → is_before p start ≡ false
     → is_before (further start old) p ≡ true
-    → moved_place right start old new p ≡ carried (further start old) (further start new) p
+    → moved_place right start old new p ≡ carried_place (further start old) (further start new) p
 moved-behind right start old new p not_yet behind = rw (not_yet, behind) refl
 
 moved-inside : (right : Bool) (start : Pos) (old new : Extent) (p : Pos) → is_before p start ≡ false
@@ -102,8 +102,8 @@ agrees_behind a old new right c x =
     (before_further (further (end_of a) (extent_of old)) (extent_of (c ∷ x)) (reaches c x)) in
     end_of-append (a ++ new) (c ∷ x)
     ∙ ap (λ (q : Pos). further q (extent_of (c ∷ x))) new_end
-    ∙ sym (carried-further (further (end_of a) (extent_of old)) (further (end_of a) (extent_of new)) (extent_of (c ∷ x)))
-    ∙ sym (ap (λ (q : Pos). carried (further (end_of a) (extent_of old)) (further (end_of a) (extent_of new)) q) far)
+    ∙ sym (carried_place-further (further (end_of a) (extent_of old)) (further (end_of a) (extent_of new)) (extent_of (c ∷ x)))
+    ∙ sym (ap (λ (q : Pos). carried_place (further (end_of a) (extent_of old)) (further (end_of a) (extent_of new)) q) far)
     ∙ sym (moved-behind right (end_of a) (extent_of old) (extent_of new) p not_yet behind)
 
 -- and one in old, after its front

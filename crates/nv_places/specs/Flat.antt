@@ -1,7 +1,8 @@
 -- The flat text of a buffer: what a list of lines means as one list of bytes.
 use Rattle.std.specs.Prelude.{◌≢◌, ℕ, ◌==◌, if◌then◌else◌, List, [], ◌∷◌, ◌++◌, length, take, slice_index_or, All}
 
--- each line followed by the byte 10, one line after another (own rule: the last line has its byte too)
+-- each line followed by the byte 10, one line after another (own rule: the last line has its byte
+-- too)
 abbrev pub flat : List (List ℕ) → List ℕ
 flat [] = []
 flat (line ∷ lines) = line ++ 10 ∷ flat lines

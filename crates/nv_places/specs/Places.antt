@@ -30,14 +30,16 @@ place_of text offset = end_of (take offset text)
 abbrev pub offset_of : List (List ℕ) → Pos → ℕ
 offset_of lines p = row_start lines p.row + p.col
 
--- a place of a text: in one of its rows, up to the end of the line, or at the end of it all (help: nvim_buf_set_extmark())
+-- a place of a text: in one of its rows, up to the end of the line, or at the end of it all (help:
+-- nvim_buf_set_extmark())
 pub record IsPlaceIn (lines : List (List ℕ)) (p : Pos) : Type 0 where
   pub row : p.row ≤ length lines
   pub col : p.col ≤ length (line_at lines p.row)
 
 -- the place that lies an extent after a place
 abbrev pub further : Pos → Extent → Pos
-further p e = if e.rows == 0 then record { row = p.row; col = p.col + e.cols } else record { row = p.row + e.rows; col = e.cols }
+further p e = if e.rows == 0 then record { row = p.row; col = p.col + e.cols }
+    else record { row = p.row + e.rows; col = e.cols }
 
 -- a place lies before another: in an earlier row, or earlier in the same row
 abbrev pub is_before : Pos → Pos → Bool

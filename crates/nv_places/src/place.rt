@@ -1,6 +1,6 @@
 //! A place, an extent, and their arithmetic.
 
-ghost use Rattle.nv_places.specs.Moves.{carried, moved_place};
+ghost use Rattle.nv_places.specs.Moves.{carried_place, moved_place};
 ghost use Rattle.nv_places.specs.Places.{IsNarrow, further, is_before};
 ghost use Rattle.std.specs.Prelude.{◌≡◌, true};
 
@@ -44,10 +44,12 @@ impl Pos {
         self.row < other.row || self.row == other.row && self.col < other.col
     }
 
-    /// Where this place stands after the extent `old` from `start` on was replaced by the extent `new`.
+    /// Where this place stands after the extent `old` from `start` on was replaced by the extent
+    /// `new`.
     ///
-    /// A place before the replaced part stays, one behind it moves along with what follows. One in it, either end
-    /// included, goes to the end of the new part if `right` is set, and to its start if not (help: api-extended-marks).
+    /// A place before the replaced part stays, one behind it moves along with what follows. One in
+    /// it, either end included, goes to the end of the new part if `right` is set, and to its start
+    /// if not (help: api-extended-marks).
     pub fn moved(self, right: bool, start: Pos, old: Extent, new: Extent) -> Pos
         requires old_end { IsNarrow (further start old) }
         requires new_end { IsNarrow (further start new) }
@@ -70,8 +72,8 @@ impl Pos {
     /// Where this place, behind `old`, stands once `old` has moved to `new`.
     fn carried(self, old: Pos, new: Pos) -> Pos
         requires behind { is_before old self ≡ true }
-        requires narrow { IsNarrow (carried old new self) }
-        ensures { result ≡ carried old new self }
+        requires narrow { IsNarrow (carried_place old new self) }
+        ensures { result ≡ carried_place old new self }
     {
         if self.row == old.row {
             Pos {
@@ -106,7 +108,8 @@ mod tests {
 
     #[test]
     fn places_move(rt: HostRuntime) -> Result<(), Fail> {
-        // Two bytes put at column 3 of a line: left gravity stays there, right gravity goes behind them.
+        // Two bytes put at column 3 of a line: left gravity stays there, right gravity goes behind
+        // them.
         assert_eq!(rt;
             at(0, 3).moved(false, at(0, 3), by(0, 0), by(0, 2)),
             at(0, 3)
