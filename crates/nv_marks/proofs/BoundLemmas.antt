@@ -9,7 +9,7 @@ use Rattle.nv_marks.specs.Order.{IsInOrder}
 use Rattle.nv_places.specs.declared.place.Pos.{Pos}
 use Rattle.nv_places.specs.declared.place.Extent.{Extent}
 use Rattle.nv_places.specs.Places.{IsNarrow, further, is_before}
-use Rattle.nv_places.specs.Moves.{moved_place, carried}
+use Rattle.nv_places.specs.Moves.{moved_place, carried_place}
 use Rattle.nv_marks.specs.Moves.{moved_mark, moved_far, MovesNarrowly}
 use Rattle.nv_marks.specs.Bounds.{IsPosBelow, IsBelow, IsSpliceBelow}
 use Rattle.nv_marks.specs.declared.extmark.Mark.{Mark}
@@ -19,7 +19,7 @@ further_below : (bound : ℕ) (p : Pos) (e : Extent) → p.row < bound → p.col
     → IsPosBelow (2 * bound) (further p e)
 further_below bound p e row col rows cols = (grind (arith, nat_tests), grind (arith, nat_tests))
 
-carried_below : (bound : ℕ) (old new p : Pos) → IsPosBelow bound p → IsPosBelow (2 * bound) new → IsPosBelow (3 * bound) (carried old new p)
+carried_below : (bound : ℕ) (old new p : Pos) → IsPosBelow bound p → IsPosBelow (2 * bound) new → IsPosBelow (3 * bound) (carried_place old new p)
 carried_below bound old new p small there = (grind (arith, nat_tests), grind (arith, nat_tests))
 
 moved_below : (bound : ℕ) (right : Bool) (start : Pos) (old new : Extent) (p : Pos) → IsSpliceBelow bound start old new
@@ -30,12 +30,12 @@ moved_below bound right start old new p within small =
     new_end : IsPosBelow (2 * bound) (further start new)
     new_end = further_below bound start new within.start_row within.start_col within.new_rows within.new_cols
 
-    behind : IsPosBelow (3 * bound) (carried (further start old) (further start new) p)
+    behind : IsPosBelow (3 * bound) (carried_place (further start old) (further start new) p)
     behind = carried_below bound (further start old) (further start new) p small new_end
 
     by_cases : (before after right : Bool)
         → IsPosBelow (3 * bound)
-        (cond before p (cond after (carried (further start old) (further start new) p) (cond right (further start new) start)))
+        (cond before p (cond after (carried_place (further start old) (further start new) p) (cond right (further start new) start)))
     by_cases true after right = (omega arith, omega arith)
     by_cases false true right = behind
     by_cases false false true = (omega (arith, new_end.0), omega (arith, new_end.1))
