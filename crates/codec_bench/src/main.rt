@@ -1,8 +1,10 @@
-//! Decodes and encodes the MessagePack values on standard input: what bench/run.py measures and clients/codec.py compares.
+//! Decodes and encodes the MessagePack values on standard input: what bench/run.py measures and
+//! clients/codec.py compares.
 //!
-//! The arguments are `decode` or `encode` and the number of times. To encode, the values are decoded once. What is printed
-//! is the number of values, and of the bytes that they are encoded to. With the word `copy` the values are written to
-//! standard output, each in its shortest spelling.
+//! The arguments are `decode` or `encode` and the number of times. To encode, the values are
+//! decoded once. What is printed is the number of values, and of the bytes that they are encoded
+//! to. With the word `copy` the values are written to standard output, each in its shortest
+//! spelling.
 #![tactic(auto)]
 
 ghost use Rattle.std.specs.Prelude.{IfOk};

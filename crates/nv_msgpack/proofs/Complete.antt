@@ -3,8 +3,8 @@ use Rattle.std.proofs.Common.{◌≡◌, ℕ, ◌+◌, ◌-◌, ◌<◌, ◌≤�
 use Rattle.std.proofs.lemmas.List.{append_assoc, take_at, drop_at}
 use Rattle.std.proofs.lemmas.Bool.Decides.{nat_tests}
 use Rattle.nv_value.specs.Content.{Tree, Trees, no_more, one, count}
-use Rattle.nv_msgpack.specs.Spelling.{Size, Raw, Many, Form, unused, alone, raw, many, form, width, number_in, extra, made, values, gathered, SpelledBy, SpelledWith, Each, SpellsIn}
-use Rattle.nv_msgpack.specs.Reading.{Reading, whole, Inside, none, some, mapped, after, chained, items_at, raw_at, many_at, read_by, read_with, value_at}
+use Rattle.nv_msgpack.specs.Spelling.{Size, Raw, Many, Form, unused, alone, raw, many, form, width, number_in, extra, raw_value, values, many_value, SpelledBy, SpelledWith, Each, SpellsIn}
+use Rattle.nv_msgpack.specs.Reading.{Reading, whole, Inside, none, some, map_reading, after, reading_then, items_at, raw_at, many_at, read_by, read_with, value_at}
 use Rattle.nv_msgpack.proofs.Lengths.{number_in-front}
 
 -- what S spells is read
@@ -23,15 +23,15 @@ ReadsInside I none = (ts : Trees) (bytes : List ℕ) → I ts bytes → ⊥
 ReadsInside I (some read) = HasBytes I × ReadsAllItems I read
 
 raw_at-whole : (r : Raw) (s : Size) (room : ℕ) (rest bytes : List ℕ) (n : ℕ) → number_in s rest ≡ n → 1 + width s + (n + extra r) ≤ room → width s + (n + extra r) ≤ length rest
-    → take (n + extra r) (drop (width s) rest) ≡ bytes → raw_at r s room rest ≡ whole (made r bytes) (1 + width s + (n + extra r))
+    → take (n + extra r) (drop (width s) rest) ≡ bytes → raw_at r s room rest ≡ whole (raw_value r bytes) (1 + width s + (n + extra r))
 raw_at-whole r s room rest bytes n e h l t =
-    subst (λ (x : ℕ). raw_at r s room rest ≡ whole (made r bytes) (1 + width s + (x + extra r))) e
+    subst (λ (x : ℕ). raw_at r s room rest ≡ whole (raw_value r bytes) (1 + width s + (x + extra r))) e
     (let u : take (number_in s rest + extra r) (drop (width s) rest) ≡ bytes = (ap (λ (x : ℕ). take (x + extra r) (drop (width s) rest)) e) ∙ t in
     let h2 : 1 + width s + (number_in s rest + extra r) ≤ room = omega arith in
     let l2 : width s + (number_in s rest + extra r) ≤ length rest = omega arith in
     rw u (grind (arith, nat_tests)))
 
-raw_reads : (r : Raw) (s : Size) (t : Tree) (rest tail : List ℕ) (room : ℕ) (size bytes : List ℕ) → length size ≡ width s → length bytes ≡ number_in s size + extra r → rest ≡ size ++ bytes → t ≡ made r bytes
+raw_reads : (r : Raw) (s : Size) (t : Tree) (rest tail : List ℕ) (room : ℕ) (size bytes : List ℕ) → length size ≡ width s → length bytes ≡ number_in s size + extra r → rest ≡ size ++ bytes → t ≡ raw_value r bytes
     → suc (length rest) ≤ room → raw_at r s room (rest ++ tail) ≡ whole t (suc (length rest))
 raw_reads r s t rest tail room size bytes a b c d h =
     let regrouped : rest ++ tail ≡ size ++ (bytes ++ tail) = ap (λ (l : List ℕ). l ++ tail) c ∙ append_assoc size bytes tail in
@@ -44,17 +44,17 @@ raw_reads r s t rest tail room size bytes a b c d h =
     ∙ take_at bytes tail (number_in s size + extra r) b in
     let sum : 1 + width s + (number_in s size + extra r) ≡ suc (length rest) = omega arith in
     raw_at-whole r s room (rest ++ tail) bytes (number_in s size) n (omega arith) (omega arith) cut
-    ∙ ap (λ (k : ℕ). whole (made r bytes) k) sum ∙ ap (λ (x : Tree). whole x (suc (length rest))) (sym d)
+    ∙ ap (λ (k : ℕ). whole (raw_value r bytes) k) sum ∙ ap (λ (x : Tree). whole x (suc (length rest))) (sym d)
 
 pub many_at-inside : (read : ℕ → ℕ → List ℕ → Reading Trees) (m : Many) (s : Size) (room : ℕ) (rest : List ℕ) (n : ℕ) → values m (number_in s rest) ≡ n → 1 + width s + n ≤ room → width s ≤ length rest
-    → many_at read m s room rest ≡ after (1 + width s) (mapped (gathered m) (read n (room - (1 + width s)) (drop (width s) rest)))
+    → many_at read m s room rest ≡ after (1 + width s) (map_reading (many_value m) (read n (room - (1 + width s)) (drop (width s) rest)))
 many_at-inside read m s room rest n e h l =
-    subst (λ (x : ℕ). many_at read m s room rest ≡ after (1 + width s) (mapped (gathered m) (read x (room - (1 + width s)) (drop (width s) rest)))) e
+    subst (λ (x : ℕ). many_at read m s room rest ≡ after (1 + width s) (map_reading (many_value m) (read x (room - (1 + width s)) (drop (width s) rest)))) e
     (let h2 : 1 + width s + values m (number_in s rest) ≤ room = omega arith in
     grind (arith, nat_tests))
 
 many_reads : (I : Trees → List ℕ → Type 0) (read : ℕ → ℕ → List ℕ → Reading Trees) → HasBytes I → ReadsAllItems I read
-    → (m : Many) (s : Size) (t : Tree) (rest tail : List ℕ) (room : ℕ) (size body : List ℕ) (ts : Trees) → length size ≡ width s → count ts ≡ values m (number_in s size) → rest ≡ size ++ body → t ≡ gathered m ts → I ts body
+    → (m : Many) (s : Size) (t : Tree) (rest tail : List ℕ) (room : ℕ) (size body : List ℕ) (ts : Trees) → length size ≡ width s → count ts ≡ values m (number_in s size) → rest ≡ size ++ body → t ≡ many_value m ts → I ts body
     → suc (length rest) ≤ room → many_at read m s room (rest ++ tail) ≡ whole t (suc (length rest))
 many_reads I read has reads m s t rest tail room size body ts a b c d i h =
     let regrouped : rest ++ tail ≡ size ++ (body ++ tail) = ap (λ (l : List ℕ). l ++ tail) c ∙ append_assoc size body tail in
@@ -67,8 +67,8 @@ many_reads I read has reads m s t rest tail room size body ts a b c d i h =
     ap (λ (l : List ℕ). read (count ts) (room - (1 + width s)) l) behind ∙ reads ts body tail (room - (1 + width s)) i (omega arith) in
     let sum : 1 + width s + length body ≡ suc (length rest) = omega arith in
     many_at-inside read m s room (rest ++ tail) (count ts) n (omega arith) (omega arith)
-    ∙ ap (λ (r : Reading Trees). after (1 + width s) (mapped (gathered m) r)) read_body
-    ∙ ap (λ (k : ℕ). whole (gathered m ts) k) sum ∙ ap (λ (x : Tree). whole x (suc (length rest))) (sym d)
+    ∙ ap (λ (r : Reading Trees). after (1 + width s) (map_reading (many_value m) r)) read_body
+    ∙ ap (λ (k : ℕ). whole (many_value m ts) k) sum ∙ ap (λ (x : Tree). whole x (suc (length rest))) (sym d)
 
 reads_by : (I : Trees → List ℕ → Type 0) (i : Inside) → ReadsInside I i → (f : Form) (t : Tree) (rest tail : List ℕ) (room : ℕ) → SpelledBy I f t rest → suc (length rest) ≤ room
     → read_by i f room (rest ++ tail) ≡ whole t (suc (length rest))
@@ -111,8 +111,8 @@ reads_items S read has law (one t ts) front tail room h l =
     let behind : drop (length x) (front ++ tail) ≡ y ++ tail = ap (λ (l : List ℕ). drop (length x) l) regrouped ∙ drop_at x (y ++ tail) (length x) refl in
     let others : items_at read (count ts) (room - length x) (drop (length x) (front ++ tail)) ≡ whole ts (length y) =
     ap (λ (l : List ℕ). items_at read (count ts) (room - length x) l) behind ∙ reads_items S read has law ts y tail (room - length x) h.4 (omega arith) in
-    ap (λ (r : Reading Tree). chained r (λ (t : Tree) (k : ℕ). mapped (one t) (items_at read (count ts) (room - k) (drop k (front ++ tail))))) first
-    ∙ ap (λ (r : Reading Trees). after (length x) (mapped (one t) r)) others
+    ap (λ (r : Reading Tree). reading_then r (λ (t : Tree) (k : ℕ). map_reading (one t) (items_at read (count ts) (room - k) (drop k (front ++ tail))))) first
+    ∙ ap (λ (r : Reading Trees). after (length x) (map_reading (one t) r)) others
     ∙ ap (λ (k : ℕ). whole (one t ts) k) (sym long)
 
 pub has_byte-in : (depth : ℕ) → HasByte (SpellsIn depth)

@@ -3,8 +3,8 @@ use Rattle.std.proofs.Common.{◌≡◌, ◌⊎◌, ℕ, ◌+◌, ◌-◌, ◌<�
 use Rattle.std.proofs.lemmas.List.{take-append-drop, length-take, length-drop, length-take-le, take-append-le, drop-append-le, take-take, drop-take, get_or-drop}
 use Rattle.std.proofs.lemmas.Bool.{ltb-true, ltb-false, lt-ltb}
 use Rattle.nv_value.specs.Content.{Tree, Trees, one}
-use Rattle.nv_msgpack.specs.Spelling.{Size, Raw, of_list, of_map, Many, Form, unused, alone, raw, many, form, width, number_in, extra, made, values, gathered, SpellsIn}
-use Rattle.nv_msgpack.specs.Reading.{Reading, whole, more, flawed, Flaw, bad, too_deep, too_long, Inside, none, some, mapped, after, chained, items_at, raw_at, many_at, read_by, read_with, value_at}
+use Rattle.nv_msgpack.specs.Spelling.{Size, Raw, of_list, of_map, Many, Form, unused, alone, raw, many, form, width, number_in, extra, raw_value, values, many_value, SpellsIn}
+use Rattle.nv_msgpack.specs.Reading.{Reading, whole, more, flawed, Flaw, bad, too_deep, too_long, Inside, none, some, map_reading, after, reading_then, items_at, raw_at, many_at, read_by, read_with, value_at}
 use Rattle.nv_msgpack.specs.Within.{Begins}
 use Rattle.nv_msgpack.proofs.Lengths.{number_in-take, number_in-stays, number_in-grows}
 use Rattle.nv_msgpack.proofs.Readings.{mapped-is_flawed, after-is_flawed, chained-is_flawed}
@@ -40,7 +40,7 @@ fails room least len w v x k false false p q e = inr (ltb-false room least p, lt
 raw_fails : (r : Raw) (s : Size) (room : ℕ) (rest : List ℕ) (x : Flaw) (k : ℕ) → raw_at r s room rest ≡ flawed x k → (room < 1 + width s + (number_in s rest + extra r)) × (x ≡ too_long) × (k ≡ 0)
 raw_fails r s room rest x k e =
     let least = 1 + width s + (number_in s rest + extra r) in
-    let v = whole (made r (take (number_in s rest + extra r) (drop (width s) rest))) least in
+    let v = whole (raw_value r (take (number_in s rest + extra r) (drop (width s) rest))) least in
     ⊎_elim (λ p. p) (λ p. let q = p.2 in cc) (fails room least (1 + length rest) least v x k (ltb room least) (ltb (1 + length rest) least) refl refl e)
 
 -- a flaw of a list or map: it is too long itself, or a value inside has the flaw
@@ -56,11 +56,11 @@ many_fails : (read : ℕ → ℕ → List ℕ → Reading Trees) (m : Many) (s :
 many_fails read m s room rest x k e =
     let n = values m (number_in s rest) in
     let inner = read n (room - (1 + width s)) (drop (width s) rest) in
-    let v = after (1 + width s) (mapped (gathered m) inner) in
+    let v = after (1 + width s) (map_reading (many_value m) inner) in
     ⊎_elim (λ p. inl p)
     (λ p.
-    let a = after-is_flawed (1 + width s) (mapped (gathered m) inner) x k p.2 in
-    let result : ManyInside read m s room rest x k = record { fits = p.0; within = p.1; at = a.0; reads = mapped-is_flawed (gathered m) inner x a.0 a.1; place = a.2 } in
+    let a = after-is_flawed (1 + width s) (map_reading (many_value m) inner) x k p.2 in
+    let result : ManyInside read m s room rest x k = record { fits = p.0; within = p.1; at = a.0; reads = mapped-is_flawed (many_value m) inner x a.0 a.1; place = a.2 } in
     inr result)
     (fails room (1 + width s + n) (length rest) (width s) v x k (ltb room (1 + width s + n)) (ltb (length rest) (width s)) refl refl e)
 
@@ -68,7 +68,7 @@ many_fails read m s room rest x k e =
 many_inside : (read : ℕ → ℕ → List ℕ → Reading Trees) (m : Many) (s : Size) (room : ℕ) (rest : List ℕ) (n : ℕ) (x : Flaw) (at k : ℕ) → values m (number_in s rest) ≡ n → 1 + width s + n ≤ room → width s ≤ length rest
     → read n (room - (1 + width s)) (drop (width s) rest) ≡ flawed x at → k ≡ 1 + width s + at → many_at read m s room rest ≡ flawed x k
 many_inside read m s room rest n x at k e h l inner place =
-    many_at-inside read m s room rest n e h l ∙ ap (λ (r : Reading Trees). after (1 + width s) (mapped (gathered m) r)) inner ∙ ap (λ (y : ℕ). flawed x y) (sym place)
+    many_at-inside read m s room rest n e h l ∙ ap (λ (r : Reading Trees). after (1 + width s) (map_reading (many_value m) r)) inner ∙ ap (λ (y : ℕ). flawed x y) (sym place)
 
 -- Whatever follows.
 
@@ -98,7 +98,7 @@ stays_by i law (raw r s) room rest tail x k e =
     let g = number_in-grows s rest tail in
     let h = w.0 in
     let least = 1 + width s + (number_in s (rest ++ tail) + extra r) in
-    too_long_at room least (ltb (1 + length (rest ++ tail)) least) (whole (made r (take (number_in s (rest ++ tail) + extra r) (drop (width s) (rest ++ tail)))) least) x k (omega arith) w.1 w.2
+    too_long_at room least (ltb (1 + length (rest ++ tail)) least) (whole (raw_value r (take (number_in s (rest ++ tail) + extra r) (drop (width s) (rest ++ tail)))) least) x k (omega arith) w.1 w.2
 stays_by none law (many m s) room rest tail x k e = e
 stays_by (some read) law (many m s) room rest tail x k e =
     let n = values m (number_in s rest) in
@@ -106,7 +106,7 @@ stays_by (some read) law (many m s) room rest tail x k e =
     let g : n ≤ grown = values-grows m (number_in s rest) (number_in s (rest ++ tail)) (number_in-grows s rest tail) in
     ⊎_elim
     (λ p. let h = p.0 in
-    too_long_at room (1 + width s + grown) (ltb (length (rest ++ tail)) (width s)) (after (1 + width s) (mapped (gathered m) (read grown (room - (1 + width s)) (drop (width s) (rest ++ tail))))) x k (omega arith) p.1 p.2)
+    too_long_at room (1 + width s + grown) (ltb (length (rest ++ tail)) (width s)) (after (1 + width s) (map_reading (many_value m) (read grown (room - (1 + width s)) (drop (width s) (rest ++ tail))))) x k (omega arith) p.1 p.2)
     (λ w. let within = w.within in
     let fits = w.fits in
     let inner : read n (room - (1 + width s)) (drop (width s) (rest ++ tail)) ≡ flawed x w.at =
@@ -123,10 +123,10 @@ stay_items : (S : Tree → List ℕ → Type 0) (read : ℕ → List ℕ → Rea
 unfolding items_at
 stay_items S read all is_sound law zero room bytes tail x k h e = cc
 stay_items S read all is_sound law (suc n) room bytes tail x k h e =
-    let next = λ (t : Tree) (j : ℕ). mapped (one t) (items_at read n (room - j) (drop j bytes)) in
-    let later = λ (t : Tree) (j : ℕ). mapped (one t) (items_at read n (room - j) (drop j (bytes ++ tail))) in
+    let next = λ (t : Tree) (j : ℕ). map_reading (one t) (items_at read n (room - j) (drop j bytes)) in
+    let later = λ (t : Tree) (j : ℕ). map_reading (one t) (items_at read n (room - j) (drop j (bytes ++ tail))) in
     ⊎_elim
-    (λ first. ap (λ (r : Reading Tree). chained r later) (law (room - n) bytes tail x k (omega arith) first))
+    (λ first. ap (λ (r : Reading Tree). reading_then r later) (law (room - n) bytes tail x k (omega arith) first))
     (λ other.
     let t = other.0 in
     let j = other.1 in
@@ -137,8 +137,8 @@ stay_items S read all is_sound law (suc n) room bytes tail x k h e =
     let behind : items_at read n (room - j) (drop j (bytes ++ tail)) ≡ flawed x m =
     ap (λ (l : List ℕ). items_at read n (room - j) l) (drop-append-le j bytes tail w.within)
     ∙ stay_items S read all is_sound law n (room - j) (drop j bytes) tail x m (omega arith) (mapped-is_flawed (one t) (items_at read n (room - j) (drop j bytes)) x m other.4) in
-    ap (λ (r : Reading Tree). chained r later) (whole_stays S read all is_sound (room - n) bytes tail t j (omega arith) other.3)
-    ∙ ap (λ (r : Reading Trees). after j (mapped (one t) r)) behind ∙ ap (λ (y : ℕ). flawed x y) (sym other.5))
+    ap (λ (r : Reading Tree). reading_then r later) (whole_stays S read all is_sound (room - n) bytes tail t j (omega arith) other.3)
+    ∙ ap (λ (r : Reading Trees). after j (map_reading (one t) r)) behind ∙ ap (λ (y : ℕ). flawed x y) (sym other.5))
     (chained-is_flawed (read (room - n) bytes) next x k e)
 
 pub stays : (depth : ℕ) → Stays (value_at depth)
@@ -205,7 +205,7 @@ cause_items : (S : Tree → List ℕ → Type 0) (read : ℕ → List ℕ → Re
 unfolding items_at
 cause_items S read is_sound law zero room bytes x k h e = cc
 cause_items S read is_sound law (suc n) room bytes x k h e =
-    let next = λ (t : Tree) (j : ℕ). mapped (one t) (items_at read n (room - j) (drop j bytes)) in
+    let next = λ (t : Tree) (j : ℕ). map_reading (one t) (items_at read n (room - j) (drop j bytes)) in
     ⊎_elim
     (λ first. law (room - n) bytes x k (omega arith) first)
     (λ other.
@@ -271,10 +271,10 @@ see_items : (S : Tree → List ℕ → Type 0) (read : ℕ → List ℕ → Read
 unfolding items_at
 see_items S read all is_sound law zero room bytes x k soon h e = cc
 see_items S read all is_sound law (suc n) room bytes x k soon h e =
-    let next = λ (t : Tree) (j : ℕ). mapped (one t) (items_at read n (room - j) (drop j bytes)) in
-    let later = λ (t : Tree) (j : ℕ). mapped (one t) (items_at read n (room - j) (drop j (take (k + 1) bytes))) in
+    let next = λ (t : Tree) (j : ℕ). map_reading (one t) (items_at read n (room - j) (drop j bytes)) in
+    let later = λ (t : Tree) (j : ℕ). map_reading (one t) (items_at read n (room - j) (drop j (take (k + 1) bytes))) in
     ⊎_elim
-    (λ first. ap (λ (r : Reading Tree). chained r later) (law (room - n) bytes x k soon (omega arith) first))
+    (λ first. ap (λ (r : Reading Tree). reading_then r later) (law (room - n) bytes x k soon (omega arith) first))
     (λ other.
     let t = other.0 in
     let j = other.1 in
@@ -287,8 +287,8 @@ see_items S read all is_sound law (suc n) room bytes x k soon h e =
     ap (λ (y : ℕ). items_at read n (room - j) (drop j (take y bytes))) k_is
     ∙ ap (λ (l : List ℕ). items_at read n (room - j) l) (drop-take j (m + 1) bytes)
     ∙ see_items S read all is_sound law n (room - j) (drop j bytes) x m soon (omega arith) (mapped-is_flawed (one t) (items_at read n (room - j) (drop j bytes)) x m other.4) in
-    ap (λ (r : Reading Tree). chained r later) (whole_front S read all is_sound (room - n) bytes (take (k + 1) bytes) t j (omega arith) other.3 (take-take j (k + 1) bytes (omega arith)))
-    ∙ ap (λ (r : Reading Trees). after j (mapped (one t) r)) behind ∙ ap (λ (y : ℕ). flawed x y) (sym other.5))
+    ap (λ (r : Reading Tree). reading_then r later) (whole_front S read all is_sound (room - n) bytes (take (k + 1) bytes) t j (omega arith) other.3 (take-take j (k + 1) bytes (omega arith)))
+    ∙ ap (λ (r : Reading Trees). after j (map_reading (one t) r)) behind ∙ ap (λ (y : ℕ). flawed x y) (sym other.5))
     (chained-is_flawed (read (room - n) bytes) next x k e)
 
 pub seen_at_once : (depth : ℕ) → SeenAtOnce (value_at depth)

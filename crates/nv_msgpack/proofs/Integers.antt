@@ -6,9 +6,10 @@ use Rattle.std.proofs.lemmas.Bool.{eqb-true, eq-eqb, lt-ltb, le-ltb, ne_eqb, cas
 use Rattle.std.proofs.lemmas.Bool.Decides.{Decides-int_eq}
 use Rattle.std.proofs.lemmas.List.{take_all, append-nil}
 use Rattle.nv_value.specs.Content.{Tree, Trees, nil, truth, integer, big, text, bin, list, pairs, ext, opaque}
-use Rattle.nv_msgpack.specs.Spelling.{Size, told, Raw, of_text, of_bin, of_ext, unsigned, signed, float, of_list, of_map, Form, unused, alone, raw, many, form, width, number_in, extra, made, big_endian, two's_complement, unsigned_number, SpelledBy, SpelledWith, Each, SpellsIn, Spells}
+use Rattle.nv_msgpack.specs.Spelling.{Size, fixed, Raw, of_text, of_bin, of_ext, unsigned, signed, float, of_list, of_map, Form, unused, alone, raw, many, form, width, number_in, extra, raw_value, big_endian, two's_complement, unsigned_number, SpelledBy, SpelledWith, Each, SpellsIn, Spells}
 use Rattle.nv_msgpack.specs.Reading.{Reading, whole, more, flawed, too_long, none, raw_at, read_by, value_at}
-use Rattle.nv_msgpack.specs.Handle.{IsHandle, integer_of, whole_integer, integer_by, integer_in, handle_in}
+use Rattle.nv_msgpack.specs.Handle.{IsHandle, integer_of, whole_integer, integer_in, handle_in}
+use Rattle.nv_msgpack.specs.inside.Integers.{integer_by}
 use Rattle.nv_msgpack.specs.declared.first_bytes.Width.{Width}
 use Rattle.nv_msgpack.specs.declared.first_bytes.FirstByte.{FirstByte}
 use Rattle.nv_msgpack.specs.declared.first_bytes.FirstByte.TheVariants as begins
@@ -123,8 +124,8 @@ tests room least len t e =
     (cases_lt room least)
 
 raw_is : (r : Raw) (s : Size) (rest : List ℕ) → whole_integer (suc (length rest)) (raw_at r s (suc (length rest)) rest)
-    ≡ cond (eqb (1 + width s + (number_in s rest + extra r)) (suc (length rest))) (integer_of (made r (take (number_in s rest + extra r) (drop (width s) rest)))) None
-raw_is r s rest = tests (suc (length rest)) (1 + width s + (number_in s rest + extra r)) (1 + length rest) (made r (take (number_in s rest + extra r) (drop (width s) rest))) (omega arith)
+    ≡ cond (eqb (1 + width s + (number_in s rest + extra r)) (suc (length rest))) (integer_of (raw_value r (take (number_in s rest + extra r) (drop (width s) rest)))) None
+raw_is r s rest = tests (suc (length rest)) (1 + width s + (number_in s rest + extra r)) (1 + length rest) (raw_value r (take (number_in s rest + extra r) (drop (width s) rest))) (omega arith)
 
 abbrev pub nothing : Option ℤ
 nothing = None
@@ -152,17 +153,17 @@ other_by (raw float s) rest h = raw_is float s rest ∙ never (eqb (1 + width s 
 other_by (many m s) rest h = refl
 
 -- a number of another length is none
-raw_short : (r : Raw) (w : ℕ) (rest : List ℕ) → extra r ≡ 0 → (length rest ≡ w → ⊥) → whole_integer (suc (length rest)) (raw_at r (told w) (suc (length rest)) rest) ≡ nothing
+raw_short : (r : Raw) (w : ℕ) (rest : List ℕ) → extra r ≡ 0 → (length rest ≡ w → ⊥) → whole_integer (suc (length rest)) (raw_at r (fixed w) (suc (length rest)) rest) ≡ nothing
 raw_short r w rest x h =
     let b : eqb (1 + 0 + (w + extra r)) (suc (length rest)) ≡ false = ne_eqb (1 + 0 + (w + extra r)) (suc (length rest)) (λ q. h (omega arith)) in
-    raw_is r (told w) rest ∙ ap (λ (t : Bool). cond t (integer_of (made r (take (w + extra r) rest))) None) b
+    raw_is r (fixed w) rest ∙ ap (λ (t : Bool). cond t (integer_of (raw_value r (take (w + extra r) rest))) None) b
 
 -- a number of its length is the number of all its bytes
-raw_all : (r : Raw) (w : ℕ) (rest : List ℕ) → extra r ≡ 0 → length rest ≡ w → whole_integer (suc (length rest)) (raw_at r (told w) (suc (length rest)) rest) ≡ integer_of (made r rest)
+raw_all : (r : Raw) (w : ℕ) (rest : List ℕ) → extra r ≡ 0 → length rest ≡ w → whole_integer (suc (length rest)) (raw_at r (fixed w) (suc (length rest)) rest) ≡ integer_of (raw_value r rest)
 raw_all r w rest x h =
     let b : eqb (1 + 0 + (w + extra r)) (suc (length rest)) ≡ true = eq-eqb (1 + 0 + (w + extra r)) (suc (length rest)) (omega arith) in
-    raw_is r (told w) rest ∙ ap (λ (t : Bool). cond t (integer_of (made r (take (w + extra r) rest))) None) b
-    ∙ ap (λ (l : List ℕ). integer_of (made r l)) (take_all (w + extra r) rest (omega arith))
+    raw_is r (fixed w) rest ∙ ap (λ (t : Bool). cond t (integer_of (raw_value r (take (w + extra r) rest))) None) b
+    ∙ ap (λ (l : List ℕ). integer_of (raw_value r l)) (take_all (w + extra r) rest (omega arith))
 
 pub first_is : (bytes : List ℕ) (f : Form) → 0 < length bytes → f ≡ form (get_or bytes 0 0) → integer_in bytes ≡ integer_by f (drop 1 bytes)
 first_is [] f h e = absurd (omega arith)
@@ -178,16 +179,16 @@ small_is n rest h = same_length n 0 (eqb 1 (suc (length rest))) (eq-eqb 1 (suc (
 pub small_long : (n : ℤ) (rest : List ℕ) → (length rest ≡ 0 → ⊥) → integer_by (alone (integer n)) rest ≡ nothing
 small_long n rest h = ap (λ (t : Bool). cond t (Some n) None) (ne_eqb 1 (suc (length rest)) (λ q. h (omega arith)))
 
-pub unsigned_is : (w : ℕ) (rest : List ℕ) → length rest ≡ w → integer_by (raw unsigned (told w)) rest ≡ integer_of (unsigned_number (big_endian w rest))
+pub unsigned_is : (w : ℕ) (rest : List ℕ) → length rest ≡ w → integer_by (raw unsigned (fixed w)) rest ≡ integer_of (unsigned_number (big_endian w rest))
 unsigned_is w rest h = raw_all unsigned w rest refl h ∙ ap (λ (k : ℕ). integer_of (unsigned_number (big_endian k rest))) h
 
-pub unsigned_other : (w : ℕ) (rest : List ℕ) → (length rest ≡ w → ⊥) → integer_by (raw unsigned (told w)) rest ≡ nothing
+pub unsigned_other : (w : ℕ) (rest : List ℕ) → (length rest ≡ w → ⊥) → integer_by (raw unsigned (fixed w)) rest ≡ nothing
 unsigned_other w rest h = raw_short unsigned w rest refl h
 
-pub signed_is : (w : ℕ) (rest : List ℕ) → length rest ≡ w → integer_by (raw signed (told w)) rest ≡ Some (two's_complement w (big_endian w rest))
+pub signed_is : (w : ℕ) (rest : List ℕ) → length rest ≡ w → integer_by (raw signed (fixed w)) rest ≡ Some (two's_complement w (big_endian w rest))
 signed_is w rest h = raw_all signed w rest refl h ∙ ap (λ (k : ℕ). Some (two's_complement k (big_endian k rest))) h
 
-pub signed_other : (w : ℕ) (rest : List ℕ) → (length rest ≡ w → ⊥) → integer_by (raw signed (told w)) rest ≡ nothing
+pub signed_other : (w : ℕ) (rest : List ℕ) → (length rest ≡ w → ⊥) → integer_by (raw signed (fixed w)) rest ≡ nothing
 signed_other w rest h = raw_short signed w rest refl h
 
 -- what begins no integer
@@ -202,7 +203,7 @@ other_seen (begins.Bin l) rest f g h = other_by (raw of_bin (size_of l)) rest tt
 other_seen (begins.Ext l) rest f g h = other_by (raw of_ext (size_of l)) rest tt
 other_seen (begins.Unsigned w) rest f g h = absurd (g w refl)
 other_seen (begins.Signed w) rest f g h = absurd (h w refl)
-other_seen (begins.Float w) rest f g h = other_by (raw float (told (bytes_of w))) rest tt
+other_seen (begins.Float w) rest f g h = other_by (raw float (fixed (bytes_of w))) rest tt
 other_seen (begins.List l) rest f g h = other_by (many of_list (size_of l)) rest tt
 other_seen (begins.Map l) rest f g h = other_by (many of_map (size_of l)) rest tt
 

@@ -5,7 +5,7 @@ use Rattle.std.specs.Prelude.{FitsSigned, ◌-ℤ◌, ◌==◌, ◌||◌}
 use Rattle.std.proofs.lemmas.Bool.{cases_lt, false≢true}
 use Rattle.std.proofs.lemmas.Bool.Decides.{nat_tests, eqb_tells}
 use Rattle.nv_value.specs.Content.{Tree, Trees, nil, truth, integer, big, text, bin, list, pairs, ext, opaque, no_more, one, count}
-use Rattle.nv_msgpack.specs.Spelling.{Size, told, field, Raw, of_text, of_bin, of_ext, unsigned, signed, float, Many, of_list, of_map, Form, unused, alone, raw, many, form, big_endian, width, number_in, extra, made, values, gathered, two's_complement, unsigned_number, SpelledBy, SpelledWith, Each, SpellsIn}
+use Rattle.nv_msgpack.specs.Spelling.{Size, fixed, field, Raw, of_text, of_bin, of_ext, unsigned, signed, float, Many, of_list, of_map, Form, unused, alone, raw, many, form, big_endian, width, number_in, extra, raw_value, values, many_value, two's_complement, unsigned_number, SpelledBy, SpelledWith, Each, SpellsIn}
 use Rattle.nv_msgpack.specs.Shortest.{unsigned_spelling, negative_spelling, integer_spelling, text_head, bin_head, ext_head, float_head, list_head, map_head, shortest, all_shortest, depth, HasSpelling, HaveSpellings, IsInRange, AreInRange, SpelledHasSpelling, ShortestIsLeast}
 use Rattle.nv_msgpack.proofs.Spelled.{spelled, below_zero}
 use Rattle.nv_msgpack.proofs.Table.{small, sized, counted, listed, is_listed, Bytes, bytes_of, front_bytes, back_bytes, big_endian-below}
@@ -187,20 +187,20 @@ in_three head two three five w n e h = elim (of_three w e) [
 ]
 
 text_least : (s : Size) (size : List ℕ) → sized of_text s ≡ true → Bytes size → (number_in s size < 2 ^ 32) × (length (text_head (number_in s size)) ≤ 1 + width s)
-text_least (told n) size e b = let h : n < 0x20 = grind (arith, nat_tests) in (omega arith, omega (arith, text_1 n h))
+text_least (fixed n) size e b = let h : n < 0x20 = grind (arith, nat_tests) in (omega arith, omega (arith, text_1 n h))
 text_least (field w) size e b = in_three text_head text_2 text_3 text_5 w (big_endian w size) e (big_endian-below w size b)
 
 bin_least : (s : Size) (size : List ℕ) → sized of_bin s ≡ true → Bytes size → (number_in s size < 2 ^ 32) × (length (bin_head (number_in s size)) ≤ 1 + width s)
-bin_least (told n) size e b = absurd (false≢true e)
+bin_least (fixed n) size e b = absurd (false≢true e)
 bin_least (field w) size e b = in_three bin_head bin_2 bin_3 bin_5 w (big_endian w size) e (big_endian-below w size b)
 
 ext_least : (s : Size) (size : List ℕ) → sized of_ext s ≡ true → Bytes size → (number_in s size < 2 ^ 32) × (length (ext_head (number_in s size)) ≤ 1 + width s)
-ext_least (told n) size e b = ext_1 n e
+ext_least (fixed n) size e b = ext_1 n e
 ext_least (field w) size e b = in_three ext_head ext_2 ext_3 ext_5 w (big_endian w size) e (big_endian-below w size b)
 
 in_two : (head : ℕ → List ℕ) → ((n : ℕ) → n < 0x10 → length (head n) ≤ 1) → ((n : ℕ) → n < 0x10000 → length (head n) ≤ 3) → ((n : ℕ) → length (head n) ≤ 5)
     → (s : Size) (size : List ℕ) → counted s ≡ true → Bytes size → (number_in s size < 2 ^ 32) × (length (head (number_in s size)) ≤ 1 + width s)
-in_two head itself three five (told n) size e b = let h : n < 0x10 = grind (arith, nat_tests) in (omega arith, omega (arith, itself n h))
+in_two head itself three five (fixed n) size e b = let h : n < 0x10 = grind (arith, nat_tests) in (omega arith, omega (arith, itself n h))
 in_two head itself three five (field w) size e b =
     let n = big_endian w size in
     let h : n < 256 ^ w = big_endian-below w size b in
@@ -282,7 +282,7 @@ small_good (opaque bytes) e = absurd (false≢true e)
 head_and_bytes : (head bytes : List ℕ) (h most : ℕ) → length head ≤ h → h + length bytes ≤ most → length (head ++ bytes) ≤ most
 head_and_bytes head bytes h most l m = omega (arith, length-append head bytes)
 
-raw_good : (r : Raw) (s : Size) (size bytes : List ℕ) → sized r s ≡ true → Bytes size → Bytes bytes → length size ≡ width s → length bytes ≡ number_in s size + extra r → IsGood (made r bytes) (suc (length size + length bytes))
+raw_good : (r : Raw) (s : Size) (size bytes : List ℕ) → sized r s ≡ true → Bytes size → Bytes bytes → length size ≡ width s → length bytes ≡ number_in s size + extra r → IsGood (raw_value r bytes) (suc (length size + length bytes))
 raw_good of_text s size bytes e b c w l =
     let n : number_in s size ≡ length bytes = omega arith in
     let g = subst (λ (k : ℕ). (k < 2 ^ 32) × (length (text_head k) ≤ 1 + width s)) n (text_least s size e b) in
@@ -302,25 +302,25 @@ raw_good of_ext s size (k ∷ bytes) e b c w l =
       ranged = type_fits (big_endian 1 (k ∷ bytes)) (omega arith);
       least = head_and_bytes (ext_head (length bytes)) (cast_unsigned w8 kind ∷ bytes) (1 + width s) (suc (length size + suc (length bytes))) g.1 (omega arith);
     }
-raw_good unsigned (told n) size bytes e b c w l =
+raw_good unsigned (fixed n) size bytes e b c w l =
     let long : length bytes ≡ n = omega arith in
     let f = subst (λ (k : ℕ). (k == 1 || k == 2 || k == 4 || k == 8) ≡ true) (sym long) e in
     let g = unsigned_least (big_endian (length bytes) bytes) (length bytes) f (big_endian-below (length bytes) bytes c) in
     unsigned_good (big_endian (length bytes) bytes) (suc (length size + length bytes)) g.0 (omega (arith, g.1))
 raw_good unsigned (field n) size bytes e b c w l = absurd (false≢true e)
-raw_good signed (told n) size bytes e b c w l =
+raw_good signed (fixed n) size bytes e b c w l =
     let long : length bytes ≡ n = omega arith in
     let f = subst (λ (k : ℕ). (k == 1 || k == 2 || k == 4 || k == 8) ≡ true) (sym long) e in
     signed_good (length bytes) (big_endian (length bytes) bytes) (suc (length size + length bytes)) f (big_endian-below (length bytes) bytes c) (omega arith)
 raw_good signed (field n) size bytes e b c w l = absurd (false≢true e)
-raw_good float (told n) size bytes e b c w l =
+raw_good float (fixed n) size bytes e b c w l =
     let long : length bytes ≡ n = omega arith in
     let f = subst (λ (k : ℕ). (k == 4 || k == 8) ≡ true) (sym long) e in
     record { has = of_two 4 8 (length bytes) f; ranged = tt; least = head_and_bytes (float_head (length bytes)) bytes 1 (suc (length size + length bytes)) (float_1 (length bytes)) (omega arith) }
 raw_good float (field n) size bytes e b c w l = absurd (false≢true e)
 
 many_good : (m : Many) (s : Size) (size body : List ℕ) (ts : Trees) → counted s ≡ true → Bytes size → length size ≡ width s → count ts ≡ values m (number_in s size) → AreGood ts (length body)
-    → IsGood (gathered m ts) (suc (length size + length body))
+    → IsGood (many_value m ts) (suc (length size + length body))
 many_good of_list s size body ts e b w l g =
     let h = subst (λ (k : ℕ). (k < 2 ^ 32) × (length (list_head k) ≤ 1 + width s)) (sym l) (in_two list_head list_1 list_3 list_5 s size e b) in
     record {

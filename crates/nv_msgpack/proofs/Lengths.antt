@@ -2,7 +2,7 @@
 use Rattle.std.proofs.Common.{◌≡◌, ℕ, ◌+◌, ◌*◌, ◌^◌, ◌≤◌, zero, suc, List, [], ◌∷◌, ◌++◌, length, take, drop, refl, sym, ap, ◌∙◌, subst, arith}
 use Rattle.std.proofs.lemmas.List.{append_assoc, length-take, take-append-drop, length-take-le}
 use Rattle.std.proofs.Math.ListN.{replicate}
-use Rattle.nv_msgpack.specs.Spelling.{Size, told, field, width, number_in, big_endian}
+use Rattle.nv_msgpack.specs.Spelling.{Size, fixed, field, width, number_in, big_endian}
 
 big_endian-front : (w : ℕ) (size rest : List ℕ) → length size ≡ w → big_endian w (size ++ rest) ≡ big_endian w size
 unfolding big_endian
@@ -30,12 +30,12 @@ big_endian-zeros (suc w) n (b ∷ bytes) = ap (λ m. b * 256 ^ w + m) (big_endia
 
 -- a length depends on its own bytes alone
 pub number_in-front : (s : Size) (size rest : List ℕ) → length size ≡ width s → number_in s (size ++ rest) ≡ number_in s size
-number_in-front (told n) size rest e = refl
+number_in-front (fixed n) size rest e = refl
 number_in-front (field w) size rest e = big_endian-front w size rest e
 
 -- a length that has come stays
 pub number_in-stays : (s : Size) (bytes tail : List ℕ) → width s ≤ length bytes → number_in s (bytes ++ tail) ≡ number_in s bytes
-number_in-stays (told n) bytes tail h = refl
+number_in-stays (fixed n) bytes tail h = refl
 number_in-stays (field w) bytes tail h =
     let split = take-append-drop w bytes in
     let size : length (take w bytes) ≡ w = length-take-le w bytes h in
@@ -54,10 +54,10 @@ number_in-take s n bytes h l =
 
 -- a length is at least what its bytes so far say
 pub number_in-grows : (s : Size) (bytes tail : List ℕ) → number_in s bytes ≤ number_in s (bytes ++ tail)
-number_in-grows (told n) bytes tail = omega arith
+number_in-grows (fixed n) bytes tail = omega arith
 number_in-grows (field w) bytes tail = big_endian-grows w bytes tail
 
 -- zeros say no more
 pub number_in-zeros : (s : Size) (n : ℕ) (bytes : List ℕ) → number_in s (bytes ++ replicate n 0) ≡ number_in s bytes
-number_in-zeros (told k) n bytes = refl
+number_in-zeros (fixed k) n bytes = refl
 number_in-zeros (field w) n bytes = big_endian-zeros w n bytes

@@ -5,15 +5,15 @@ use Rattle.nv_value.specs.Content.{Tree, Trees, no_more, one, trees_of, in_turn}
 use Rattle.nv_value.specs.View.{content, contents, pair_content, pair_contents}
 use Rattle.nv_value.specs.declared.value.Value.{Value}
 use Rattle.nv_value.specs.declared.value.Pair.{Pair}
-use Rattle.nv_msgpack.specs.Spelling.{Size, Many, Form, unused, alone, raw, many, form, width, number_in, values, gathered}
-use Rattle.nv_msgpack.specs.Reading.{Reading, whole, more, flawed, too_long, Inside, none, some, mapped, after, chained, items_at, many_at, read_by, read_with, value_at}
+use Rattle.nv_msgpack.specs.Spelling.{Size, Many, Form, unused, alone, raw, many, form, width, number_in, values, many_value}
+use Rattle.nv_msgpack.specs.Reading.{Reading, whole, more, flawed, too_long, Inside, none, some, map_reading, after, reading_then, items_at, many_at, read_by, read_with, value_at}
 use Rattle.nv_msgpack.specs.declared.stop.Stop.{Stop}
 use Rattle.nv_msgpack.specs.declared.stop.Stop.TheVariants as stops
 use Rattle.nv_msgpack.specs.declared.first_bytes.Length.{Length}
 use Rattle.nv_msgpack.specs.declared.first_bytes.FirstByte.{FirstByte}
 use Rattle.nv_msgpack.specs.declared.first_bytes.FirstByte.TheVariants as begins
 use Rattle.nv_msgpack.specs.FirstByte.{form_seen}
-use Rattle.nv_msgpack.specs.Steps.{Stops, head_at}
+use Rattle.nv_msgpack.specs.inside.Steps.{Stops, head_at}
 use Rattle.nv_msgpack.proofs.Readings.{after-is_whole}
 use Rattle.nv_msgpack.proofs.Sound.{sound, items_sound}
 use Rattle.nv_msgpack.proofs.Exact.{empty_wants}
@@ -49,7 +49,7 @@ pair_contents-push ps p = ap in_turn (map-append pair_content ps (p ∷ [])) ∙
 
 -- what was read before, and what is still read
 abbrev pub behind : Trees → Reading Trees → Reading Trees
-behind front reading = mapped (joined front) reading
+behind front reading = map_reading (joined front) reading
 
 -- the values at a place that are still owed
 abbrev pub owed_at : ℕ → ℕ → List ℕ → ℕ → ℕ → Reading Trees
@@ -65,17 +65,17 @@ after-zero (whole a k) = ap (λ (x : ℕ). whole a x) (omega arith)
 after-zero more = refl
 after-zero (flawed x k) = ap (λ (y : ℕ). flawed x y) (omega arith)
 
-mapped-after : {A B : Type 0} (f : A → B) (n : ℕ) (r : Reading A) → mapped f (after n r) ≡ after n (mapped f r)
+mapped-after : {A B : Type 0} (f : A → B) (n : ℕ) (r : Reading A) → map_reading f (after n r) ≡ after n (map_reading f r)
 mapped-after f n (whole a k) = refl
 mapped-after f n more = refl
 mapped-after f n (flawed x k) = refl
 
-behind-none : (r : Reading Trees) → mapped (joined no_more) r ≡ r
+behind-none : (r : Reading Trees) → map_reading (joined no_more) r ≡ r
 behind-none (whole ts k) = refl
 behind-none more = refl
 behind-none (flawed x k) = refl
 
-behind-one : (t : Tree) (front : Trees) (r : Reading Trees) → mapped (one t) (mapped (joined front) r) ≡ mapped (joined (one t front)) r
+behind-one : (t : Tree) (front : Trees) (r : Reading Trees) → map_reading (one t) (map_reading (joined front) r) ≡ map_reading (joined (one t front)) r
 behind-one t front (whole ts k) = refl
 behind-one t front more = refl
 behind-one t front (flawed x k) = refl
@@ -85,23 +85,23 @@ behind-behind front next (whole ts k) = ap (λ (us : Trees). whole us k) (sym (j
 behind-behind front next more = refl
 behind-behind front next (flawed x k) = refl
 
-chained-one : (t : Tree) (k : ℕ) (r : Reading Trees) (f g : Trees → ℕ → Reading Trees) → ((ts : Trees) (j : ℕ) → mapped (one t) (f ts j) ≡ g (one t ts) (k + j))
-    → after k (mapped (one t) (chained r f)) ≡ chained (after k (mapped (one t) r)) g
+chained-one : (t : Tree) (k : ℕ) (r : Reading Trees) (f g : Trees → ℕ → Reading Trees) → ((ts : Trees) (j : ℕ) → map_reading (one t) (f ts j) ≡ g (one t ts) (k + j))
+    → after k (map_reading (one t) (reading_then r f)) ≡ reading_then (after k (map_reading (one t) r)) g
 chained-one t k (whole ts j) f g law =
-    ap (λ (r : Reading Trees). after k r) (mapped-after (one t) j (f ts j)) ∙ after-after k j (mapped (one t) (f ts j)) ∙ ap (λ (r : Reading Trees). after (k + j) r) (law ts j)
+    ap (λ (r : Reading Trees). after k r) (mapped-after (one t) j (f ts j)) ∙ after-after k j (map_reading (one t) (f ts j)) ∙ ap (λ (r : Reading Trees). after (k + j) r) (law ts j)
 chained-one t k more f g law = refl
 chained-one t k (flawed x j) f g law = refl
 
 split_first : (read : ℕ → List ℕ → Reading Tree) (m n room : ℕ) (bytes : List ℕ)
-    → ((room : ℕ) (bytes : List ℕ) → items_at read (m + n) room bytes ≡ chained (items_at read m (room - n) bytes) (λ (ts : Trees) (k : ℕ). behind ts (items_at read n (room - k) (drop k bytes))))
-    → (r : Reading Tree) → chained r (λ (t : Tree) (k : ℕ). mapped (one t) (items_at read (m + n) (room - k) (drop k bytes)))
-    ≡ chained (chained r (λ (t : Tree) (k : ℕ). mapped (one t) (items_at read m (room - n - k) (drop k bytes)))) (λ (ts : Trees) (k : ℕ). behind ts (items_at read n (room - k) (drop k bytes)))
+    → ((room : ℕ) (bytes : List ℕ) → items_at read (m + n) room bytes ≡ reading_then (items_at read m (room - n) bytes) (λ (ts : Trees) (k : ℕ). behind ts (items_at read n (room - k) (drop k bytes))))
+    → (r : Reading Tree) → reading_then r (λ (t : Tree) (k : ℕ). map_reading (one t) (items_at read (m + n) (room - k) (drop k bytes)))
+    ≡ reading_then (reading_then r (λ (t : Tree) (k : ℕ). map_reading (one t) (items_at read m (room - n - k) (drop k bytes)))) (λ (ts : Trees) (k : ℕ). behind ts (items_at read n (room - k) (drop k bytes)))
 split_first read m n room bytes law (whole t k) =
     let e : room - k - n ≡ room - n - k = omega arith in
     let inner : items_at read (m + n) (room - k) (drop k bytes)
-    ≡ chained (items_at read m (room - n - k) (drop k bytes)) (λ (ts : Trees) (j : ℕ). behind ts (items_at read n (room - k - j) (drop j (drop k bytes)))) =
-    law (room - k) (drop k bytes) ∙ ap (λ (x : ℕ). chained (items_at read m x (drop k bytes)) (λ (ts : Trees) (j : ℕ). behind ts (items_at read n (room - k - j) (drop j (drop k bytes))))) e in
-    ap (λ (r : Reading Trees). after k (mapped (one t) r)) inner
+    ≡ reading_then (items_at read m (room - n - k) (drop k bytes)) (λ (ts : Trees) (j : ℕ). behind ts (items_at read n (room - k - j) (drop j (drop k bytes)))) =
+    law (room - k) (drop k bytes) ∙ ap (λ (x : ℕ). reading_then (items_at read m x (drop k bytes)) (λ (ts : Trees) (j : ℕ). behind ts (items_at read n (room - k - j) (drop j (drop k bytes))))) e in
+    ap (λ (r : Reading Trees). after k (map_reading (one t) r)) inner
     ∙ chained-one t k (items_at read m (room - n - k) (drop k bytes))
     (λ (ts : Trees) (j : ℕ). behind ts (items_at read n (room - k - j) (drop j (drop k bytes))))
     (λ (ts : Trees) (j : ℕ). behind ts (items_at read n (room - j) (drop j bytes)))
@@ -113,18 +113,18 @@ split_first read m n room bytes law (flawed x k) = refl
 
 -- m and n values are m values, and then n
 split : (read : ℕ → List ℕ → Reading Tree) (m n room : ℕ) (bytes : List ℕ)
-    → items_at read (m + n) room bytes ≡ chained (items_at read m (room - n) bytes) (λ (ts : Trees) (k : ℕ). behind ts (items_at read n (room - k) (drop k bytes)))
+    → items_at read (m + n) room bytes ≡ reading_then (items_at read m (room - n) bytes) (λ (ts : Trees) (k : ℕ). behind ts (items_at read n (room - k) (drop k bytes)))
 unfolding items_at
 split read zero n room bytes =
     let e : zero + n ≡ n = omega arith in
     let r : room - 0 ≡ room = omega arith in
     ap (λ (x : ℕ). items_at read x room bytes) e
-    ∙ sym (after-zero (mapped (joined no_more) (items_at read n (room - 0) bytes)) ∙ behind-none (items_at read n (room - 0) bytes) ∙ ap (λ (x : ℕ). items_at read n x bytes) r)
+    ∙ sym (after-zero (map_reading (joined no_more) (items_at read n (room - 0) bytes)) ∙ behind-none (items_at read n (room - 0) bytes) ∙ ap (λ (x : ℕ). items_at read n x bytes) r)
 split read (suc m) n room bytes =
     let e : suc m + n ≡ suc (m + n) = omega arith in
     let r : room - (m + n) ≡ room - n - m = omega arith in
     ap (λ (x : ℕ). items_at read x room bytes) e
-    ∙ ap (λ (x : ℕ). chained (read x bytes) (λ (t : Tree) (k : ℕ). mapped (one t) (items_at read (m + n) (room - k) (drop k bytes)))) r
+    ∙ ap (λ (x : ℕ). reading_then (read x bytes) (λ (t : Tree) (k : ℕ). map_reading (one t) (items_at read (m + n) (room - k) (drop k bytes)))) r
     ∙ split_first read m n room bytes (split read m n) (read (room - n - m) bytes)
 
 -- m of the values owed were read: the others are owed
@@ -144,19 +144,19 @@ some_more depth limit bytes m owed at front ts end total fits e so_far =
     ap (λ (x : ℕ). items_at read owed x (drop k (drop at bytes))) room
     ∙ ap (λ (l : List ℕ). items_at read owed (limit - end) l) (drop-drop k at bytes ∙ ap (λ (x : ℕ). drop x bytes) (sym end_is)) in
     let whole_is : owed_at depth limit bytes (m + owed) at ≡ behind ts (owed_at depth limit bytes owed end) =
-    ap (λ (r : Reading Trees). after at r) (split read m owed (limit - at) (drop at bytes) ∙ ap (λ (r : Reading Trees). chained r next) first
+    ap (λ (r : Reading Trees). after at r) (split read m owed (limit - at) (drop at bytes) ∙ ap (λ (r : Reading Trees). reading_then r next) first
     ∙ ap (λ (r : Reading Trees). after k (behind ts r)) rest)
     ∙ after-after at k (behind ts (items_at read owed (limit - end) (drop end bytes)))
     ∙ ap (λ (x : ℕ). after x (behind ts (items_at read owed (limit - end) (drop end bytes)))) (sym end_is)
     ∙ sym (mapped-after (joined ts) end (items_at read owed (limit - end) (drop end bytes))) in
     sym (behind-behind front ts (owed_at depth limit bytes owed end)) ∙ ap (λ (r : Reading Trees). behind front r) (sym whole_is) ∙ so_far
 
-Stops-behind : {A B : Type 0} (stop : Stop) (f : A → B) (r : Reading A) → Stops stop r → Stops stop (mapped f r)
+Stops-behind : {A B : Type 0} (stop : Stop) (f : A → B) (r : Reading A) → Stops stop r → Stops stop (map_reading f r)
 Stops-behind {A} stops.NoMemory f r h = tt
-Stops-behind {A} stops.NeedsMore f r h = ap (λ (x : Reading A). mapped f x) h
-Stops-behind {A} (stops.Flawed fault place) f r h = ap (λ (x : Reading A). mapped f x) h
+Stops-behind {A} stops.NeedsMore f r h = ap (λ (x : Reading A). map_reading f x) h
+Stops-behind {A} (stops.Flawed fault place) f r h = ap (λ (x : Reading A). map_reading f x) h
 
-Stops-chained : (stop : Stop) (at : ℕ) (r : Reading Trees) (next : Trees → ℕ → Reading Trees) → Stops stop (after at r) → Stops stop (after at (chained r next))
+Stops-chained : (stop : Stop) (at : ℕ) (r : Reading Trees) (next : Trees → ℕ → Reading Trees) → Stops stop (after at r) → Stops stop (after at (reading_then r next))
 Stops-chained stops.NoMemory at r next h = tt
 Stops-chained stops.NeedsMore at (whole ts k) next h = cc
 Stops-chained stops.NeedsMore at more next h = refl
@@ -178,20 +178,20 @@ some_stop stop depth limit bytes m owed at front total fits h so_far =
     subst (λ (x : Reading Trees). Stops stop (after at x)) (sym (split read m owed (limit - at) (drop at bytes))) (Stops-chained stop at (items_at read m (limit - at - owed) (drop at bytes)) next first) in
     subst (λ (x : Reading Trees). Stops stop x) so_far (Stops-behind stop (joined front) (owed_at depth limit bytes (m + owed) at) all)
 
-one_by : (at : ℕ) (r : Reading Tree) → after at (chained r (λ (t : Tree) (k : ℕ). whole (one t no_more) 0)) ≡ mapped (λ (t : Tree). one t no_more) (after at r)
+one_by : (at : ℕ) (r : Reading Tree) → after at (reading_then r (λ (t : Tree) (k : ℕ). whole (one t no_more) 0)) ≡ map_reading (λ (t : Tree). one t no_more) (after at r)
 one_by at (whole t k) = ap (λ (x : ℕ). whole (one t no_more) (at + x)) (omega arith)
 one_by at more = refl
 one_by at (flawed x k) = refl
 
 -- a value is a list of one
-items_one : (read : ℕ → List ℕ → Reading Tree) (room at : ℕ) (bytes : List ℕ) → after at (items_at read 1 room bytes) ≡ mapped (λ (t : Tree). one t no_more) (after at (read room bytes))
+items_one : (read : ℕ → List ℕ → Reading Tree) (room at : ℕ) (bytes : List ℕ) → after at (items_at read 1 room bytes) ≡ map_reading (λ (t : Tree). one t no_more) (after at (read room bytes))
 unfolding items_at
 items_one read room at bytes =
     let e : room - 0 ≡ room = omega arith in
-    ap (λ (x : ℕ). after at (chained (read x bytes) (λ (t : Tree) (k : ℕ). whole (one t no_more) 0))) e ∙ one_by at (read room bytes)
+    ap (λ (x : ℕ). after at (reading_then (read x bytes) (λ (t : Tree) (k : ℕ). whole (one t no_more) 0))) e ∙ one_by at (read room bytes)
 
 pub one_whole : (read : ℕ → List ℕ → Reading Tree) (room at : ℕ) (bytes : List ℕ) (t : Tree) (end : ℕ) → after at (read room bytes) ≡ whole t end → after at (items_at read 1 room bytes) ≡ whole (one t no_more) end
-one_whole read room at bytes t end e = items_one read room at bytes ∙ ap (λ (r : Reading Tree). mapped (λ (t : Tree). one t no_more) r) e
+one_whole read room at bytes t end e = items_one read room at bytes ∙ ap (λ (r : Reading Tree). map_reading (λ (t : Tree). one t no_more) r) e
 
 pub one_stops : (stop : Stop) (read : ℕ → List ℕ → Reading Tree) (room at : ℕ) (bytes : List ℕ) → Stops stop (after at (read room bytes)) → Stops stop (after at (items_at read 1 room bytes))
 one_stops stop read room at bytes h = subst (λ (r : Reading Trees). Stops stop r) (sym (items_one read room at bytes)) (Stops-behind stop (λ (t : Tree). one t no_more) (after at (read room bytes)) h)
@@ -228,21 +228,21 @@ items_end_within depth limit n at bytes ts end h l e =
     let end_is : end ≡ at + a.0 = a.2 in
     (omega arith, omega arith)
 
-by_tests : (a b : Bool) (n head : ℕ) (next : ℕ → ℕ → Reading Tree) → cond a (flawed too_long 0) (cond b more (after head (next n head))) ≡ chained (cond a (flawed too_long 0) (cond b more (whole n head))) next
+by_tests : (a b : Bool) (n head : ℕ) (next : ℕ → ℕ → Reading Tree) → cond a (flawed too_long 0) (cond b more (after head (next n head))) ≡ reading_then (cond a (flawed too_long 0) (cond b more (whole n head))) next
 by_tests true b n head next = refl
 by_tests false true n head next = refl
 by_tests false false n head next = refl
 
 -- a list or map is its length and what is behind it
 many_by : (inside : ℕ → ℕ → List ℕ → Reading Trees) (m : Many) (each : ℕ) (s : Size) (room : ℕ) (rest : List ℕ) → values m (number_in s rest) ≡ each * number_in s rest
-    → many_at inside m s room rest ≡ chained (head_at each s room rest) (λ (n k : ℕ). mapped (gathered m) (inside (values m n) (room - k) (drop (width s) rest)))
+    → many_at inside m s room rest ≡ reading_then (head_at each s room rest) (λ (n k : ℕ). map_reading (many_value m) (inside (values m n) (room - k) (drop (width s) rest)))
 many_by inside m each s room rest e =
     ap (λ (x : ℕ). cond (ltb room (1 + width s + x)) (flawed too_long 0) (cond (ltb (length rest) (width s)) more
-    (after (1 + width s) (mapped (gathered m) (inside (values m (number_in s rest)) (room - (1 + width s)) (drop (width s) rest)))))) e
+    (after (1 + width s) (map_reading (many_value m) (inside (values m (number_in s rest)) (room - (1 + width s)) (drop (width s) rest)))))) e
     ∙ by_tests (ltb room (1 + width s + each * number_in s rest)) (ltb (length rest) (width s)) (number_in s rest) (1 + width s)
-    (λ (n k : ℕ). mapped (gathered m) (inside (values m n) (room - k) (drop (width s) rest)))
+    (λ (n k : ℕ). map_reading (many_value m) (inside (values m n) (room - k) (drop (width s) rest)))
 
-Stops-head : (stop : Stop) (at : ℕ) (r : Reading ℕ) (next : ℕ → ℕ → Reading Tree) → Stops stop (after at r) → Stops stop (after at (chained r next))
+Stops-head : (stop : Stop) (at : ℕ) (r : Reading ℕ) (next : ℕ → ℕ → Reading Tree) → Stops stop (after at r) → Stops stop (after at (reading_then r next))
 Stops-head stops.NoMemory at r next h = tt
 Stops-head stops.NeedsMore at (whole ts k) next h = cc
 Stops-head stops.NeedsMore at more next h = refl
@@ -256,7 +256,7 @@ pub head_stops : (stop : Stop) (inside : ℕ → ℕ → List ℕ → Reading Tr
     → Stops stop (after at (head_at each s room rest)) → Stops stop (after at (many_at inside m s room rest))
 head_stops stop inside m each s room at rest e h =
     subst (λ (r : Reading Tree). Stops stop (after at r)) (sym (many_by inside m each s room rest e))
-    (Stops-head stop at (head_at each s room rest) (λ (n k : ℕ). mapped (gathered m) (inside (values m n) (room - k) (drop (width s) rest))) h)
+    (Stops-head stop at (head_at each s room rest) (λ (n k : ℕ). map_reading (many_value m) (inside (values m n) (room - k) (drop (width s) rest))) h)
 
 length_by : (a b : Bool) (n head m k : ℕ) → cond a (flawed too_long 0) (cond b more (whole m head)) ≡ whole n k → k ≡ head
 length_by true b n head m k e = cc
@@ -270,31 +270,31 @@ head_length each s room rest n k e = length_by (ltb room (1 + width s + each * n
 pub head_then : (inside : ℕ → ℕ → List ℕ → Reading Trees) (m : Many) (each : ℕ) (s : Size) (limit at : ℕ) (bytes : List ℕ) (n start : ℕ)
     → values m (number_in s (drop (at + 1) bytes)) ≡ each * number_in s (drop (at + 1) bytes)
     → after at (head_at each s (limit - at) (drop (at + 1) bytes)) ≡ whole n start
-    → after at (many_at inside m s (limit - at) (drop (at + 1) bytes)) ≡ mapped (gathered m) (after start (inside (values m n) (limit - start) (drop start bytes)))
+    → after at (many_at inside m s (limit - at) (drop (at + 1) bytes)) ≡ map_reading (many_value m) (after start (inside (values m n) (limit - start) (drop start bytes)))
 head_then inside m each s limit at bytes n start e h =
     let rest = drop (at + 1) bytes in
     let a = after-is_whole at (head_at each s (limit - at) rest) n start h in
     let k = a.0 in
-    let next = λ (n k : ℕ). mapped (gathered m) (inside (values m n) (limit - at - k) (drop (width s) rest)) in
+    let next = λ (n k : ℕ). map_reading (many_value m) (inside (values m n) (limit - at - k) (drop (width s) rest)) in
     let k_is : k ≡ 1 + width s = head_length each s (limit - at) rest n k a.1 in
     let start_is : start ≡ at + k = a.2 in
     let room : limit - at - k ≡ limit - start = omega arith in
     let place : at + 1 + width s ≡ start = omega arith in
     let behind_is : drop (width s) rest ≡ drop start bytes = drop-drop (width s) (at + 1) bytes ∙ ap (λ (x : ℕ). drop x bytes) place in
     let body = inside (values m n) (limit - start) (drop start bytes) in
-    ap (λ (r : Reading Tree). after at r) (many_by inside m each s (limit - at) rest e ∙ ap (λ (r : Reading ℕ). chained r next) a.1)
+    ap (λ (r : Reading Tree). after at r) (many_by inside m each s (limit - at) rest e ∙ ap (λ (r : Reading ℕ). reading_then r next) a.1)
     ∙ after-after at k (next n k)
     ∙ ap (λ (x : ℕ). after x (next n k)) (sym start_is)
-    ∙ ap (λ (x : ℕ). after start (mapped (gathered m) (inside (values m n) x (drop (width s) rest)))) room
-    ∙ ap (λ (l : List ℕ). after start (mapped (gathered m) (inside (values m n) (limit - start) l))) behind_is
-    ∙ sym (mapped-after (gathered m) start body)
+    ∙ ap (λ (x : ℕ). after start (map_reading (many_value m) (inside (values m n) x (drop (width s) rest)))) room
+    ∙ ap (λ (l : List ℕ). after start (map_reading (many_value m) (inside (values m n) (limit - start) l))) behind_is
+    ∙ sym (mapped-after (many_value m) start body)
 
 -- the values behind a length stop
-pub body_stops : (stop : Stop) (m : Many) (total : Reading Tree) (r : Reading Trees) → total ≡ mapped (gathered m) r → Stops stop r → Stops stop total
-body_stops stop m total r e h = subst (λ (x : Reading Tree). Stops stop x) (sym e) (Stops-behind stop (gathered m) r h)
+pub body_stops : (stop : Stop) (m : Many) (total : Reading Tree) (r : Reading Trees) → total ≡ map_reading (many_value m) r → Stops stop r → Stops stop total
+body_stops stop m total r e h = subst (λ (x : Reading Tree). Stops stop x) (sym e) (Stops-behind stop (many_value m) r h)
 
-pub body_whole : (m : Many) (total : Reading Tree) (r : Reading Trees) (ts : Trees) (end : ℕ) → total ≡ mapped (gathered m) r → r ≡ whole ts end → total ≡ whole (gathered m ts) end
-body_whole m total r ts end e h = e ∙ ap (λ (x : Reading Trees). mapped (gathered m) x) h
+pub body_whole : (m : Many) (total : Reading Tree) (r : Reading Trees) (ts : Trees) (end : ℕ) → total ≡ map_reading (many_value m) r → r ≡ whole ts end → total ≡ whole (many_value m ts) end
+body_whole m total r ts end e h = e ∙ ap (λ (x : Reading Trees). map_reading (many_value m) x) h
 
 -- the value at a place, by its first byte
 abbrev inside_of : ℕ → Inside

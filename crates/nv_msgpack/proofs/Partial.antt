@@ -4,8 +4,8 @@ use Rattle.std.proofs.Math.ListN.{replicate}
 use Rattle.std.proofs.lemmas.List.{append_assoc, take-append-drop, length-drop, length-take-le, length-replicate}
 use Rattle.std.proofs.lemmas.Bool.{ltb-true, ltb-false}
 use Rattle.nv_value.specs.Content.{Tree, nil, Trees, no_more, one, count}
-use Rattle.nv_msgpack.specs.Spelling.{Size, Raw, Many, Form, unused, alone, raw, many, form, middle, width, number_in, extra, made, values, gathered, SpelledBy, SpelledWith, Each, SpellsIn}
-use Rattle.nv_msgpack.specs.Reading.{Reading, whole, more, flawed, too_long, Inside, none, some, mapped, after, items_at, read_by, read_with, value_at}
+use Rattle.nv_msgpack.specs.Spelling.{Size, Raw, Many, Form, unused, alone, raw, many, form, middle, width, number_in, extra, raw_value, values, many_value, SpelledBy, SpelledWith, Each, SpellsIn}
+use Rattle.nv_msgpack.specs.Reading.{Reading, whole, more, flawed, too_long, Inside, none, some, map_reading, after, items_at, read_by, read_with, value_at}
 use Rattle.nv_msgpack.proofs.Lengths.{number_in-take, number_in-zeros}
 use Rattle.nv_msgpack.proofs.Readings.{mapped-is_more, after-is_more, chained-is_more}
 use Rattle.nv_msgpack.proofs.Sound.{IsSound, sound}
@@ -78,7 +78,7 @@ raw_grows I r s room rest h l =
     let same : number_in s size ≡ n = number_in-take s (width s) full (omega arith) (omega arith) ∙ number_in-zeros s missing rest in
     let bytes_long : length bytes ≡ n + extra r = length-drop (width s) full ∙ omega arith in (
       tail,
-      made r bytes,
+      raw_value r bytes,
       omega arith,
       omega arith,
       (size, bytes, size_long, bytes_long ∙ ap (λ (x : ℕ). x + extra r) (sym same), sym (take-append-drop (width s) full), refl),
@@ -98,7 +98,7 @@ many_grows_length I fills m s room rest h l =
     let size_long : length size ≡ width s = length-append rest zeros ∙ omega arith in
     let tail_long : length (zeros ++ body) ≡ missing + n = length-append zeros body ∙ omega arith in (
       zeros ++ body,
-      gathered m (nils n),
+      many_value m (nils n),
       omega arith,
       omega arith,
       (size, body, nils n, size_long, count-nils n ∙ ap (λ (x : ℕ). values m x) (sym (number_in-zeros s missing rest)), sym (append_assoc rest zeros body), refl, fills n),
@@ -116,7 +116,7 @@ many_grows_inside I m s room rest h l g =
     let f = g.fits in
     let split : rest ++ g.tail ≡ size ++ (behind ++ g.tail) = ap (λ (x : List ℕ). x ++ g.tail) (sym (take-append-drop (width s) rest)) ∙ append_assoc size behind g.tail in (
       g.tail,
-      gathered m g.trees,
+      many_value m g.trees,
       g.some_tail,
       omega arith,
       (size, behind ++ g.tail, g.trees, size_long, g.counted ∙ ap (λ (x : ℕ). values m x) (sym same), split, refl, g.spelled),
@@ -128,17 +128,17 @@ grows_by I i law unused room rest e = cc
 grows_by I i law (alone u) room rest e = cc
 grows_by I i law (raw r s) room rest e =
     let least = 1 + width s + (number_in s rest + extra r) in
-    let w = wants room least (1 + length rest) least (whole (made r (take (number_in s rest + extra r) (drop (width s) rest))) least) (ltb room least) (ltb (1 + length rest) least) refl refl e in
+    let w = wants room least (1 + length rest) least (whole (raw_value r (take (number_in s rest + extra r) (drop (width s) rest))) least) (ltb room least) (ltb (1 + length rest) least) refl refl e in
     ⊎_elim (λ l. raw_grows I r s room rest w.0 l) (λ p. let q = p.1 in cc) w.1
 grows_by I none law (many m s) room rest e = cc
 grows_by I (some read) law (many m s) room rest e =
     let n = values m (number_in s rest) in
     let inner = read n (room - (1 + width s)) (drop (width s) rest) in
-    let w = wants room (1 + width s + n) (length rest) (width s) (after (1 + width s) (mapped (gathered m) inner)) (ltb room (1 + width s + n)) (ltb (length rest) (width s)) refl refl e in
+    let w = wants room (1 + width s + n) (length rest) (width s) (after (1 + width s) (map_reading (many_value m) inner)) (ltb room (1 + width s + n)) (ltb (length rest) (width s)) refl refl e in
     let fit = w.0 in
     ⊎_elim (λ l. many_grows_length I law.0 m s room rest w.0 l)
     (λ p. many_grows_inside I m s room rest w.0 p.0
-    (law.1 n (room - (1 + width s)) (drop (width s) rest) (omega arith) (mapped-is_more (gathered m) inner (after-is_more (1 + width s) (mapped (gathered m) inner) p.1))))
+    (law.1 n (room - (1 + width s)) (drop (width s) rest) (omega arith) (mapped-is_more (many_value m) inner (after-is_more (1 + width s) (map_reading (many_value m) inner) p.1))))
     w.1
 
 grows_with : (I : Trees → List ℕ → Type 0) (i : Inside) → GrowsInside I i → Grows (SpelledWith I) (read_with i)
@@ -151,7 +151,7 @@ grow_items : (S : Tree → List ℕ → Type 0) (read : ℕ → List ℕ → Rea
 unfolding items_at
 grow_items S read is_sound fill law zero room bytes h e = cc
 grow_items S read is_sound fill law (suc n) room bytes h e =
-    let next = λ (t : Tree) (k : ℕ). mapped (one t) (items_at read n (room - k) (drop k bytes)) in
+    let next = λ (t : Tree) (k : ℕ). map_reading (one t) (items_at read n (room - k) (drop k bytes)) in
     ⊎_elim
     (λ first.
     let g = law (room - n) bytes (omega arith) first in

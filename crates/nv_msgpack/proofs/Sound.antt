@@ -4,8 +4,8 @@ use Rattle.std.proofs.lemmas.List.{length-drop, length-take-le}
 use Rattle.std.proofs.Math.Seq.{take-add}
 use Rattle.std.proofs.lemmas.Bool.{ltb-false}
 use Rattle.nv_value.specs.Content.{Tree, Trees, no_more, one, count}
-use Rattle.nv_msgpack.specs.Spelling.{Size, Raw, Many, Form, unused, alone, raw, many, form, width, number_in, extra, made, values, gathered, SpelledBy, SpelledWith, Each, SpellsIn}
-use Rattle.nv_msgpack.specs.Reading.{Reading, whole, more, flawed, too_long, Inside, none, some, mapped, after, items_at, raw_at, many_at, read_by, read_with, value_at}
+use Rattle.nv_msgpack.specs.Spelling.{Size, Raw, Many, Form, unused, alone, raw, many, form, width, number_in, extra, raw_value, values, many_value, SpelledBy, SpelledWith, Each, SpellsIn}
+use Rattle.nv_msgpack.specs.Reading.{Reading, whole, more, flawed, too_long, Inside, none, some, map_reading, after, items_at, raw_at, many_at, read_by, read_with, value_at}
 use Rattle.nv_msgpack.proofs.Lengths.{number_in-take}
 use Rattle.nv_msgpack.proofs.Readings.{mapped-is_whole, after-is_whole, chained-is_whole}
 
@@ -38,7 +38,7 @@ pub record RawWhole (r : Raw) (s : Size) (room : ℕ) (rest : List ℕ) (t : Tre
   pub least : k ≡ 1 + width s + (number_in s rest + extra r)
   pub fits : k ≤ room
   pub within : width s + (number_in s rest + extra r) ≤ length rest
-  pub tree : t ≡ made r (take (number_in s rest + extra r) (drop (width s) rest))
+  pub tree : t ≡ raw_value r (take (number_in s rest + extra r) (drop (width s) rest))
 
 ways : {A : Type 0} (room least len : ℕ) (v : A) (t : A) (k : ℕ) (a b : Bool) → ltb room least ≡ a → ltb len least ≡ b
     → cond a (flawed too_long 0) (cond b more (whole v least)) ≡ whole t k → (k ≡ least) × (least ≤ room) × (least ≤ len) × (t ≡ v)
@@ -62,7 +62,7 @@ three_ways room least len v t k e = ways room least len v t k (ltb room least) (
 
 pub raw_at-is_whole : (r : Raw) (s : Size) (room : ℕ) (rest : List ℕ) (t : Tree) (k : ℕ) → raw_at r s room rest ≡ whole t k → RawWhole r s room rest t k
 raw_at-is_whole r s room rest t k e =
-    let w = three_ways room (1 + width s + (number_in s rest + extra r)) (1 + length rest) (made r (take (number_in s rest + extra r) (drop (width s) rest))) t k e in
+    let w = three_ways room (1 + width s + (number_in s rest + extra r)) (1 + length rest) (raw_value r (take (number_in s rest + extra r) (drop (width s) rest))) t k e in
     record { least = w.0; fits = omega arith; within = omega arith; tree = w.3 }
 
 raw_sound : (r : Raw) (s : Size) (room : ℕ) (rest : List ℕ) (I : Trees → List ℕ → Type 0) (t : Tree) (k : ℕ) → RawWhole r s room rest t k → SpelledBy I (raw r s) t (take (k - 1) rest)
@@ -84,15 +84,15 @@ pub record ManyWhole (read : ℕ → ℕ → List ℕ → Reading Trees) (m : Ma
   pub items : Trees
   pub taken : ℕ
   pub reads : read (values m (number_in s rest)) (room - (1 + width s)) (drop (width s) rest) ≡ whole items taken
-  pub tree : t ≡ gathered m items
+  pub tree : t ≡ many_value m items
   pub length_is : k ≡ 1 + width s + taken
 
 pub many_at-is_whole : (read : ℕ → ℕ → List ℕ → Reading Trees) (m : Many) (s : Size) (room : ℕ) (rest : List ℕ) (t : Tree) (k : ℕ) → many_at read m s room rest ≡ whole t k → ManyWhole read m s room rest t k
 many_at-is_whole read m s room rest t k e =
     let inner = read (values m (number_in s rest)) (room - (1 + width s)) (drop (width s) rest) in
-    let w = two_ways room (1 + width s + values m (number_in s rest)) (length rest) (width s) (after (1 + width s) (mapped (gathered m) inner)) t k e in
-    let a = after-is_whole (1 + width s) (mapped (gathered m) inner) t k w.2 in
-    let b = mapped-is_whole (gathered m) inner t a.0 a.1 in
+    let w = two_ways room (1 + width s + values m (number_in s rest)) (length rest) (width s) (after (1 + width s) (map_reading (many_value m) inner)) t k e in
+    let a = after-is_whole (1 + width s) (map_reading (many_value m) inner) t k w.2 in
+    let b = mapped-is_whole (many_value m) inner t a.0 a.1 in
     record { fits = w.0; within = w.1; items = b.0; taken = a.0; reads = b.1; tree = b.2; length_is = a.2 }
 
 many_sound : (I : Trees → List ℕ → Type 0) (read : ℕ → ℕ → List ℕ → Reading Trees) → AreSound I read → (m : Many) (s : Size) (room : ℕ) (b : ℕ) (rest : List ℕ) (t : Tree) (k : ℕ)
@@ -163,7 +163,7 @@ sound_items S read law zero room bytes ts k h e =
     subst (λ (x : Trees). TakesItems (Each S) 0 room bytes x k) (sym ts_is)
     (subst (λ (x : ℕ). TakesItems (Each S) 0 room bytes no_more x) (sym k_is) (record { within = omega arith; fits = omega arith; counted = refl; spelled = refl }))
 sound_items S read law (suc n) room bytes ts k h e =
-    let c = chained-is_whole (read (room - n) bytes) (λ (t : Tree) (j : ℕ). mapped (one t) (items_at read n (room - j) (drop j bytes))) ts k e in
+    let c = chained-is_whole (read (room - n) bytes) (λ (t : Tree) (j : ℕ). map_reading (one t) (items_at read n (room - j) (drop j bytes))) ts k e in
     let t = c.0 in
     let j = c.1 in
     let m = c.2 in

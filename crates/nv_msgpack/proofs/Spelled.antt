@@ -6,7 +6,7 @@ use Rattle.std.proofs.lemmas.Bool.{cases_lt}
 use Rattle.std.proofs.lemmas.Bool.Decides.{nat_tests}
 use Rattle.std.proofs.lemmas.Int.{ints}
 use Rattle.nv_value.specs.Content.{Tree, Trees, nil, truth, integer, big, text, bin, list, pairs, ext, opaque, no_more, one, count}
-use Rattle.nv_msgpack.specs.Spelling.{told, Raw, of_text, of_bin, of_ext, unsigned, signed, float, Many, of_list, of_map, Form, alone, raw, many, form, middle, big_endian, extra, made, values, gathered, two's_complement, unsigned_number, SpelledBy, SpelledWith, Each, SpellsIn}
+use Rattle.nv_msgpack.specs.Spelling.{fixed, Raw, of_text, of_bin, of_ext, unsigned, signed, float, Many, of_list, of_map, Form, alone, raw, many, form, middle, big_endian, extra, raw_value, values, many_value, two's_complement, unsigned_number, SpelledBy, SpelledWith, Each, SpellsIn}
 use Rattle.nv_msgpack.specs.Shortest.{unsigned_spelling, negative_spelling, integer_spelling, text_head, bin_head, ext_head, float_head, list_head, map_head, shortest, all_shortest, depth, depths, HasSpelling, HaveSpellings, IsInRange, AreInRange}
 use Rattle.nv_msgpack.proofs.HeadForms.{IsHead, bytes_2, bytes_4, bytes_8, byte_1, text_head_is, bin_head_is, ext_head_is, float_head_is, list_head_is, map_head_is}
 
@@ -25,20 +25,20 @@ first_and_rest inside b f t rest all e a h =
     subst (λ (l : List ℕ). SpelledWith inside t l) (sym a) (subst (λ (g : Form). SpelledBy inside g t rest) (sym e) h)
 
 -- A head with the length of the bytes behind it.
-raw_spelled : (inside : Trees → List ℕ → Type 0) (r : Raw) (n : ℕ) (head bytes : List ℕ) (t : Tree) → IsHead (raw r) n head → length bytes ≡ n + extra r → t ≡ made r bytes → SpelledWith inside t (head ++ bytes)
+raw_spelled : (inside : Trees → List ℕ → Type 0) (r : Raw) (n : ℕ) (head bytes : List ℕ) (t : Tree) → IsHead (raw r) n head → length bytes ≡ n + extra r → t ≡ raw_value r bytes → SpelledWith inside t (head ++ bytes)
 raw_spelled inside r n head bytes t h long e =
     first_and_rest inside h.first (raw r h.size) t (h.rest ++ bytes) (head ++ bytes) h.form_is (ap (λ (l : List ℕ). l ++ bytes) h.is)
     (h.rest, bytes, h.width_is, long ∙ ap (λ (k : ℕ). k + extra r) (sym h.number_is), refl, e)
 
 -- A head with the number of values behind it.
-many_spelled : (inside : Trees → List ℕ → Type 0) (m : Many) (n : ℕ) (head body : List ℕ) (ts : Trees) → IsHead (many m) n head → count ts ≡ values m n → inside ts body → SpelledWith inside (gathered m ts) (head ++ body)
+many_spelled : (inside : Trees → List ℕ → Type 0) (m : Many) (n : ℕ) (head body : List ℕ) (ts : Trees) → IsHead (many m) n head → count ts ≡ values m n → inside ts body → SpelledWith inside (many_value m ts) (head ++ body)
 many_spelled inside m n head body ts h counted i =
-    first_and_rest inside h.first (many m h.size) (gathered m ts) (h.rest ++ body) (head ++ body) h.form_is (ap (λ (l : List ℕ). l ++ body) h.is)
+    first_and_rest inside h.first (many m h.size) (many_value m ts) (h.rest ++ body) (head ++ body) h.form_is (ap (λ (l : List ℕ). l ++ body) h.is)
     (h.rest, body, ts, h.width_is, counted ∙ ap (values m) (sym h.number_is), refl, refl, i)
 
 -- A number of w bytes behind its first byte.
-number_spelled : (inside : Trees → List ℕ → Type 0) (r : Raw) (w b : ℕ) (bytes : List ℕ) (t : Tree) → form b ≡ raw r (told w) → length bytes ≡ w + extra r → t ≡ made r bytes → SpelledWith inside t (b ∷ bytes)
-number_spelled inside r w b bytes t f long e = first_and_rest inside b (raw r (told w)) t bytes (b ∷ bytes) f refl ([], bytes, refl, long, refl, e)
+number_spelled : (inside : Trees → List ℕ → Type 0) (r : Raw) (w b : ℕ) (bytes : List ℕ) (t : Tree) → form b ≡ raw r (fixed w) → length bytes ≡ w + extra r → t ≡ raw_value r bytes → SpelledWith inside t (b ∷ bytes)
+number_spelled inside r w b bytes t f long e = first_and_rest inside b (raw r (fixed w)) t bytes (b ∷ bytes) f refl ([], bytes, refl, long, refl, e)
 
 form_of_fixint : (n : ℕ) → n < 0x80 → form n ≡ alone (integer (pos n))
 unfolding form
@@ -79,7 +79,7 @@ unsigned_spelled inside n h = elim (cases_lt n 0x80) [
 ]
 
 -- The bytes of a number below 0 stand for it.
-signed_is : (w m n : ℕ) (bytes : List ℕ) → length bytes ≡ w → big_endian w bytes ≡ m → m + suc n ≡ 256 ^ w → 256 ^ w ≤ 2 * m → integer (negsuc n) ≡ made signed bytes
+signed_is : (w m n : ℕ) (bytes : List ℕ) → length bytes ≡ w → big_endian w bytes ≡ m → m + suc n ≡ 256 ^ w → 256 ^ w ≤ 2 * m → integer (negsuc n) ≡ raw_value signed bytes
 signed_is w m n bytes long number e h =
     let read : big_endian (length bytes) bytes ≡ m = ap (λ (k : ℕ). big_endian k bytes) long ∙ number in
     ap integer (sym (ap (λ (k : ℕ). two's_complement k (big_endian (length bytes) bytes)) long ∙ ap (two's_complement w) read ∙ two's_negative w m n e h))
@@ -119,7 +119,7 @@ type_read : (kind : ℤ) → FitsSigned w8 kind → kind ≡ two's_complement 1 
 type_read (pos n) h = let small : n < 2 ^ 7 = h.sfits in grind (arith, nat_tests)
 type_read (negsuc n) h = let small : n < 2 ^ 7 = h.sfits in sym (two's_negative 1 (cast_unsigned w8 (negsuc n)) n (omega arith) (omega arith))
 
-ext_is : (kind : ℤ) (bytes : List ℕ) → FitsSigned w8 kind → ext kind bytes ≡ made of_ext (cast_unsigned w8 kind ∷ bytes)
+ext_is : (kind : ℤ) (bytes : List ℕ) → FitsSigned w8 kind → ext kind bytes ≡ raw_value of_ext (cast_unsigned w8 kind ∷ bytes)
 unfolding big_endian
 ext_is kind bytes h =
     let first : big_endian 1 (cast_unsigned w8 kind ∷ bytes) ≡ cast_unsigned w8 kind = omega arith in

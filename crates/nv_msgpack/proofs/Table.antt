@@ -7,7 +7,7 @@ use Rattle.std.proofs.lemmas.Int.{ints}
 use Rattle.std.proofs.lemmas.Nat.{mul-add-lt}
 use Rattle.std.proofs.Math.Nat.{pow-suc}
 use Rattle.nv_value.specs.Content.{Tree, nil, truth, integer}
-use Rattle.nv_msgpack.specs.Spelling.{Size, told, field, Raw, of_text, of_bin, of_ext, unsigned, signed, float, of_list, of_map, Form, unused, alone, raw, many, form, middle, big_endian}
+use Rattle.nv_msgpack.specs.Spelling.{Size, fixed, field, Raw, of_text, of_bin, of_ext, unsigned, signed, float, of_list, of_map, Form, unused, alone, raw, many, form, middle, big_endian}
 
 -- A value that is its first byte.
 abbrev pub small : Tree → Bool
@@ -19,22 +19,22 @@ small _ = false
 
 -- A size that what has bytes behind its length can have.
 abbrev pub sized : Raw → Size → Bool
-sized of_text (told n) = nat_lt n 0x20
+sized of_text (fixed n) = nat_lt n 0x20
 sized of_text (field w) = w == 1 || w == 2 || w == 4
-sized of_bin (told n) = false
+sized of_bin (fixed n) = false
 sized of_bin (field w) = w == 1 || w == 2 || w == 4
-sized of_ext (told n) = n == 1 || n == 2 || n == 4 || n == 8 || n == 16
+sized of_ext (fixed n) = n == 1 || n == 2 || n == 4 || n == 8 || n == 16
 sized of_ext (field w) = w == 1 || w == 2 || w == 4
-sized unsigned (told w) = w == 1 || w == 2 || w == 4 || w == 8
+sized unsigned (fixed w) = w == 1 || w == 2 || w == 4 || w == 8
 sized unsigned (field w) = false
-sized signed (told w) = w == 1 || w == 2 || w == 4 || w == 8
+sized signed (fixed w) = w == 1 || w == 2 || w == 4 || w == 8
 sized signed (field w) = false
-sized float (told w) = w == 4 || w == 8
+sized float (fixed w) = w == 4 || w == 8
 sized float (field w) = false
 
 -- A size that what has values behind its length can have.
 abbrev pub counted : Size → Bool
-counted (told n) = nat_lt n 0x10
+counted (fixed n) = nat_lt n 0x10
 counted (field w) = w == 2 || w == 4
 
 abbrev pub listed : Form → Bool
@@ -70,11 +70,11 @@ unfolding form
 is_listed b = elim (cases_lt b 0x80) [
   | inl i ↦ let f : form b ≡ alone (integer (pos b)) = grind (arith, nat_tests) in ap listed f ∙ grind (arith, nat_tests)
   | inr i ↦ elim (cases_lt b 0x90) [
-    | inl j ↦ let f : form b ≡ many of_map (told (b - 0x80)) = grind (arith, nat_tests) in ap listed f ∙ grind (arith, nat_tests)
+    | inl j ↦ let f : form b ≡ many of_map (fixed (b - 0x80)) = grind (arith, nat_tests) in ap listed f ∙ grind (arith, nat_tests)
     | inr j ↦ elim (cases_lt b 0xa0) [
-      | inl k ↦ let f : form b ≡ many of_list (told (b - 0x90)) = grind (arith, nat_tests) in ap listed f ∙ grind (arith, nat_tests)
+      | inl k ↦ let f : form b ≡ many of_list (fixed (b - 0x90)) = grind (arith, nat_tests) in ap listed f ∙ grind (arith, nat_tests)
       | inr k ↦ elim (cases_lt b 0xc0) [
-        | inl l ↦ let f : form b ≡ raw of_text (told (b - 0xa0)) = grind (arith, nat_tests) in ap listed f ∙ grind (arith, nat_tests)
+        | inl l ↦ let f : form b ≡ raw of_text (fixed (b - 0xa0)) = grind (arith, nat_tests) in ap listed f ∙ grind (arith, nat_tests)
         | inr l ↦ elim (cases_lt b 0xe0) [
           | inl m ↦ let f : form b ≡ slice_index_or middle (b - 0xc0) unused = grind (arith, nat_tests) in ap listed f ∙ in_middle (b - 0xc0)
           | inr m ↦ elim (cases_lt b 0x100) [

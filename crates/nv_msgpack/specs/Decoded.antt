@@ -16,9 +16,11 @@ decoded_seen (answers.Bad n) = flawed bad n
 decoded_seen (answers.TooDeep n) = flawed too_deep n
 decoded_seen (answers.TooLong n) = flawed too_long n
 
--- A whole value is spelled by the bytes that it took; more is wanted of a front of a spelling; a flaw is where the text stops beginning one.
+-- A whole value is spelled by the bytes that it took; more is wanted of a front of a spelling; a
+-- flaw is where the text stops beginning one.
 abbrev pub IsRight : ℕ → ℕ → List ℕ → Decoded → Type 0
-IsRight depth most bytes (answers.Whole value n) = (n ≤ length bytes) × SpellsWithin depth most (content value) (take n bytes)
+IsRight depth most bytes (answers.Whole value n) =
+    (n ≤ length bytes) × SpellsWithin depth most (content value) (take n bytes)
 IsRight depth most bytes answers.NeedsMore = IsPartial depth most bytes
 IsRight depth most bytes (answers.Bad n) = IsFlaw depth most bytes bad n
 IsRight depth most bytes (answers.TooDeep n) = IsFlaw depth most bytes too_deep n
@@ -26,7 +28,8 @@ IsRight depth most bytes (answers.TooLong n) = IsFlaw depth most bytes too_long 
 
 -- Each spelling within the bounds at the front is read, whatever follows it.
 abbrev pub ReadsEach : ℕ → ℕ → List ℕ → Decoded → Type 0
-ReadsEach depth most bytes answer = (t : Tree) (front tail : List ℕ) → bytes ≡ front ++ tail → SpellsWithin depth most t front → decoded_seen answer ≡ whole t (length front)
+ReadsEach depth most bytes answer = (t : Tree) (front tail : List ℕ) → bytes ≡ front ++ tail
+    → SpellsWithin depth most t front → decoded_seen answer ≡ whole t (length front)
 
 -- More is wanted of each front of such a spelling with bytes missing.
 abbrev pub AsksForMore : ℕ → ℕ → List ℕ → Decoded → Type 0

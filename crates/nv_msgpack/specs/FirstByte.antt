@@ -7,7 +7,7 @@ use Rattle.nv_msgpack.specs.declared.first_bytes.Length.{Length}
 use Rattle.nv_msgpack.specs.declared.first_bytes.Length.TheVariants as lengths
 use Rattle.nv_msgpack.specs.declared.first_bytes.FirstByte.{FirstByte}
 use Rattle.nv_msgpack.specs.declared.first_bytes.FirstByte.TheVariants as begins
-use Rattle.nv_msgpack.specs.Spelling.{Size, told, field, of_text, of_bin, of_ext, unsigned, signed, float, of_list, of_map, Form, unused, alone, raw, many}
+use Rattle.nv_msgpack.specs.Spelling.{Size, fixed, field, of_text, of_bin, of_ext, unsigned, signed, float, of_list, of_map, Form, unused, alone, raw, many}
 
 -- How many bytes a width is.
 abbrev pub bytes_of : Width → ℕ
@@ -18,7 +18,7 @@ bytes_of widths.Eight = 8
 
 -- Where the length stands.
 abbrev pub size_of : Length → Size
-size_of (lengths.Told n) = told n
+size_of (lengths.Fixed n) = fixed n
 size_of lengths.One = field 1
 size_of lengths.Two = field 2
 size_of lengths.Four = field 4
@@ -32,8 +32,8 @@ form_seen (begins.Small n) = alone (integer n)
 form_seen (begins.Text l) = raw of_text (size_of l)
 form_seen (begins.Bin l) = raw of_bin (size_of l)
 form_seen (begins.Ext l) = raw of_ext (size_of l)
-form_seen (begins.Unsigned w) = raw unsigned (told (bytes_of w))
-form_seen (begins.Signed w) = raw signed (told (bytes_of w))
-form_seen (begins.Float w) = raw float (told (bytes_of w))
+form_seen (begins.Unsigned w) = raw unsigned (fixed (bytes_of w))
+form_seen (begins.Signed w) = raw signed (fixed (bytes_of w))
+form_seen (begins.Float w) = raw float (fixed (bytes_of w))
 form_seen (begins.List l) = many of_list (size_of l)
 form_seen (begins.Map l) = many of_map (size_of l)

@@ -3,6 +3,6 @@ pub mod FirstByte
 pub mod Handle
 pub mod Reading
 pub mod Spelling
-pub mod Steps
 pub mod Within
 pub mod Shortest
+pub mod inside

@@ -1,4 +1,5 @@
--- The shortest spelling of a value (MessagePack specification, "Formats"). An integer of at least 0 has an unsigned form (own rule).
+-- The shortest spelling of a value (MessagePack specification, "Formats"). An integer of at least 0
+-- has an unsigned form (own rule).
 use Rattle.std.specs.Prelude.{ℕ, suc, ℤ, pos, negsuc, ◌+◌, ◌*◌, ◌/◌, ◌^◌, ◌<◌, ◌≤◌, ◌≡◌, ◌⊎◌, max, nat_lt, ◌==◌, if◌then◌else◌, FitsSigned, List, [], ◌∷◌, ◌++◌, length, take, All}
 use Rattle.std.specs.Int.{w8, w16, w32, w64, cast_unsigned, to_be_bytes}
 use Rattle.nv_msgpack.specs.Spelling.{Spells, SpellsIn}
@@ -43,7 +44,8 @@ bin_head n =
     if nat_lt n 0x10000 then 0xc5 ∷ to_be_bytes w16 n else
     0xc6 ∷ to_be_bytes w32 n
 
--- What goes before the type of an extension value, by the number of its data's bytes: fixext 1, 2, 4, 8, 16, ext 8, 16, 32.
+-- What goes before the type of an extension value, by the number of its data's bytes: fixext 1, 2,
+-- 4, 8, 16, ext 8, 16, 32.
 unfoldable pub ext_head : ℕ → List ℕ
 ext_head n =
     if n == 1 then 0xd4 ∷ [] else
@@ -104,7 +106,8 @@ abbrev mutual
   depths (one t ts) = max (depth t) (depths ts)
 
 abbrev mutual
-  -- A spelling can tell the value: each length in it is below 2 ^ 32, each big number above the greatest i64, and a float has 4 or 8 bytes.
+  -- A spelling can tell the value: each length in it is below 2 ^ 32, each big number above the
+  -- greatest i64, and a float has 4 or 8 bytes.
   pub HasSpelling : Tree → Type 0
   HasSpelling nil = Unit {0}
   HasSpelling (truth b) = Unit {0}
@@ -123,7 +126,8 @@ abbrev mutual
   HaveSpellings (one t ts) = HasSpelling t × HaveSpellings ts
 
 abbrev mutual
-  -- What the types of a `Value` say: each integer is an i64, each big number a u64, the type of an extension an i8, and a map has a value for each key.
+  -- What the types of a `Value` say: each integer is an i64, each big number a u64, the type of an
+  -- extension an i8, and a map has a value for each key.
   pub IsInRange : Tree → Type 0
   IsInRange nil = Unit {0}
   IsInRange (truth b) = Unit {0}
@@ -147,7 +151,8 @@ BeginsAs old new = take (length old) new ≡ old
 
 -- What is spelled has a spelling, within the ranges of the types.
 abbrev pub SpelledHasSpelling : Type 0
-SpelledHasSpelling = (t : Tree) (bytes : List ℕ) → All (λ b. b < 256) bytes → Spells t bytes → HasSpelling t × IsInRange t
+SpelledHasSpelling = (t : Tree) (bytes : List ℕ) → All (λ b. b < 256) bytes → Spells t bytes
+    → HasSpelling t × IsInRange t
 
 -- The shortest spelling is a spelling.
 abbrev pub ShortestIsSpelling : Type 0
@@ -155,10 +160,12 @@ ShortestIsSpelling = (t : Tree) → HasSpelling t → IsInRange t → SpellsIn (
 
 -- No spelling of a value has fewer bytes than the shortest one, which is one.
 abbrev pub ShortestIsLeast : Type 0
-ShortestIsLeast = (t : Tree) (bytes : List ℕ) → All (λ b. b < 256) bytes → Spells t bytes → Spells t (shortest t) × (length (shortest t) ≤ length bytes)
+ShortestIsLeast = (t : Tree) (bytes : List ℕ) → All (λ b. b < 256) bytes → Spells t bytes
+    → Spells t (shortest t) × (length (shortest t) ≤ length bytes)
 
 -- What was encoded is read again, whatever follows it, where the bounds allow it.
 abbrev pub EncodedIsRead : Type 0
 EncodedIsRead =
-    (t : Tree) (tail : List ℕ) (nested most : ℕ) → HasSpelling t → IsInRange t → depth t ≤ nested → length (shortest t) ≤ most
+    (t : Tree) (tail : List ℕ) (nested most : ℕ) → HasSpelling t → IsInRange t → depth t ≤ nested
+    → length (shortest t) ≤ most
     → value_at nested most (shortest t ++ tail) ≡ whole t (length (shortest t))

@@ -22,7 +22,8 @@ pub enum Decoded {
     Bad(usize),
     /// A list or map in too many others, whose first byte is at this place.
     TooDeep(usize),
-    /// A value that can't end within the greatest number of bytes: the value begun last, whose first byte is at this
-    /// place. A length byte that hasn't come counts 0, and each value that is owed counts one byte.
+    /// A value that can't end within the greatest number of bytes: the value begun last, whose
+    /// first byte is at this place. A length byte that hasn't come counts 0, and each value that is
+    /// owed counts one byte.
     TooLong(usize),
 }

@@ -30,7 +30,7 @@ impl Width {
 /// Where a length stands: in the first byte, or in so many bytes behind it.
 #[derive(Clone, Copy)]
 pub enum Length {
-    Told(u8),
+    Fixed(u8),
     One,
     Two,
     Four,
@@ -60,9 +60,9 @@ pub fn first_byte(first: u8) -> FirstByte
 {
     match first {
         0x00..=0x7f => FirstByte::Small(first as i8),
-        0x80..=0x8f => FirstByte::Map(Length::Told(first - 0x80)),
-        0x90..=0x9f => FirstByte::List(Length::Told(first - 0x90)),
-        0xa0..=0xbf => FirstByte::Text(Length::Told(first - 0xa0)),
+        0x80..=0x8f => FirstByte::Map(Length::Fixed(first - 0x80)),
+        0x90..=0x9f => FirstByte::List(Length::Fixed(first - 0x90)),
+        0xa0..=0xbf => FirstByte::Text(Length::Fixed(first - 0xa0)),
         0xc0..=0xdf => middle_byte(first),
         0xe0..=0xff => FirstByte::Small((i16::from(first) - 0x100) as i8),
     }
@@ -94,11 +94,11 @@ fn middle_byte(first: u8) -> FirstByte
         0xd1 => FirstByte::Signed(Width::Two),
         0xd2 => FirstByte::Signed(Width::Four),
         0xd3 => FirstByte::Signed(Width::Eight),
-        0xd4 => FirstByte::Ext(Length::Told(1)),
-        0xd5 => FirstByte::Ext(Length::Told(2)),
-        0xd6 => FirstByte::Ext(Length::Told(4)),
-        0xd7 => FirstByte::Ext(Length::Told(8)),
-        0xd8 => FirstByte::Ext(Length::Told(16)),
+        0xd4 => FirstByte::Ext(Length::Fixed(1)),
+        0xd5 => FirstByte::Ext(Length::Fixed(2)),
+        0xd6 => FirstByte::Ext(Length::Fixed(4)),
+        0xd7 => FirstByte::Ext(Length::Fixed(8)),
+        0xd8 => FirstByte::Ext(Length::Fixed(16)),
         0xd9 => FirstByte::Text(Length::One),
         0xda => FirstByte::Text(Length::Two),
         0xdb => FirstByte::Text(Length::Four),

@@ -3,7 +3,8 @@ ghost use Rattle.std.specs.Prelude.{◌≡◌, ℤ, IfSome};
 ghost use Rattle.std.specs.Option.{IfNone};
 ghost use Rattle.nv_value.specs.View.{content};
 ghost use Rattle.nv_msgpack.specs.Spelling.{unsigned_number};
-ghost use Rattle.nv_msgpack.specs.Handle.{IsHandle, handle_in, integer_by, integer_in, integer_of};
+ghost use Rattle.nv_msgpack.specs.Handle.{IsHandle, handle_in, integer_in, integer_of};
+ghost use Rattle.nv_msgpack.specs.inside.Integers.{integer_by};
 ghost use Rattle.nv_msgpack.specs.FirstByte.{form_seen};
 
 use crate::first_bytes::{FirstByte, first_byte};
@@ -83,8 +84,9 @@ fn number_of(value: &Value, kind: i8) -> Option<i64>
     }
 }
 
-/// The number of the handle of this kind that the value stands for (Neovim help `api-types`): that of an integer, or of
-/// an ext value of this kind whose data is one whole integer. It takes no memory.
+/// The number of the handle of this kind that the value stands for (Neovim help `api-types`): that
+/// of an integer, or of an ext value of this kind whose data is one whole integer. It takes no
+/// memory.
 pub fn handle_of(value: &Value, kind: i8) -> Option<i64>
     ensures some { IfSome result (IsHandle kind (content value.now)) }
     ensures none { IfNone result ((n : ℤ) → IsHandle kind (content value.now) n → ⊥) }

@@ -1,4 +1,5 @@
-//! The first bytes of spellings: a first byte and the length or the number behind it, each written at once.
+//! The first bytes of spellings: a first byte and the length or the number behind it, each written
+//! at once.
 ghost use Rattle.std.specs.Prelude.{◌≡◌, ◌+◌, ◌<◌, ◌^◌, [], ◌∷◌, ◌++◌, OnOk, OnErr};
 ghost use Rattle.std.specs.Int.{w16, w32, w64, to_be_bytes};
 ghost use Rattle.nv_msgpack.specs.Shortest.{unsigned_spelling, integer_spelling, text_head, bin_head, ext_head, list_head, map_head};

@@ -27,7 +27,8 @@ pub fn shortest_is_least()
     ensures { ShortestIsLeast }
 {}
 
-/// What `encode` writes is what `decode` reads again, whatever follows it, where the bounds allow it.
+/// What `encode` writes is what `decode` reads again, whatever follows it, where the bounds allow
+/// it.
 pub fn encoded_is_read()
     ensures { EncodedIsRead }
 {}

@@ -91,7 +91,7 @@ impl Length {
         ensures few { result ≤ 4 }
     {
         match self {
-            Length::Told(_) => 0,
+            Length::Fixed(_) => 0,
             Length::One => 1,
             Length::Two => 2,
             Length::Four => 4,
@@ -104,7 +104,7 @@ impl Length {
         ensures { result ≡ number_in (size_of self) (drop at bytes.now) }
     {
         match self {
-            Length::Told(number) => u32::from(number),
+            Length::Fixed(number) => u32::from(number),
             Length::One => u32::from(one_at(bytes, at)),
             Length::Two => u32::from(two_at(bytes, at)),
             Length::Four => four_at(bytes, at),

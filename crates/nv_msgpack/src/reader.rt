@@ -2,11 +2,11 @@
 ghost use Rattle.std.specs.Prelude.{◌≡◌, ◌+◌, ◌-◌, ◌*◌, ◌<◌, ◌≤◌, [], ◌∷◌, length, drop, IfOk};
 ghost use Rattle.nv_value.specs.View.{content, contents, pair_contents, pair_content};
 ghost use Rattle.nv_value.specs.Content.{in_turn};
-ghost use Rattle.nv_msgpack.specs.Spelling.{number_in, width, made, of_ext, of_list, of_map, unsigned_number};
+ghost use Rattle.nv_msgpack.specs.Spelling.{number_in, width, raw_value, of_ext, of_list, of_map, unsigned_number};
 ghost use Rattle.nv_msgpack.specs.FirstByte.{size_of, form_seen};
 ghost use Rattle.nv_msgpack.specs.Decoded.{decoded_seen, HasSpellingIfWhole, IsRight, ReadsEach, AsksForMore};
 ghost use Rattle.nv_msgpack.specs.Reading.{after, none, flawed, read_by, many_at, items_at, value_at};
-ghost use Rattle.nv_msgpack.specs.Steps.{Gives, flaw_of, payload_at, head_at};
+ghost use Rattle.nv_msgpack.specs.inside.Steps.{Gives, flaw_of, payload_at, head_at};
 
 use crate::decoded::{Bounds, Decoded};
 use crate::first_bytes::{FirstByte, Length, first_byte};
@@ -28,8 +28,10 @@ fn payload_of(
 ) -> Result<(&[u8], usize), Stop>
     requires within { at < length bytes.now }
     requires fits { at < limit }
-    ensures gives { Gives (λ payload. payload.now) result (after at (payload_at (size_of size) extra (limit - at) (drop (at + 1) bytes.now))) }
-    ensures long { IfOk result (λ found. length found.0.now ≡ number_in (size_of size) (drop (at + 1) bytes.now) + extra) }
+    ensures gives { Gives (λ payload. payload.now) result
+        (after at (payload_at (size_of size) extra (limit - at) (drop (at + 1) bytes.now))) }
+    ensures long { IfOk result (λ found. length found.0.now
+        ≡ number_in (size_of size) (drop (at + 1) bytes.now) + extra) }
 {
     let start = at + 1 + size.width() as usize;
     let end = start as u64 + u64::from(size.number(bytes, at + 1)) + u64::from(extra);
@@ -54,7 +56,8 @@ fn head_of(
     requires within { at < length bytes.now }
     requires fits { at < limit }
     requires few { each ≤ 2 }
-    ensures gives { Gives (λ count. count) result (after at (head_at each (size_of size) (limit - at) (drop (at + 1) bytes.now))) }
+    ensures gives { Gives (λ count. count) result
+        (after at (head_at each (size_of size) (limit - at) (drop (at + 1) bytes.now))) }
     ensures within { IfOk result (λ head. head.1 ≤ length bytes.now) }
     ensures fits { IfOk result (λ head. head.1 + each * head.0 ≤ limit) }
 {
@@ -83,7 +86,7 @@ fn integer(number: u64) -> Value
 /// An ext value of its type and its data.
 fn ext_of(alloc: Global, payload: &[u8]) -> Result<Value, AllocError>
     requires { 0 < length payload.now }
-    ensures { IfOk result (λ value. content value ≡ made of_ext payload.now) }
+    ensures { IfOk result (λ value. content value ≡ raw_value of_ext payload.now) }
 {
     let data = Bytes::from_slice(alloc, &payload[1..])?;
     Ok(Value::Ext(one_at(payload, 0).cast_signed(), data))
@@ -99,7 +102,8 @@ fn plain_of(
 ) -> Result<(Value, usize), Stop>
     requires within { at < length bytes.now }
     requires fits { at < limit }
-    ensures { Gives content result (after at (read_by none (form_seen first) (limit - at) (drop (at + 1) bytes.now))) }
+    ensures { Gives content result
+        (after at (read_by none (form_seen first) (limit - at) (drop (at + 1) bytes.now))) }
 {
     match first {
         FirstByte::Unused => Err(Stop::Flawed(Fault::Bad, at)),
@@ -120,15 +124,15 @@ fn plain_of(
             Ok((ext_of(alloc, payload)?, end))
         }
         FirstByte::Unsigned(width) => {
-            let (payload, end) = payload_of(bytes, at, Length::Told(width.bytes()), 0, limit)?;
+            let (payload, end) = payload_of(bytes, at, Length::Fixed(width.bytes()), 0, limit)?;
             Ok((integer(unsigned_of(payload, width)), end))
         }
         FirstByte::Signed(width) => {
-            let (payload, end) = payload_of(bytes, at, Length::Told(width.bytes()), 0, limit)?;
+            let (payload, end) = payload_of(bytes, at, Length::Fixed(width.bytes()), 0, limit)?;
             Ok((Value::Int(signed_of(payload, width)), end))
         }
         FirstByte::Float(width) => {
-            let (payload, end) = payload_of(bytes, at, Length::Told(width.bytes()), 0, limit)?;
+            let (payload, end) = payload_of(bytes, at, Length::Fixed(width.bytes()), 0, limit)?;
             Ok((Value::Opaque(Bytes::from_slice(alloc, payload)?), end))
         }
     }
@@ -142,7 +146,8 @@ fn first_room(count: u64, left: usize) -> usize
     count.min(FEW).min(left as u64) as usize
 }
 
-/// The value at `at`, which ends before `limit`, with at most `depth` lists and maps one in another.
+/// The value at `at`, which ends before `limit`, with at most `depth` lists and maps one in
+/// another.
 #[cycle(decode)]
 fn value_of(
     alloc: Global,
@@ -181,7 +186,9 @@ fn list_of(
 ) -> Result<(Value, usize), Stop>
     requires within { at < length bytes.now }
     requires fits { at < limit }
-    ensures { Gives content result (after at (many_at (items_at (value_at depth)) of_list (size_of size) (limit - at) (drop (at + 1) bytes.now))) }
+    ensures { Gives content result
+        (after at (many_at (items_at (value_at depth)) of_list (size_of size) (limit - at)
+        (drop (at + 1) bytes.now))) }
 {
     let (count, start) = head_of(bytes, at, size, 1, limit)?;
     let (items, end) = items_of(alloc, bytes, start, count, limit, depth)?;
@@ -200,7 +207,9 @@ fn map_of(
 ) -> Result<(Value, usize), Stop>
     requires within { at < length bytes.now }
     requires fits { at < limit }
-    ensures { Gives content result (after at (many_at (items_at (value_at depth)) of_map (size_of size) (limit - at) (drop (at + 1) bytes.now))) }
+    ensures { Gives content result
+        (after at (many_at (items_at (value_at depth)) of_map (size_of size) (limit - at)
+        (drop (at + 1) bytes.now))) }
 {
     let (count, start) = head_of(bytes, at, size, 2, limit)?;
     let (fields, end) = fields_of(alloc, bytes, start, count, limit, depth)?;
@@ -219,7 +228,8 @@ fn items_of(
 ) -> Result<(Vec<Value>, usize), Stop>
     requires within { start ≤ length bytes.now }
     requires fits { start + count ≤ limit }
-    ensures { Gives (λ items. contents items.items) result (after start (items_at (value_at depth) count (limit - start) (drop start bytes.now))) }
+    ensures { Gives (λ items. contents items.items) result
+        (after start (items_at (value_at depth) count (limit - start) (drop start bytes.now))) }
 {
     let mut items = Vec::with_capacity(alloc, first_room(count, bytes.len() - start))?;
     let mut at = start;
@@ -245,7 +255,9 @@ fn fields_of(
 ) -> Result<(Vec<Pair>, usize), Stop>
     requires within { start ≤ length bytes.now }
     requires fits { start + 2 * count ≤ limit }
-    ensures { Gives (λ fields. pair_contents fields.items) result (after start (items_at (value_at depth) (2 * count) (limit - start) (drop start bytes.now))) }
+    ensures { Gives (λ fields. pair_contents fields.items) result
+        (after start (items_at (value_at depth) (2 * count) (limit - start)
+        (drop start bytes.now))) }
 {
     let mut fields = Vec::with_capacity(alloc, first_room(count, bytes.len() - start))?;
     let mut at = start;
@@ -270,7 +282,8 @@ fn pair_of(
 ) -> Result<(Pair, usize), Stop>
     requires within { at ≤ length bytes.now }
     requires fits { at + 2 ≤ limit }
-    ensures { Gives (λ pair. in_turn (pair_content pair ∷ [])) result (after at (items_at (value_at depth) 2 (limit - at) (drop at bytes.now))) }
+    ensures { Gives (λ pair. in_turn (pair_content pair ∷ [])) result
+        (after at (items_at (value_at depth) 2 (limit - at) (drop at bytes.now))) }
 {
     let (key, middle) = value_of(alloc, bytes, at, limit - 1, depth)?;
     let (value, end) = value_of(alloc, bytes, middle, limit, depth)?;
@@ -289,10 +302,10 @@ fn flaw_at(fault: Fault, place: usize) -> Decoded
 }
 
 /// The answer of the reading from the left.
-
 fn read(alloc: Global, bytes: &[u8], bounds: Bounds) -> Result<Decoded, AllocError>
     requires { 1 ≤ bounds.bytes }
-    ensures { IfOk result (λ answer. decoded_seen answer ≡ value_at bounds.depth bounds.bytes bytes.now) }
+    ensures { IfOk result (λ answer. decoded_seen answer
+        ≡ value_at bounds.depth bounds.bytes bytes.now) }
 {
     match value_of(alloc, bytes, 0, bounds.bytes, bounds.depth) {
         Ok((value, length)) => Ok(Decoded::Whole(value, length)),
@@ -302,18 +315,20 @@ fn read(alloc: Global, bytes: &[u8], bounds: Bounds) -> Result<Decoded, AllocErr
     }
 }
 
-/// The value at the front of the bytes (MessagePack specification, "Formats"). Bytes may follow it. Memory is taken
-/// only for bytes that have come.
+/// The value at the front of the bytes (MessagePack specification, "Formats"). Bytes may follow it.
+/// Memory is taken only for bytes that have come.
 pub fn decode(alloc: Global, bytes: &[u8], bounds: Bounds) -> Result<Decoded, AllocError>
     requires { 1 ≤ bounds.bytes }
 
-    // The answer is true of the bytes, and a value and the wish for more are answered wherever they are true.
+    // The answer is true of the bytes, and a value and the wish for more are answered wherever they
+    // are true.
     ensures right { IfOk result (IsRight bounds.depth bounds.bytes bytes.now) }
     ensures reads_each { IfOk result (ReadsEach bounds.depth bounds.bytes bytes.now) }
     ensures asks_for_more { IfOk result (AsksForMore bounds.depth bounds.bytes bytes.now) }
 
     // Which flaw it is, and of which byte.
-    ensures exact { IfOk result (λ answer. decoded_seen answer ≡ value_at bounds.depth bounds.bytes bytes.now) }
+    ensures exact { IfOk result (λ answer. decoded_seen answer
+        ≡ value_at bounds.depth bounds.bytes bytes.now) }
 
     // A value may be encoded again.
     ensures has_spelling { IfOk result HasSpellingIfWhole }

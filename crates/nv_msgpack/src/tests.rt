@@ -131,34 +131,24 @@ fn vectors() -> &'static [(&'static str, &'static str)] {
         ("df01fffffe", "long 0"),
         ("8101dd03fffff9", "more"),
         ("8101dd03fffffa", "long 2"),
-        (
-            "91919191919191919191919191919191919191919191919191919191919191919191919191919191919191919191919191919191919191919191919191919191c0",
-            "[[[[[[[[[[[[[[[[[[[[[[[[[[[[[[[[[[[[[[[[[[[[[[[[[[[[[[[[[[[[[[[[nil]]]]]]]]]]]]]]]]]]]]]]]]]]]]]]]]]]]]]]]]]]]]]]]]]]]]]]]]]]]]]]]] in 65",
-        ),
-        (
-            "9191919191919191919191919191919191919191919191919191919191919191919191919191919191919191919191919191919191919191919191919191919190",
-            "deep 64",
-        ),
-        (
-            "9191919191919191919191919191919191919191919191919191919191919191919191919191919191919191919191919191919191919191919191919191919191",
-            "deep 64",
-        ),
-        (
-            "91919191919191919191919191919191919191919191919191919191919191919191919191919191919191919191919191919191919191919191919191919191dc",
-            "deep 64",
-        ),
-        (
-            "8181819191919191919191919191919191919191919191919191919191919191919191919191919191919191919191919191919191919191919191919191919180",
-            "deep 64",
-        ),
-        (
-            "91919191919191919191919191919191919191919191919191919191919191919191919191919191919191919191919191919191919191919191919191919191c1",
-            "bad 64",
-        ),
     ]
 }
 
-// The first bytes of a value, the byte or bytes that follow it so many times, and the value and its length.
+// How many lists of one item lie round what bytes, and the answer: what is read, or a flaw.
+fn nested() -> &'static [(usize, &'static str, &'static str)] {
+    &[
+        (64, "c0", "nil"),
+        (64, "90", "deep 64"),
+        (64, "91", "deep 64"),
+        (64, "dc", "deep 64"),
+        (64, "c1", "bad 64"),
+        (62, "818180", "deep 64"),
+        (63, "8180", "deep 64"),
+    ]
+}
+
+// The first bytes of a value, the byte or bytes that follow it so many times, and the value and its
+// length.
 fn lengths() -> &'static [(&'static str, &'static str, usize, &'static str)] {
     &[
         ("bf", "61", 31, "text of 31 in 32"),
@@ -321,6 +311,33 @@ fn vectors_are_read(rt: HostRuntime) -> Result<(), Fail> {
         let mut bytes = Vec::new(alloc);
         push_hex(&mut bytes, hex)?;
         let found = answer(alloc, bytes.as_slice())?;
+        assert_eq!(rt; found.as_str(), expected, "{hex}");
+    }
+    Ok(())
+}
+
+fn repeated(alloc: Global, part: &str, count: usize) -> Result<String, AllocError> {
+    let mut all = String::new(alloc);
+    for _ in 0..count {
+        all.push_str(part)?;
+    }
+    Ok(all)
+}
+
+#[test]
+fn nested_lists_are_read(rt: HostRuntime) -> Result<(), Fail> {
+    let alloc = rt.alloc();
+    for &(count, hex, read) in nested() {
+        let mut bytes = Vec::new(alloc);
+        for _ in 0..count {
+            bytes.push(0x91)?;
+        }
+        push_hex(&mut bytes, hex)?;
+        let found = answer(alloc, bytes.as_slice())?;
+        let opened = repeated(alloc, "[", count)?;
+        let closed = repeated(alloc, "]", count)?;
+        let whole = format!(in alloc; "{opened}{read}{closed} in {}", bytes.len())?;
+        let expected = if read == "nil" { whole.as_str() } else { read };
         assert_eq!(rt; found.as_str(), expected, "{hex}");
     }
     Ok(())

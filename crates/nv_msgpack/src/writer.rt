@@ -13,13 +13,15 @@ use crate::integer::put_integer;
 use nv_value::{Bytes, Pair, Value};
 use std::alloc::{AllocError, Global};
 
-/// Adds the shortest spelling of the value at the end of `into` (MessagePack specification, "Formats"). An integer of at
-/// least 0 is spelled in an unsigned form. After an error `into` is as it was.
+/// Adds the shortest spelling of the value at the end of `into` (MessagePack specification,
+/// "Formats"). An integer of at least 0 is spelled in an unsigned form. After an error `into` is as
+/// it was.
 pub fn encode(value: &Value, into: &mut Vec<u8>) -> Result<(), AllocError>
     requires { HasSpelling (content value.now) }
     ensures ok { OnOk result (into.new.items ≡ into.old.items ++ shortest (content value.now)) }
     ensures err { OnErr result (into.new.items ≡ into.old.items) }
-    ensures spelled { OnOk result (SpellsIn (depth (content value.now)) (content value.now) (shortest (content value.now))) }
+    ensures spelled { OnOk result
+        (SpellsIn (depth (content value.now)) (content value.now) (shortest (content value.now))) }
 {
     let length = into.len();
     match put_value(value, into) {
@@ -34,7 +36,8 @@ pub fn encode(value: &Value, into: &mut Vec<u8>) -> Result<(), AllocError>
 /// A string.
 fn put_text(text: &[u8], into: &mut Vec<u8>) -> Result<(), AllocError>
     requires { length text.now < 2 ^ 32 }
-    ensures ok { OnOk result (into.new.items ≡ into.old.items ++ (text_head (length text.now) ++ text.now)) }
+    ensures ok { OnOk result (into.new.items ≡ into.old.items
+        ++ (text_head (length text.now) ++ text.now)) }
     ensures err { OnErr result (BeginsAs into.old.items into.new.items) }
 {
     put_text_head(text.len() as u32, into)?;
@@ -44,7 +47,8 @@ fn put_text(text: &[u8], into: &mut Vec<u8>) -> Result<(), AllocError>
 /// Binary bytes.
 fn put_bin(bin: &[u8], into: &mut Vec<u8>) -> Result<(), AllocError>
     requires { length bin.now < 2 ^ 32 }
-    ensures ok { OnOk result (into.new.items ≡ into.old.items ++ (bin_head (length bin.now) ++ bin.now)) }
+    ensures ok { OnOk result (into.new.items ≡ into.old.items
+        ++ (bin_head (length bin.now) ++ bin.now)) }
     ensures err { OnErr result (BeginsAs into.old.items into.new.items) }
 {
     put_bin_head(bin.len() as u32, into)?;
@@ -54,7 +58,8 @@ fn put_bin(bin: &[u8], into: &mut Vec<u8>) -> Result<(), AllocError>
 /// An extension value.
 fn put_ext(kind: i8, bytes: &[u8], into: &mut Vec<u8>) -> Result<(), AllocError>
     requires { length bytes.now < 2 ^ 32 }
-    ensures ok { OnOk result (into.new.items ≡ into.old.items ++ (ext_head (length bytes.now) ++ cast_unsigned w8 kind ∷ bytes.now)) }
+    ensures ok { OnOk result (into.new.items ≡ into.old.items
+        ++ (ext_head (length bytes.now) ++ cast_unsigned w8 kind ∷ bytes.now)) }
     ensures err { OnErr result (BeginsAs into.old.items into.new.items) }
 {
     put_ext_head(bytes.len() as u32, into)?;
@@ -65,7 +70,8 @@ fn put_ext(kind: i8, bytes: &[u8], into: &mut Vec<u8>) -> Result<(), AllocError>
 /// A float.
 #[tactic(auto, unfolding(crate::specs::Shortest::float_head))]
 fn put_float(bytes: &[u8], into: &mut Vec<u8>) -> Result<(), AllocError>
-    ensures ok { OnOk result (into.new.items ≡ into.old.items ++ (float_head (length bytes.now) ++ bytes.now)) }
+    ensures ok { OnOk result (into.new.items ≡ into.old.items
+        ++ (float_head (length bytes.now) ++ bytes.now)) }
     ensures err { OnErr result (BeginsAs into.old.items into.new.items) }
 {
     if bytes.len() == 4 {
@@ -115,7 +121,8 @@ fn put_value(value: &Value, into: &mut Vec<u8>) -> Result<(), AllocError>
 #[cycle(encode)]
 fn put_items(items: &Vec<Value>, into: &mut Vec<u8>) -> Result<(), AllocError>
     requires { HaveSpellings (contents items.now.items) }
-    ensures ok { OnOk result (into.new.items ≡ into.old.items ++ all_shortest (contents items.now.items)) }
+    ensures ok { OnOk result (into.new.items ≡ into.old.items
+        ++ all_shortest (contents items.now.items)) }
     ensures err { OnErr result (BeginsAs into.old.items into.new.items) }
     ensures in_range { OnOk result (AreInRange (contents items.now.items)) }
 {
@@ -128,7 +135,8 @@ fn put_items(items: &Vec<Value>, into: &mut Vec<u8>) -> Result<(), AllocError>
 #[cycle(encode)]
 fn put_fields(fields: &Vec<Pair>, into: &mut Vec<u8>) -> Result<(), AllocError>
     requires { HaveSpellings (pair_contents fields.now.items) }
-    ensures ok { OnOk result (into.new.items ≡ into.old.items ++ all_shortest (pair_contents fields.now.items)) }
+    ensures ok { OnOk result (into.new.items ≡ into.old.items
+        ++ all_shortest (pair_contents fields.now.items)) }
     ensures err { OnErr result (BeginsAs into.old.items into.new.items) }
     ensures in_range { OnOk result (AreInRange (pair_contents fields.now.items)) }
 {
@@ -142,7 +150,8 @@ fn put_fields(fields: &Vec<Pair>, into: &mut Vec<u8>) -> Result<(), AllocError>
 fn put_pair(pair: &Pair, into: &mut Vec<u8>) -> Result<(), AllocError>
     requires key { HasSpelling (content pair.now.key) }
     requires value { HasSpelling (content pair.now.value) }
-    ensures ok { OnOk result (into.new.items ≡ into.old.items ++ (shortest (content pair.now.key) ++ shortest (content pair.now.value))) }
+    ensures ok { OnOk result (into.new.items ≡ into.old.items
+        ++ (shortest (content pair.now.key) ++ shortest (content pair.now.value))) }
     ensures err { OnErr result (BeginsAs into.old.items into.new.items) }
     ensures key_in_range { OnOk result (IsInRange (content pair.now.key)) }
     ensures value_in_range { OnOk result (IsInRange (content pair.now.value)) }
@@ -157,7 +166,8 @@ mod tests {
     use crate::handles::handle;
     use std::test::Fail;
 
-    // From the MessagePack specification, "int format family": each border of a form, in its shortest spelling.
+    // From the MessagePack specification, "int format family": each border of a form, in its
+    // shortest spelling.
     const INTEGERS: [(i64, &[u8]); 34] = [
         (0, b"\x00"),
         (1, b"\x01"),
@@ -198,7 +208,8 @@ mod tests {
         ),
     ];
 
-    // From the MessagePack specification, "str format family": the lengths at the borders of the forms, and the heads.
+    // From the MessagePack specification, "str format family": the lengths at the borders of the
+    // forms, and the heads.
     const TEXTS: [(usize, &[u8]); 8] = [
         (0, b"\xa0"),
         (1, b"\xa1"),
@@ -208,6 +219,14 @@ mod tests {
         (256, b"\xda\x01\x00"),
         (65535, b"\xda\xff\xff"),
         (65536, b"\xdb\x00\x01\x00\x00"),
+    ];
+
+    // A map of three pairs, and each pair's key and value.
+    const MAP: [&[u8]; 4] = [
+        b"\x83",
+        b"\xc3\xc2",
+        b"\xcf\x80\x00\x00\x00\x00\x00\x00\x00\xca\x3f\x80\x00\x00",
+        b"\xc4\x02\x01\x02\xa1\x61",
     ];
 
     fn integer_spelled(alloc: Global, number: i64) -> Result<Vec<u8>, AllocError> {
@@ -221,7 +240,7 @@ mod tests {
         requires { length < 100000 }
     {
         let text = vec![in alloc; 0x61; length]?;
-        let value = Value::Text(Bytes::from_vec(text));
+        let value = Value::Text(Bytes::from_vec(text)?);
         let mut into = Vec::new(alloc);
         encode(&value, &mut into)?;
         Ok(into)
@@ -296,10 +315,11 @@ mod tests {
         let value = Value::Pairs(vec![in alloc; truths, numbers, bytes]?);
         let mut into = Vec::new(alloc);
         encode(&value, &mut into)?;
-        assert_eq!(rt;
-            into.as_slice(),
-            b"\x83\xc3\xc2\xcf\x80\x00\x00\x00\x00\x00\x00\x00\xca\x3f\x80\x00\x00\xc4\x02\x01\x02\xa1\x61".as_slice()
-        );
+        let mut wanted = Vec::new(alloc);
+        for part in MAP.iter() {
+            wanted.extend_from_slice(*part)?;
+        }
+        assert_eq!(rt; into.as_slice(), wanted.as_slice());
         Ok(())
     }
 }

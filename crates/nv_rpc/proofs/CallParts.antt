@@ -5,7 +5,7 @@ use Rattle.nv_value.specs.View.{content, contents}
 use Rattle.nv_value.specs.declared.value.Value.{Value}
 use Rattle.nv_rpc.specs.Steps.{◌>>=◌}
 use Rattle.nv_rpc.specs.Calls.{Call, request, notice, call_in, name_in, params_in, msgid_in}
-use Rattle.nv_rpc.specs.Frames.{without_msgid}
+use Rattle.nv_rpc.specs.inside.Heads.{without_msgid}
 
 -- Fewer than three values are no call.
 pub no_call_below : (vs : List Value) → length vs < 3 → call_in (list (contents vs)) ≡ None

@@ -5,8 +5,8 @@ use Rattle.nv_value.specs.View.{content, contents}
 use Rattle.nv_value.specs.declared.value.Value.{Value, List as ListOf}
 use Rattle.nv_value.proofs.Contents.{content-List}
 use Rattle.nv_rpc.specs.Messages.{Sent, reply, lines_event, tick_event, detach_event, fault_event, message_tree}
-use Rattle.nv_rpc.specs.Outlines.{outline_of, tree_at, item_at, argument_at}
-use Rattle.nv_rpc.specs.Received.{message_in, told, text_in}
+use Rattle.nv_rpc.specs.inside.Outlines.{outline_of, tree_at, item_at, argument_at}
+use Rattle.nv_rpc.specs.Received.{message_in, message_as_read, text_in}
 use Rattle.nv_rpc.specs.Calls.{params_in}
 use Rattle.nv_rpc.specs.declared.receiving.Outline.{Outline}
 use Rattle.nv_rpc.specs.declared.receiving.Outline.TheVariants.{Success, Failure, Lines, Fault}
@@ -74,7 +74,7 @@ failure_of t (reply m (Some fault) result) msgid kind h e =
     let m_is : m ≡ msgid = (cc) in
     let kind_is : fault.kind ≡ kind = (cc) in
     let P : Tree → Type 0 = λ x. argument_at x 1 ≡ Some (text fault.words) in
-    let same : told (reply m (Some fault) result) ≡ reply msgid (Some (record { kind = kind; code = 0; words = fault.words })) nil =
+    let same : message_as_read (reply m (Some fault) result) ≡ reply msgid (Some (record { kind = kind; code = 0; words = fault.words })) nil =
     ap (λ x. reply x (Some (record { kind = fault.kind; code = 0; words = fault.words })) nil) m_is
     ∙ ap (λ x. reply msgid (Some (record { kind = x; code = 0; words = fault.words })) nil) kind_is in
     (fault.words, record { there = subst P k.0 refl; read = h ∙ ap (λ x. Some x) (sym k.1 ∙ same) })
@@ -96,7 +96,7 @@ fault_of t (fault_event fault) kind h e =
     let k = read_is_told t (fault_event fault) h in
     let kind_is : fault.kind ≡ kind = (cc) in
     let P : Tree → Type 0 = λ x. argument_at x 1 ≡ Some (text fault.words) in
-    let same : told (fault_event fault) ≡ fault_event (record { kind = kind; code = 0; words = fault.words }) =
+    let same : message_as_read (fault_event fault) ≡ fault_event (record { kind = kind; code = 0; words = fault.words }) =
     ap (λ x. fault_event (record { kind = x; code = 0; words = fault.words })) kind_is in
     (fault.words, record { there = subst P k.0 refl; read = h ∙ ap (λ x. Some x) (sym k.1 ∙ same) })
 

@@ -5,7 +5,7 @@ use Rattle.std.specs.Ordering.{int_eq}
 use Rattle.std.proofs.lemmas.Bool.Decides.{Decides-int_eq}
 use Rattle.std.proofs.lemmas.Slice.Eq.{bytes_eq-Decides}
 use Rattle.nv_msgpack.specs.Spelling.{Spells}
-use Rattle.nv_msgpack.specs.Handle.{handle_in, integer_in as integer_in_bytes}
+use Rattle.nv_msgpack.specs.Handle.{handle_in, integer_in as integer_in_bytes, integer_of}
 use Rattle.nv_rpc.proofs.HandleRead.{handle_read, integer_spelled}
 use Rattle.nv_value.specs.Content.{Tree, Trees, no_more, one, nil, truth, integer, text, list, ext}
 use Rattle.nv_value.specs.declared.fault.ApiFault.{ApiFault}
@@ -13,7 +13,7 @@ use Rattle.nv_msgpack.specs.Shortest.{shortest}
 use Rattle.nv_rpc.specs.Steps.{◌>>=◌}
 use Rattle.nv_rpc.specs.Calls.{is_number, msgid_in, params_in}
 use Rattle.nv_rpc.specs.Messages.{Sent, reply, lines_event, tick_event, detach_event, fault_event, lines_name, tick_name, detach_name, fault_name, message_tree, buffer_handle, error, items, response, notification}
-use Rattle.nv_rpc.specs.Received.{if_shortest, buffer_in, message_in, told, IsTyped, ToldIsRead, ReadIsTold, kind_in, integer_in, text_in, fault_in, error_in, outcome_in, reply_in, lines_in, tick_in, event_of_two, event_of, event_in, is_false}
+use Rattle.nv_rpc.specs.Received.{if_shortest, buffer_in, message_in, message_as_read, IsTyped, ToldIsRead, ReadIsTold, kind_in, text_in, fault_in, error_in, outcome_in, reply_in, lines_in, tick_in, event_of_two, event_of, event_in, is_false}
 
 -- The handle of a buffer is read.
 buffer_read : (z : ℤ) → FitsSigned w64 z → buffer_in (buffer_handle z) ≡ Some z
@@ -67,7 +67,7 @@ kind_is : (t : Tree) (n : ℕ) → kind_in t ≡ Some n → t ≡ integer (pos n
 kind_is (integer (pos m)) n h = let e = test_is (nat_lt m 256) (Some m) n h in (cc)
 kind_is _ n h = (cc)
 
-integer_is : (t : Tree) (z : ℤ) → integer_in t ≡ Some z → t ≡ integer z
+integer_is : (t : Tree) (z : ℤ) → integer_of t ≡ Some z → t ≡ integer z
 integer_is (integer x) z h = (cc)
 integer_is _ z h = (cc)
 
@@ -114,7 +114,7 @@ fault_is kind words fault h =
 
 -- What is read of a value is told by that value.
 abbrev IsTold : Tree → Sent → Type 0
-IsTold t s = (message_tree s ≡ t) × (told s ≡ s)
+IsTold t s = (message_tree s ≡ t) × (message_as_read s ≡ s)
 
 error_is : (cause : Tree) (fault : ApiFault) → error_in cause ≡ Some fault → (cause ≡ error fault) × (record fault { code = 0 } ≡ fault)
 error_is (list (one kind (one words no_more))) fault h =
@@ -155,9 +155,9 @@ lines_are : (buffer tick first last lines : Tree) (s : Sent) → lines_in buffer
     IsTold (notification lines_name (buffer ∷ tick ∷ first ∷ last ∷ lines ∷ truth false ∷ [])) s
 lines_are buffer tick first last lines s h =
     let b = step_is (buffer_in buffer) _ s h in
-    let t = step_is (integer_in tick) _ s b.2 in
-    let f = step_is (integer_in first) _ s t.2 in
-    let l = step_is (integer_in last) _ s f.2 in
+    let t = step_is (integer_of tick) _ s b.2 in
+    let f = step_is (integer_of first) _ s t.2 in
+    let l = step_is (integer_of last) _ s f.2 in
     let ls = step_is (params_in lines) _ s l.2 in
     lines_made buffer tick first last lines b.0 t.0 f.0 l.0 ls.0 s (buffer_is buffer b.0 b.1) (integer_is tick t.0 t.1) (integer_is first f.0 f.1) (integer_is last l.0 l.1) (params_is lines ls.0 ls.1) ls.2
 
@@ -173,7 +173,7 @@ tick_made buffer tick b t s eb et h =
 tick_is : (buffer tick : Tree) (s : Sent) → tick_in buffer tick ≡ Some s → IsTold (notification tick_name (buffer ∷ tick ∷ [])) s
 tick_is buffer tick s h =
     let b = step_is (buffer_in buffer) _ s h in
-    let t = step_is (integer_in tick) _ s b.2 in
+    let t = step_is (integer_of tick) _ s b.2 in
     tick_made buffer tick b.0 t.0 s (buffer_is buffer b.0 b.1) (integer_is tick t.0 t.1) t.2
 
 detach_is : (buffer : Tree) (s : Sent) → option_map detach_event (buffer_in buffer) ≡ Some s → IsTold (notification detach_name (buffer ∷ [])) s
@@ -244,5 +244,5 @@ told_by t s h = (read_is_told t s h).0
 -- A value that isn't read as a message is no message's value.
 pub none_tells : (t : Tree) → message_in t ≡ None → (s : Sent) → IsTyped s → message_tree s ≡ t → ⊥
 none_tells t h s typed e =
-    let k : Some (told s) ≡ None = sym (told_is_read s typed) ∙ (ap message_in e ∙ h) in
+    let k : Some (message_as_read s) ≡ None = sym (told_is_read s typed) ∙ (ap message_in e ∙ h) in
     (cc)

@@ -1,4 +1,5 @@
--- What a client sends (MessagePack-RPC specification, "Request Message" and "Notification Message"; Neovim help `rpc`).
+-- What a client sends (MessagePack-RPC specification, "Request Message" and "Notification Message";
+-- Neovim help `rpc`).
 use Rattle.std.specs.Prelude.{ℕ, ◌^◌, Bool, false, nat_lt, if◌then◌else◌, ℤ, pos, List, [], ◌∷◌, Option, Some, None}
 use Rattle.std.specs.Ordering.{int_eq}
 use Rattle.nv_rpc.specs.Steps.{◌>>=◌}
@@ -47,8 +48,10 @@ notice_in name params = do
 
 -- The call that a value is: `[0, msgid, method, params]` or `[2, method, params]`.
 unfoldable pub call_in : Tree → Option Call
-call_in (list (one kind (one msgid (one name (one params no_more))))) = if is_number (pos 0) kind then request_in msgid name params else None
-call_in (list (one kind (one name (one params no_more)))) = if is_number (pos 2) kind then notice_in name params else None
+call_in (list (one kind (one msgid (one name (one params no_more))))) =
+    if is_number (pos 0) kind then request_in msgid name params else None
+call_in (list (one kind (one name (one params no_more)))) =
+    if is_number (pos 2) kind then notice_in name params else None
 call_in _ = None
 
 -- A call before others, or nothing where it is none.

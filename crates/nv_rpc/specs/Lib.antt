@@ -2,6 +2,6 @@ pub mod Calls
 pub mod Frames
 pub mod MessageView
 pub mod Messages
-pub mod Outlines
 pub mod Received
 pub mod Steps
+pub mod inside

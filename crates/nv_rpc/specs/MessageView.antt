@@ -7,7 +7,8 @@ use Rattle.nv_rpc.specs.declared.message.Message.TheVariants.{Reply, Lines, Tick
 -- The content of a message.
 abbrev pub sent_of : Message → Sent
 sent_of (Reply msgid fault result) = reply msgid fault (content result)
-sent_of (Lines buffer tick first last lines) = lines_event buffer tick first last (contents lines.items)
+sent_of (Lines buffer tick first last lines) =
+    lines_event buffer tick first last (contents lines.items)
 sent_of (Tick buffer tick) = tick_event buffer tick
 sent_of (Detach buffer) = detach_event buffer
 sent_of (Fault fault) = fault_event fault

@@ -3,7 +3,7 @@ use Rattle.std.specs.Prelude.{ℕ, ◌≡◌, ◌^◌, ◌<◌, Bool, true, fals
 use Rattle.std.specs.Int.{w64}
 use Rattle.nv_value.specs.Content.{Tree, Trees, no_more, one, nil, truth, integer, text, list, ext}
 use Rattle.nv_value.specs.declared.fault.ApiFault.{ApiFault}
-use Rattle.nv_msgpack.specs.Handle.{handle_in}
+use Rattle.nv_msgpack.specs.Handle.{handle_in, integer_of}
 use Rattle.nv_msgpack.specs.Shortest.{shortest}
 use Rattle.nv_rpc.specs.Steps.{◌>>=◌}
 use Rattle.nv_rpc.specs.Calls.{is_number, msgid_in, params_in}
@@ -15,13 +15,9 @@ if_shortest bytes n = if bytes_eq bytes (shortest (integer n)) then Some n else 
 
 -- The buffer whose handle a value is, in its shortest spelling (own rule).
 abbrev pub buffer_in : Tree → Option ℤ
-buffer_in (ext kind bytes) = option_and_then (if_shortest bytes) (handle_in (pos 0) (ext kind bytes))
+buffer_in (ext kind bytes) =
+    option_and_then (if_shortest bytes) (handle_in (pos 0) (ext kind bytes))
 buffer_in _ = None
-
--- An integer.
-abbrev pub integer_in : Tree → Option ℤ
-integer_in (integer z) = Some z
-integer_in _ = None
 
 -- The kind of an error, a number of one byte.
 abbrev pub kind_in : Tree → Option ℕ
@@ -66,9 +62,9 @@ reply_in msgid cause result = do
 abbrev pub lines_in : Tree → Tree → Tree → Tree → Tree → Option Sent
 lines_in buffer tick first last lines = do
   b ← buffer_in buffer
-  t ← integer_in tick
-  f ← integer_in first
-  l ← integer_in last
+  t ← integer_of tick
+  f ← integer_of first
+  l ← integer_of last
   ls ← params_in lines
   Some (lines_event b t f l ls)
 
@@ -76,7 +72,7 @@ lines_in buffer tick first last lines = do
 abbrev pub tick_in : Tree → Tree → Option Sent
 tick_in buffer tick = do
   b ← buffer_in buffer
-  t ← integer_in tick
+  t ← integer_of tick
   Some (tick_event b t)
 
 -- The event of two arguments.
@@ -88,9 +84,11 @@ event_of_two name a b =
 
 -- The event of a name and arguments.
 abbrev pub event_of : List ℕ → Trees → Option Sent
-event_of name (one a (one b (one c (one d (one e (one more no_more)))))) = if is_false more then (if bytes_eq name lines_name then lines_in a b c d e else None) else None
+event_of name (one a (one b (one c (one d (one e (one more no_more)))))) =
+    if is_false more then (if bytes_eq name lines_name then lines_in a b c d e else None) else None
 event_of name (one a (one b no_more)) = event_of_two name a b
-event_of name (one a no_more) = if bytes_eq name detach_name then option_map detach_event (buffer_in a) else None
+event_of name (one a no_more) =
+    if bytes_eq name detach_name then option_map detach_event (buffer_in a) else None
 event_of name _ = None
 
 -- The event of a name and a list of arguments, where the two are that.
@@ -102,20 +100,25 @@ event_in name arguments = do
 
 -- The message that a value tells.
 unfoldable pub message_in : Tree → Option Sent
-message_in (list (one kind (one msgid (one cause (one result no_more))))) = if is_number (pos 1) kind then reply_in msgid cause result else None
-message_in (list (one kind (one name (one arguments no_more)))) = if is_number (pos 2) kind then event_in name arguments else None
+message_in (list (one kind (one msgid (one cause (one result no_more))))) =
+    if is_number (pos 1) kind then reply_in msgid cause result else None
+message_in (list (one kind (one name (one arguments no_more)))) =
+    if is_number (pos 2) kind then event_in name arguments else None
 message_in _ = None
 
 -- What a message tells: the code of an error isn't told, nor a result beside an error.
-abbrev pub told : Sent → Sent
-told (reply msgid None result) = reply msgid None result
-told (reply msgid (Some fault) result) = reply msgid (Some (record fault { code = 0 })) nil
-told (lines_event buffer tick first last lines) = lines_event buffer tick first last lines
-told (tick_event buffer tick) = tick_event buffer tick
-told (detach_event buffer) = detach_event buffer
-told (fault_event fault) = fault_event (record fault { code = 0 })
+abbrev pub message_as_read : Sent → Sent
+message_as_read (reply msgid None result) = reply msgid None result
+message_as_read (reply msgid (Some fault) result) =
+    reply msgid (Some (record fault { code = 0 })) nil
+message_as_read (lines_event buffer tick first last lines) =
+    lines_event buffer tick first last lines
+message_as_read (tick_event buffer tick) = tick_event buffer tick
+message_as_read (detach_event buffer) = detach_event buffer
+message_as_read (fault_event fault) = fault_event (record fault { code = 0 })
 
--- What the types of a `Message` say: a msgid is an unsigned 32-bit number, the kind of an error one byte, a buffer an i64.
+-- What the types of a `Message` say: a msgid is an unsigned 32-bit number, the kind of an error one
+-- byte, a buffer an i64.
 abbrev pub IsTyped : Sent → Type 0
 IsTyped (reply msgid None result) = msgid < 2 ^ 32
 IsTyped (reply msgid (Some fault) result) = (msgid < 2 ^ 32) × (fault.kind < 256)
@@ -126,8 +129,10 @@ IsTyped (fault_event fault) = fault.kind < 256
 
 -- The value of a message tells that message.
 abbrev pub ToldIsRead : Type 0
-ToldIsRead = (s : Sent) → IsTyped s → message_in (message_tree s) ≡ Some (told s)
+ToldIsRead = (s : Sent) → IsTyped s → message_in (message_tree s) ≡ Some (message_as_read s)
 
--- A value that tells a message is that message's value, and no other message's but for what isn't told.
+-- A value that tells a message is that message's value, and no other message's but for what isn't
+-- told.
 abbrev pub ReadIsTold : Type 0
-ReadIsTold = (t : Tree) (s : Sent) → message_in t ≡ Some s → (message_tree s ≡ t) × (told s ≡ s)
+ReadIsTold =
+    (t : Tree) (s : Sent) → message_in t ≡ Some s → (message_tree s ≡ t) × (message_as_read s ≡ s)

@@ -3,7 +3,8 @@ ghost use Rattle.std.specs.Prelude.{◌≡◌, if◌then◌else◌, Some, None, 
 ghost use Rattle.nv_value.specs.Content.{list};
 ghost use Rattle.nv_value.specs.View.{content, contents};
 ghost use Rattle.nv_rpc.specs.Calls.{notice, call_in, is_number, request_in, notice_in};
-ghost use Rattle.nv_rpc.specs.Frames.{call_of_frame, head_of_call, without_msgid};
+ghost use Rattle.nv_rpc.specs.Frames.{call_of_frame};
+ghost use Rattle.nv_rpc.specs.inside.Heads.{head_of_call, without_msgid};
 
 use crate::parts::{is_list, is_name, is_number, msgid_of, name_of, params_of};
 use nv_value::{Bytes, Items, Value};
@@ -48,7 +49,8 @@ pub fn call_of(value: Value) -> Result<Frame, Value>
 }
 
 fn frame_of(items: Items) -> Result<Frame, Items>
-    ensures ok { IfOk result (λ frame. call_in (list (contents items.items)) ≡ Some (call_of_frame frame)) }
+    ensures ok { IfOk result (λ frame. call_in (list (contents items.items))
+        ≡ Some (call_of_frame frame)) }
     ensures items_back { IfErr result (λ back. back ≡ items) }
     ensures no_call { OnErr result (call_in (list (contents items.items)) ≡ None) }
 {
@@ -71,7 +73,8 @@ fn head_of(items: &[Value]) -> Option<Head>
 }
 
 fn request_head(kind: &Value, msgid: &Value, name: &Value, params: &Value) -> Option<Head>
-    ensures { result ≡ option_map head_of_call (if is_number (pos 0) (content kind.now) then request_in (content msgid.now) (content name.now) (content params.now) else None) }
+    ensures { result ≡ option_map head_of_call (if is_number (pos 0) (content kind.now)
+        then request_in (content msgid.now) (content name.now) (content params.now) else None) }
 {
     if !is_number(kind, 0) || !is_name(name) || !is_list(params) {
         return None;
@@ -81,13 +84,15 @@ fn request_head(kind: &Value, msgid: &Value, name: &Value, params: &Value) -> Op
 }
 
 fn notice_head(kind: &Value, name: &Value, params: &Value) -> Option<Head>
-    ensures { result ≡ option_map head_of_call (if is_number (pos 2) (content kind.now) then notice_in (content name.now) (content params.now) else None) }
+    ensures { result ≡ option_map head_of_call (if is_number (pos 2) (content kind.now)
+        then notice_in (content name.now) (content params.now) else None) }
 {
     (is_number(kind, 2) && is_name(name) && is_list(params)).then_some(Head::Unanswered)
 }
 
 fn request(msgid: u32, items: Items) -> Frame
-    requires { option_map head_of_call (call_in (list (contents items.items))) ≡ Some (Head.Answered msgid) }
+    requires { option_map head_of_call (call_in (list (contents items.items)))
+        ≡ Some (Head.Answered msgid) }
     ensures { call_in (list (contents items.items)) ≡ Some (call_of_frame result) }
 {
     let (method, params) = method_and_params(items);
@@ -99,7 +104,8 @@ fn request(msgid: u32, items: Items) -> Frame
 }
 
 fn notice(items: Items) -> Frame
-    requires { option_map head_of_call (call_in (list (contents items.items))) ≡ Some Head.Unanswered }
+    requires { option_map head_of_call (call_in (list (contents items.items)))
+        ≡ Some Head.Unanswered }
     ensures { call_in (list (contents items.items)) ≡ Some (call_of_frame result) }
 {
     let (method, params) = method_and_params(items);
@@ -110,7 +116,8 @@ fn notice(items: Items) -> Frame
 #[tactic(auto, unfolding(crate::specs::Calls::call_in))]
 fn method_and_params(mut items: Items) -> (Bytes, Items)
     requires { IsSome (call_in (list (contents items.items))) }
-    ensures { option_map without_msgid (call_in (list (contents items.items))) ≡ Some (notice result.0 (contents result.1.items)) }
+    ensures { option_map without_msgid (call_in (list (contents items.items)))
+        ≡ Some (notice result.0 (contents result.1.items)) }
 {
     match (items.pop(), items.pop()) {
         (Some(params), Some(name)) => (name_of(name), params_of(params)),

@@ -7,7 +7,8 @@ pub const BUFFER: i8 = 0;
 /// A message that the server sends.
 #[derive(Drop)]
 pub enum Message {
-    /// The reply to a request (MessagePack-RPC specification, "Response Message"). A reply with a fault sends no result.
+    /// The reply to a request (MessagePack-RPC specification, "Response Message"). A reply with a
+    /// fault sends no result.
     Reply {
         msgid: u32,
         fault: Option<ApiFault>,
@@ -20,7 +21,8 @@ pub enum Message {
         tick: i64,
         /// The first line that was replaced, counted from 0.
         first: i64,
-        /// The line after the last one that was replaced; -1 where the lines are all those of the buffer, sent for the first time.
+        /// The line after the last one that was replaced; -1 where the lines are all those of the
+        /// buffer, sent for the first time.
         last: i64,
         /// The lines that stand there now, each a string.
         lines: Items,

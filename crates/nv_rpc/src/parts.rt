@@ -2,9 +2,10 @@
 ghost use Rattle.std.specs.Prelude.{◌≡◌, ◌↔◌, IsTrue, Some, is_some, IsSome};
 ghost use Rattle.nv_value.specs.Content.{nil};
 ghost use Rattle.nv_value.specs.View.{content, contents};
+ghost use Rattle.nv_msgpack.specs.Handle.{integer_of};
 ghost use Rattle.nv_rpc.specs.Calls.{is_number, msgid_in, name_in, params_in};
-ghost use Rattle.nv_rpc.specs.Received.{integer_in, is_false, kind_in, text_in};
-ghost use Rattle.nv_rpc.specs.Outlines.{item_at, argument_at};
+ghost use Rattle.nv_rpc.specs.Received.{is_false, kind_in, text_in};
+ghost use Rattle.nv_rpc.specs.inside.Outlines.{item_at, argument_at};
 
 use nv_value::{Bytes, Items, Value};
 
@@ -59,7 +60,7 @@ pub fn params_of(params: Value) -> Items
 }
 
 pub fn integer_of(value: &Value) -> Option<i64>
-    ensures { result ≡ integer_in (content value.now) }
+    ensures { result ≡ integer_of (content value.now) }
 {
     match value {
         Value::Int(n) => Some(*n),

@@ -6,7 +6,7 @@ ghost use Rattle.nv_msgpack.specs.Handle.{handle_in};
 ghost use Rattle.nv_rpc.specs.Calls.{is_number};
 ghost use Rattle.nv_rpc.specs.MessageView.{sent_of};
 ghost use Rattle.nv_rpc.specs.Messages.{Sent, message_tree, detach_event, lines_name, detach_name};
-ghost use Rattle.nv_rpc.specs.Outlines.{outline_of};
+ghost use Rattle.nv_rpc.specs.inside.Outlines.{outline_of};
 ghost use Rattle.nv_rpc.specs.Received.{message_in, IsTyped, reply_in, event_in, event_of, lines_in, event_of_two, buffer_in, fault_in, error_in};
 
 use crate::message::{BUFFER, Message};
@@ -31,14 +31,16 @@ enum Outline {
 
 /// The message that a value tells. A value that tells none comes back.
 ///
-/// The code of an error isn't told, and is 0. A value whose parts are spelled otherwise than the server sends them, as a
-/// name that is a binary, the handle of a buffer in a longer spelling, or a result beside an error, tells none (own rule).
+/// The code of an error isn't told, and is 0. A value whose parts are spelled otherwise than the
+/// server sends them, as a name that is a binary, the handle of a buffer in a longer spelling, or a
+/// result beside an error, tells none (own rule).
 pub fn message_of(value: Value) -> Result<Message, Value>
     ensures ok { IfOk result (λ message. message_in (content value) ≡ Some (sent_of message)) }
     ensures told { IfOk result (λ message. message_tree (sent_of message) ≡ content value) }
     ensures value_back { IfErr result (λ back. content back ≡ content value) }
     ensures no_message { OnErr result (message_in (content value) ≡ None) }
-    ensures none_tells { OnErr result ((s : Sent) → IsTyped s → message_tree s ≡ content value → ⊥) }
+    ensures none_tells { OnErr result
+        ((s : Sent) → IsTyped s → message_tree s ≡ content value → ⊥) }
 {
     match outline_of(&value) {
         Some(outline) => Ok(filled(outline, value)),
@@ -68,7 +70,8 @@ fn items_outline(items: &[Value]) -> Option<Outline>
 }
 
 fn reply_outline(kind: &Value, msgid: &Value, cause: &Value, outcome: &Value) -> Option<Outline>
-    ensures { result ≡ option_map outline_of (if is_number (pos 1) (content kind.now) then reply_in (content msgid.now) (content cause.now) (content outcome.now) else None) }
+    ensures { result ≡ option_map outline_of (if is_number (pos 1) (content kind.now)
+        then reply_in (content msgid.now) (content cause.now) (content outcome.now) else None) }
 {
     if !is_number(kind, 1) {
         return None;
@@ -104,13 +107,15 @@ fn items_error(items: &[Value]) -> Option<u8>
 }
 
 fn fault_of(kind: &Value, words: &Value) -> Option<u8>
-    ensures { result ≡ option_map (λ fault. fault.kind) (fault_in (content kind.now) (content words.now)) }
+    ensures { result ≡ option_map (λ fault. fault.kind)
+        (fault_in (content kind.now) (content words.now)) }
 {
     if is_text(words) { kind_of(kind) } else { None }
 }
 
 fn event_outline(kind: &Value, name: &Value, arguments: &Value) -> Option<Outline>
-    ensures { result ≡ option_map outline_of (if is_number (pos 2) (content kind.now) then event_in (content name.now) (content arguments.now) else None) }
+    ensures { result ≡ option_map outline_of (if is_number (pos 2) (content kind.now)
+        then event_in (content name.now) (content arguments.now) else None) }
 {
     if !is_number(kind, 2) {
         return None;
@@ -148,7 +153,9 @@ fn lines_outline(
     last: &Value,
     lines: &Value,
 ) -> Option<Outline>
-    ensures { result ≡ option_map outline_of (if bytes_eq name.now lines_name then lines_in (content buffer.now) (content tick.now) (content first.now) (content last.now) (content lines.now) else None) }
+    ensures { result ≡ option_map outline_of (if bytes_eq name.now lines_name
+        then lines_in (content buffer.now) (content tick.now) (content first.now) (content last.now)
+        (content lines.now) else None) }
 {
     if name != b"nvim_buf_lines_event".as_slice() {
         return None;
@@ -165,7 +172,8 @@ fn lines_outline(
 }
 
 fn detach_outline(name: &[u8], buffer: &Value) -> Option<Outline>
-    ensures { result ≡ option_map outline_of (if bytes_eq name.now detach_name then option_map detach_event (buffer_in (content buffer.now)) else None) }
+    ensures { result ≡ option_map outline_of (if bytes_eq name.now detach_name
+        then option_map detach_event (buffer_in (content buffer.now)) else None) }
 {
     if name != b"nvim_buf_detach_event".as_slice() {
         return None;
@@ -176,7 +184,8 @@ fn detach_outline(name: &[u8], buffer: &Value) -> Option<Outline>
 
 // The outline of an event of two arguments.
 fn two_outline(name: &[u8], first: &Value, second: &Value) -> Option<Outline>
-    ensures { result ≡ option_map outline_of (event_of_two name.now (content first.now) (content second.now)) }
+    ensures { result ≡ option_map outline_of (event_of_two name.now (content first.now)
+        (content second.now)) }
 {
     if name == b"nvim_buf_changedtick_event".as_slice() {
         let buffer = buffer_of(first)?;

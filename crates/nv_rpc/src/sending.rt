@@ -15,7 +15,8 @@ use std::alloc::{AllocError, Global};
 #[tactic(auto, unfolding(crate::specs::Messages::message_tree))]
 pub fn into_value(alloc: Global, message: Message) -> Result<Value, AllocError>
     ensures told { IfOk result (λ value. content value ≡ message_tree (sent_of message)) }
-    ensures spelled { IsSendable (sent_of message) → IfOk result (λ value. HasSpelling (content value)) }
+    ensures spelled { IsSendable (sent_of message)
+        → IfOk result (λ value. HasSpelling (content value)) }
 {
     match message {
         Message::Reply {
@@ -58,7 +59,8 @@ pub fn into_value(alloc: Global, message: Message) -> Result<Value, AllocError>
 /// The value that tells a message that is lent. What the message holds is copied.
 pub fn value_of(alloc: Global, message: &Message) -> Result<Value, AllocError>
     ensures told { IfOk result (λ value. content value ≡ message_tree (sent_of message.now)) }
-    ensures spelled { IsSendable (sent_of message.now) → IfOk result (λ value. HasSpelling (content value)) }
+    ensures spelled { IsSendable (sent_of message.now)
+        → IfOk result (λ value. HasSpelling (content value)) }
 {
     let copy = copy_of(alloc, message)?;
     into_value(alloc, copy)
@@ -74,7 +76,7 @@ fn copy_of(alloc: Global, message: &Message) -> Result<Message, AllocError>
             result,
         } => Ok(Message::Reply {
             msgid: *msgid,
-            fault: copy_of_cause(alloc, fault)?,
+            fault: copy_of_cause(fault)?,
             result: result.copy(alloc)?,
         }),
         Message::Lines {
@@ -96,27 +98,27 @@ fn copy_of(alloc: Global, message: &Message) -> Result<Message, AllocError>
         }),
         Message::Detach { buffer } => Ok(Message::Detach { buffer: *buffer }),
         Message::Fault { fault } => Ok(Message::Fault {
-            fault: copy_of_fault(alloc, fault)?,
+            fault: copy_of_fault(fault)?,
         }),
     }
 }
 
-fn copy_of_cause(alloc: Global, cause: &Option<ApiFault>) -> Result<Option<ApiFault>, AllocError>
+fn copy_of_cause(cause: &Option<ApiFault>) -> Result<Option<ApiFault>, AllocError>
     ensures { IfOk result (λ copy. copy ≡ cause.now) }
 {
     match cause {
         None => Ok(None),
-        Some(fault) => Ok(Some(copy_of_fault(alloc, fault)?)),
+        Some(fault) => Ok(Some(copy_of_fault(fault)?)),
     }
 }
 
-fn copy_of_fault(alloc: Global, fault: &ApiFault) -> Result<ApiFault, AllocError>
+fn copy_of_fault(fault: &ApiFault) -> Result<ApiFault, AllocError>
     ensures { IfOk result (λ copy. copy ≡ fault.now) }
 {
     Ok(ApiFault {
         kind: fault.kind,
         code: fault.code,
-        words: fault.words.copy(alloc)?,
+        words: fault.words.share()?,
     })
 }
 
@@ -137,7 +139,8 @@ fn reply(
     fault: Option<ApiFault>,
     outcome: Value,
 ) -> Result<Value, AllocError>
-    ensures { IfOk result (λ value. content value ≡ message_tree (reply msgid fault (content outcome))) }
+    ensures { IfOk result (λ value. content value ≡ message_tree
+        (reply msgid fault (content outcome))) }
 {
     match fault {
         None => response(alloc, msgid, Value::Nil, outcome),
@@ -150,7 +153,8 @@ fn reply(
 
 // `[1, msgid, error, result]`
 fn response(alloc: Global, msgid: u32, error: Value, outcome: Value) -> Result<Value, AllocError>
-    ensures { IfOk result (λ value. content value ≡ response msgid (content error) (content outcome)) }
+    ensures { IfOk result (λ value. content value ≡ response msgid (content error)
+        (content outcome)) }
 {
     let items = vec![in alloc; Value::Int(1), Value::Int(i64::from(msgid)), error, outcome]?;
     Ok(Value::List(items))
@@ -158,7 +162,8 @@ fn response(alloc: Global, msgid: u32, error: Value, outcome: Value) -> Result<V
 
 // `[2, name, arguments]`
 fn notification(alloc: Global, name: &[u8], arguments: Items) -> Result<Value, AllocError>
-    ensures { IfOk result (λ value. content value ≡ notification name.now (map content arguments.items)) }
+    ensures { IfOk result (λ value. content value ≡ notification name.now
+        (map content arguments.items)) }
 {
     let name = Bytes::from_slice(alloc, name)?;
     let items = vec![in alloc; Value::Int(2), Value::Text(name), Value::List(arguments)]?;
@@ -174,7 +179,8 @@ fn error(alloc: Global, fault: ApiFault) -> Result<Value, AllocError>
 }
 
 fn error_items(alloc: Global, fault: ApiFault) -> Result<Items, AllocError>
-    ensures { IfOk result (λ found. map content found.items ≡ integer (pos fault.kind) ∷ text fault.words ∷ []) }
+    ensures { IfOk result (λ found. map content found.items ≡ integer (pos fault.kind)
+        ∷ text fault.words ∷ []) }
 {
     let ApiFault {
         kind,

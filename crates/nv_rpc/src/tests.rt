@@ -8,7 +8,8 @@ use nv_value::{ApiFault, Bytes, Value};
 use std::alloc::{AllocError, Global};
 use std::test::Fail;
 
-// What each is told by (MessagePack-RPC specification; Neovim help `api-buffer-updates`, `nvim_error_event`).
+// What each is told by (MessagePack-RPC specification; Neovim help `api-buffer-updates`,
+// `nvim_error_event`).
 const SUCCESS: &[u8] = b"\x94\x01\x01\xc0\x01";
 
 const FAILURE: &[u8] = b"\x94\x01\x02\x92\x01\xb3Index out of bounds\xc0";
@@ -64,7 +65,7 @@ fn replies_are_told(rt: HostRuntime) -> Result<(), Fail> {
 #[test]
 fn events_are_told(rt: HostRuntime) -> Result<(), Fail> {
     let alloc = rt.alloc();
-    let empty = Value::Text(Bytes::new(alloc));
+    let empty = Value::Text(Bytes::new(alloc)?);
     let letter = Value::Text(Bytes::from_slice(alloc, b"a")?);
     let lines = Message::Lines {
         buffer: 1,

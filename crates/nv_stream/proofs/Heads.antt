@@ -3,11 +3,11 @@ use Rattle.std.proofs.Common.{◌≡◌, ℕ, ◌+◌, ◌-◌, ◌<◌, ◌≤�
 use Rattle.std.proofs.lemmas.List.{length-take-le, drop_at}
 use Rattle.std.proofs.lemmas.Bool.Decides.{nat_tests}
 use Rattle.nv_value.specs.Content.{Tree, Trees}
-use Rattle.nv_msgpack.specs.Spelling.{Size, Raw, Many, Form, unused, alone, raw, many, form, width, number_in, extra, made, values, gathered}
-use Rattle.nv_msgpack.specs.Reading.{Reading, whole, more, Inside, none, some, mapped, after, items_at, raw_at, many_at, read_by, value_at}
+use Rattle.nv_msgpack.specs.Spelling.{Size, Raw, Many, Form, unused, alone, raw, many, form, width, number_in, extra, raw_value, values, many_value}
+use Rattle.nv_msgpack.specs.Reading.{Reading, whole, more, Inside, none, some, map_reading, after, items_at, raw_at, many_at, read_by, value_at}
 use Rattle.nv_msgpack.proofs.Lengths.{number_in-stays, number_in-take}
 use Rattle.nv_msgpack.proofs.Complete.{many_at-inside}
-use Rattle.nv_stream.specs.Scanning.{head_of}
+use Rattle.nv_stream.specs.inside.Scanning.{head_of}
 use Rattle.nv_stream.specs.declared.scan.Head.TheVariants.{Bytes, Values}
 
 -- bytes that haven't all come
@@ -39,7 +39,7 @@ raw_whole : (r : Raw) (s : Size) (room n : ℕ) (rest : List ℕ) → number_in 
     → (t : Tree) × (raw_at r s room rest ≡ whole t (1 + width s + (n + extra r)))
 raw_whole r s room n rest e h l =
     subst (λ (x : ℕ). 1 + width s + (x + extra r) ≤ room → width s + (x + extra r) ≤ length rest → (t : Tree) × (raw_at r s room rest ≡ whole t (1 + width s + (x + extra r)))) e
-    (λ h l. (made r (take (number_in s rest + extra r) (drop (width s) rest)), grind (arith, nat_tests))) h l
+    (λ h l. (raw_value r (take (number_in s rest + extra r) (drop (width s) rest)), grind (arith, nat_tests))) h l
 
 raw_taken : (r : Raw) (s : Size) (room : ℕ) (rest tail : List ℕ) (least : ℕ) → 1 + width s + (number_in s rest + extra r) ≡ least → least ≤ room → least ≤ 1 + length rest
     → (t : Tree) × (raw_at r s room (take (least - 1) rest ++ tail) ≡ whole t least)
@@ -92,10 +92,10 @@ values_wait d room b rest head n e h l = values_wait_by (items_at (value_at d)) 
 
 -- the values inside are read as these
 abbrev pub Opens : (ℕ → ℕ → List ℕ → Reading Trees) → Reading Tree → ℕ → ℕ → ℕ → List ℕ → Type 0
-Opens inside reading head n room tail = (m : Many) × (reading ≡ after head (mapped (gathered m) (inside n (room - head) tail)))
+Opens inside reading head n room tail = (m : Many) × (reading ≡ after head (map_reading (many_value m) (inside n (room - head) tail)))
 
 many_opens : (inside : ℕ → ℕ → List ℕ → Reading Trees) (m : Many) (s : Size) (room : ℕ) (rest tail : List ℕ) (head n : ℕ) → 1 + width s ≡ head → values m (number_in s rest) ≡ n → head + n ≤ room → head ≤ 1 + length rest
-    → many_at inside m s room (take (head - 1) rest ++ tail) ≡ after head (mapped (gathered m) (inside n (room - head) tail))
+    → many_at inside m s room (take (head - 1) rest ++ tail) ≡ after head (map_reading (many_value m) (inside n (room - head) tail))
 many_opens inside m s room rest tail head n a b h l =
     let size : length (take (head - 1) rest) ≡ head - 1 = length-take-le (head - 1) rest (omega arith) in
     let long : length (take (head - 1) rest ++ tail) ≡ length (take (head - 1) rest) + length tail = length-append (take (head - 1) rest) tail in
@@ -103,8 +103,8 @@ many_opens inside m s room rest tail head n a b h l =
     let counted : values m (number_in s (take (head - 1) rest ++ tail)) ≡ n = ap (λ (x : ℕ). values m x) number ∙ b in
     let behind : drop (width s) (take (head - 1) rest ++ tail) ≡ tail = drop_at (take (head - 1) rest) tail (width s) (omega arith) in
     many_at-inside inside m s room (take (head - 1) rest ++ tail) n counted (omega arith) (omega arith)
-    ∙ ap (λ (l : List ℕ). after (1 + width s) (mapped (gathered m) (inside n (room - (1 + width s)) l))) behind
-    ∙ ap (λ (k : ℕ). after k (mapped (gathered m) (inside n (room - k) tail))) a
+    ∙ ap (λ (l : List ℕ). after (1 + width s) (map_reading (many_value m) (inside n (room - (1 + width s)) l))) behind
+    ∙ ap (λ (k : ℕ). after k (map_reading (many_value m) (inside n (room - k) tail))) a
 
 values_open_by : (inside : ℕ → ℕ → List ℕ → Reading Trees) (f : Form) (room : ℕ) (rest tail : List ℕ) (head n : ℕ) → head_of f rest ≡ Values head n → head + n ≤ room → head ≤ 1 + length rest
     → (1 ≤ head) × Opens inside (read_by (some inside) f room (take (head - 1) rest ++ tail)) head n room tail

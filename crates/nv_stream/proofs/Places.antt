@@ -4,9 +4,9 @@ use Rattle.std.proofs.lemmas.List.{append_assoc, take-append-drop, length-take-l
 use Rattle.std.proofs.lemmas.List.Sums.{sum_by-cons}
 use Rattle.std.proofs.Math.Seq.{take-add, drop-cons}
 use Rattle.nv_value.specs.Content.{Tree, Trees, one}
-use Rattle.nv_msgpack.specs.Spelling.{Many, form, gathered}
-use Rattle.nv_msgpack.specs.Reading.{Reading, Flaw, whole, more, flawed, mapped, after, chained, items_at, value_at}
-use Rattle.nv_stream.specs.Scanning.{head_of, wants, wants_then, owed_want, Leads}
+use Rattle.nv_msgpack.specs.Spelling.{Many, form, many_value}
+use Rattle.nv_msgpack.specs.Reading.{Reading, Flaw, whole, more, flawed, map_reading, after, reading_then, items_at, value_at}
+use Rattle.nv_stream.specs.inside.Scanning.{head_of, wants, wants_then, owed_want, KeepsWanting}
 use Rattle.nv_stream.specs.declared.scan.Head.TheVariants.{Bytes, Values}
 use Rattle.nv_stream.proofs.Heads.{bytes_wait, bytes_taken, values_wait, values_open}
 use Rattle.nv_msgpack.proofs.Exact.{empty_wants}
@@ -20,11 +20,11 @@ none_owed depth n ns room rest = ap (λ (k : ℕ). owed_want (suc depth) (n ∷ 
 waits_here : (depth n : ℕ) (ns : List ℕ) (room : ℕ) (rest : List ℕ) → value_at depth ((room - sum ns) - n) rest ≡ more → owed_want depth (suc n ∷ ns) room rest ≡ true
 unfolding owed_want items_at
 waits_here depth n ns room rest e =
-    ap (λ (r : Reading Tree). wants_then (chained r (λ t k. mapped (one t) (items_at (value_at depth) n ((room - sum ns) - k) (drop k rest)))) (λ k. owed_want (suc depth) ns (room - k) (drop k rest))) e
+    ap (λ (r : Reading Tree). wants_then (reading_then r (λ t k. map_reading (one t) (items_at (value_at depth) n ((room - sum ns) - k) (drop k rest)))) (λ k. owed_want (suc depth) ns (room - k) (drop k rest))) e
 
 -- what follows the values of a list, where its first value has these bytes
 follows : (depth : ℕ) (ns : List ℕ) (room j : ℕ) (t : Tree) (rest : List ℕ) (r : Reading Trees)
-    → wants_then (after j (mapped (one t) r)) (λ k. owed_want (suc depth) ns (room - k) (drop k rest))
+    → wants_then (after j (map_reading (one t) r)) (λ k. owed_want (suc depth) ns (room - k) (drop k rest))
     ≡ wants_then r (λ k. owed_want (suc depth) ns ((room - j) - k) (drop k (drop j rest)))
 follows depth ns room j t rest (whole ts k) =
     let a : room - (j + k) ≡ (room - j) - k = omega arith in
@@ -37,28 +37,28 @@ one_taken : (depth n : ℕ) (ns : List ℕ) (room j : ℕ) (t : Tree) (rest : Li
 unfolding owed_want items_at
 one_taken depth n ns room j t rest e =
     let a : (room - sum ns) - j ≡ (room - j) - sum ns = omega arith in
-    ap (λ (r : Reading Tree). wants_then (chained r (λ t k. mapped (one t) (items_at (value_at depth) n ((room - sum ns) - k) (drop k rest)))) (λ k. owed_want (suc depth) ns (room - k) (drop k rest))) e
+    ap (λ (r : Reading Tree). wants_then (reading_then r (λ t k. map_reading (one t) (items_at (value_at depth) n ((room - sum ns) - k) (drop k rest)))) (λ k. owed_want (suc depth) ns (room - k) (drop k rest))) e
     ∙ follows depth ns room j t rest (items_at (value_at depth) n ((room - sum ns) - j) (drop j rest))
     ∙ ap (λ (x : ℕ). wants_then (items_at (value_at depth) n x (drop j rest)) (λ k. owed_want (suc depth) ns ((room - j) - k) (drop k (drop j rest)))) a
 
 flawed_here : (depth n : ℕ) (ns : List ℕ) (room : ℕ) (rest : List ℕ) (x : Flaw) (j : ℕ) → value_at depth ((room - sum ns) - n) rest ≡ flawed x j → owed_want depth (suc n ∷ ns) room rest ≡ false
 unfolding owed_want items_at
 flawed_here depth n ns room rest x j e =
-    ap (λ (r : Reading Tree). wants_then (chained r (λ t k. mapped (one t) (items_at (value_at depth) n ((room - sum ns) - k) (drop k rest)))) (λ k. owed_want (suc depth) ns (room - k) (drop k rest))) e
+    ap (λ (r : Reading Tree). wants_then (reading_then r (λ t k. map_reading (one t) (items_at (value_at depth) n ((room - sum ns) - k) (drop k rest)))) (λ k. owed_want (suc depth) ns (room - k) (drop k rest))) e
 
 -- what follows an open list
-opened_by : (depth n : ℕ) (ns : List ℕ) (room head : ℕ) (m : Many) (rest : List ℕ) (r : Reading Trees) → value_at (suc depth) ((room - sum ns) - n) rest ≡ after head (mapped (gathered m) r)
+opened_by : (depth n : ℕ) (ns : List ℕ) (room head : ℕ) (m : Many) (rest : List ℕ) (r : Reading Trees) → value_at (suc depth) ((room - sum ns) - n) rest ≡ after head (map_reading (many_value m) r)
     → owed_want (suc depth) (suc n ∷ ns) room rest ≡ wants_then r (λ k. owed_want (suc depth) (n ∷ ns) ((room - head) - k) (drop k (drop head rest)))
 opened_by depth n ns room head m rest (whole ts k) e =
     let a : room - (head + k) ≡ (room - head) - k = omega arith in
-    one_taken (suc depth) n ns room (head + k) (gathered m ts) rest e
+    one_taken (suc depth) n ns room (head + k) (many_value m ts) rest e
     ∙ ap (λ (x : ℕ). owed_want (suc depth) (n ∷ ns) x (drop (head + k) rest)) a
     ∙ ap (λ (l : List ℕ). owed_want (suc depth) (n ∷ ns) ((room - head) - k) l) (sym (drop-drop k head rest))
 opened_by depth n ns room head m rest more e = waits_here (suc depth) n ns room rest e
 opened_by depth n ns room head m rest (flawed x k) e = flawed_here (suc depth) n ns room rest x (head + k) e
 
 one_opened : (depth n : ℕ) (ns : List ℕ) (room head count : ℕ) (m : Many) (rest : List ℕ)
-    → value_at (suc depth) ((room - sum ns) - n) rest ≡ after head (mapped (gathered m) (items_at (value_at depth) count (((room - sum ns) - n) - head) (drop head rest)))
+    → value_at (suc depth) ((room - sum ns) - n) rest ≡ after head (map_reading (many_value m) (items_at (value_at depth) count (((room - sum ns) - n) - head) (drop head rest)))
     → owed_want (suc depth) (suc n ∷ ns) room rest ≡ owed_want depth (count ∷ n ∷ ns) (room - head) (drop head rest)
 unfolding owed_want
 one_opened depth n ns room head count m rest e =
@@ -84,23 +84,23 @@ from_one depth most rest (flawed x k) e h =
     let none : owed_want depth (1 ∷ []) (most - 0) rest ≡ false = flawed_here depth 0 [] (most - 0) rest x k f in
     let c : false ≡ true = sym none ∙ h in cc
 
-pub starts : (depth most : ℕ) (bytes : List ℕ) → Leads depth most bytes 0 depth (1 ∷ [])
+pub starts : (depth most : ℕ) (bytes : List ℕ) → KeepsWanting depth most bytes 0 depth (1 ∷ [])
 unfolding owed_want items_at
 starts depth most bytes rest e = from_one depth most rest (value_at depth most rest) refl e
 
-pub stays_fed : (depth most : ℕ) (bytes piece : List ℕ) (at inner : ℕ) (owed : List ℕ) → at ≤ length bytes → Leads depth most bytes at inner owed → Leads depth most (bytes ++ piece) at inner owed
+pub stays_fed : (depth most : ℕ) (bytes piece : List ℕ) (at inner : ℕ) (owed : List ℕ) → at ≤ length bytes → KeepsWanting depth most bytes at inner owed → KeepsWanting depth most (bytes ++ piece) at inner owed
 stays_fed depth most bytes piece at inner owed h leads rest e =
     let same : take at (bytes ++ piece) ≡ take at bytes = take-append-le at bytes piece h in
     ap (λ (l : List ℕ). wants (value_at depth most (l ++ rest))) same ∙ leads rest e
 
-pub closes : (depth most : ℕ) (bytes : List ℕ) (at inner n : ℕ) (ns : List ℕ) → Leads depth most bytes at inner (0 ∷ n ∷ ns) → Leads depth most bytes at (suc inner) (n ∷ ns)
+pub closes : (depth most : ℕ) (bytes : List ℕ) (at inner n : ℕ) (ns : List ℕ) → KeepsWanting depth most bytes at inner (0 ∷ n ∷ ns) → KeepsWanting depth most bytes at (suc inner) (n ∷ ns)
 closes depth most bytes at inner n ns leads rest e = leads rest (none_owed inner n ns (most - at) rest ∙ e)
 
 -- the bytes between two places
 between : (bytes rest : List ℕ) (at k : ℕ) → take (at + k) bytes ++ rest ≡ take at bytes ++ (take k (drop at bytes) ++ rest)
 between bytes rest at k = ap (λ (l : List ℕ). l ++ rest) (take-add at k bytes) ∙ append_assoc (take at bytes) (take k (drop at bytes)) rest
 
-moves : (depth most : ℕ) (bytes rest : List ℕ) (at k inner other : ℕ) (owed others : List ℕ) → at + k ≤ length bytes → Leads depth most bytes at inner owed
+moves : (depth most : ℕ) (bytes rest : List ℕ) (at k inner other : ℕ) (owed others : List ℕ) → at + k ≤ length bytes → KeepsWanting depth most bytes at inner owed
     → owed_want inner owed (most - at) (take k (drop at bytes) ++ rest) ≡ owed_want other others ((most - at) - k) (drop k (take k (drop at bytes) ++ rest))
     → owed_want other others (most - (at + k)) rest ≡ true → wants (value_at depth most (take (at + k) bytes ++ rest)) ≡ true
 moves depth most bytes rest at k inner other owed others h leads e t =
@@ -120,7 +120,7 @@ here bytes rest at (suc k) h l =
 
 -- a value that has all its bytes is behind
 pub passes : (depth most : ℕ) (bytes : List ℕ) (at inner n : ℕ) (ns : List ℕ) (least : ℕ) → at < length bytes → head_of (form (get_or bytes at 0)) (drop (at + 1) bytes) ≡ Bytes least
-    → least ≤ ((most - at) - sum ns) - n → at + least ≤ length bytes → Leads depth most bytes at inner (suc n ∷ ns) → Leads depth most bytes (at + least) inner (n ∷ ns)
+    → least ≤ ((most - at) - sum ns) - n → at + least ≤ length bytes → KeepsWanting depth most bytes at inner (suc n ∷ ns) → KeepsWanting depth most bytes (at + least) inner (n ∷ ns)
 passes depth most bytes at inner n ns least l head fits within leads rest e =
     let b = get_or bytes at 0 in
     let w = bytes_taken inner (((most - at) - sum ns) - n) (get_or bytes at 0) (drop (at + 1) bytes) rest least head fits (omega (arith, length-drop (at + 1) bytes)) in
@@ -131,16 +131,16 @@ passes depth most bytes at inner n ns least l head fits within leads rest e =
 
 -- a list or map opens
 pub opens : (depth most : ℕ) (bytes : List ℕ) (at inner n : ℕ) (ns : List ℕ) (head count : ℕ) → at < length bytes → head_of (form (get_or bytes at 0)) (drop (at + 1) bytes) ≡ Values head count
-    → head + count ≤ ((most - at) - sum ns) - n → at + head ≤ length bytes → Leads depth most bytes at (suc inner) (suc n ∷ ns) → Leads depth most bytes (at + head) inner (count ∷ n ∷ ns)
+    → head + count ≤ ((most - at) - sum ns) - n → at + head ≤ length bytes → KeepsWanting depth most bytes at (suc inner) (suc n ∷ ns) → KeepsWanting depth most bytes (at + head) inner (count ∷ n ∷ ns)
 opens depth most bytes at inner n ns head count l first fits within leads rest e =
     let room = ((most - at) - sum ns) - n in
     let w = values_open inner (((most - at) - sum ns) - n) (get_or bytes at 0) (drop (at + 1) bytes) rest head count first fits (omega (arith, length-drop (at + 1) bytes)) in
     let size : length (take head (drop at bytes)) ≡ head = length-take-le head (drop at bytes) (omega (arith, length-drop at bytes)) in
     let behind : drop head (take head (drop at bytes) ++ rest) ≡ rest = drop_at (take head (drop at bytes)) rest head size in
     let reads : value_at (suc inner) (((most - at) - sum ns) - n) (take head (drop at bytes) ++ rest)
-    ≡ after head (mapped (gathered w.1.0) (items_at (value_at inner) count ((((most - at) - sum ns) - n) - head) (drop head (take head (drop at bytes) ++ rest)))) =
+    ≡ after head (map_reading (many_value w.1.0) (items_at (value_at inner) count ((((most - at) - sum ns) - n) - head) (drop head (take head (drop at bytes) ++ rest)))) =
     ap (λ (l : List ℕ). value_at (suc inner) (((most - at) - sum ns) - n) l) (here bytes rest at head w.0 l) ∙ w.1.1
-    ∙ ap (λ (l : List ℕ). after head (mapped (gathered w.1.0) (items_at (value_at inner) count ((((most - at) - sum ns) - n) - head) l))) (sym behind) in
+    ∙ ap (λ (l : List ℕ). after head (map_reading (many_value w.1.0) (items_at (value_at inner) count ((((most - at) - sum ns) - n) - head) l))) (sym behind) in
     moves depth most bytes rest at head (suc inner) inner (suc n ∷ ns) (count ∷ n ∷ ns) within leads
     (one_opened inner n ns (most - at) head count w.1.0 (take head (drop at bytes) ++ rest) reads) e
 
@@ -150,7 +150,7 @@ is_more more e = refl
 is_more (flawed x k) e = cc
 
 -- where the value at a place wants more, the value at the front does
-waits_at : (depth most : ℕ) (bytes : List ℕ) (at inner n : ℕ) (ns : List ℕ) → value_at inner (((most - at) - sum ns) - n) (drop at bytes) ≡ more → Leads depth most bytes at inner (suc n ∷ ns) → value_at depth most bytes ≡ more
+waits_at : (depth most : ℕ) (bytes : List ℕ) (at inner n : ℕ) (ns : List ℕ) → value_at inner (((most - at) - sum ns) - n) (drop at bytes) ≡ more → KeepsWanting depth most bytes at inner (suc n ∷ ns) → value_at depth most bytes ≡ more
 waits_at depth most bytes at inner n ns e leads =
     let w : wants (value_at depth most (take at bytes ++ drop at bytes)) ≡ true = leads (drop at bytes) (waits_here inner n ns (most - at) (drop at bytes) e) in
     is_more (value_at depth most bytes) (ap (λ (l : List ℕ). wants (value_at depth most l)) (sym (take-append-drop at bytes)) ∙ w)
@@ -158,7 +158,7 @@ waits_at depth most bytes at inner n ns e leads =
 starts_with : (bytes : List ℕ) (at : ℕ) → at < length bytes → drop at bytes ≡ get_or bytes at 0 ∷ drop (at + 1) bytes
 starts_with bytes at l = rw add-one (drop-cons bytes at 0 l)
 
-pub ends_here : (depth most : ℕ) (bytes : List ℕ) (at inner n : ℕ) (ns : List ℕ) → at ≡ length bytes → Leads depth most bytes at inner (suc n ∷ ns) → value_at depth most bytes ≡ more
+pub ends_here : (depth most : ℕ) (bytes : List ℕ) (at inner n : ℕ) (ns : List ℕ) → at ≡ length bytes → KeepsWanting depth most bytes at inner (suc n ∷ ns) → value_at depth most bytes ≡ more
 ends_here depth most bytes at inner n ns e leads =
     let none : drop at bytes ≡ [] = drop_all at bytes (omega arith) in
     let wants_more : value_at inner (((most - at) - sum ns) - n) (drop at bytes) ≡ more =
@@ -166,14 +166,14 @@ ends_here depth most bytes at inner n ns e leads =
     waits_at depth most bytes at inner n ns wants_more leads
 
 pub bytes_wait_here : (depth most : ℕ) (bytes : List ℕ) (at inner n : ℕ) (ns : List ℕ) (least : ℕ) → at < length bytes → head_of (form (get_or bytes at 0)) (drop (at + 1) bytes) ≡ Bytes least
-    → least ≤ ((most - at) - sum ns) - n → length bytes < at + least → Leads depth most bytes at inner (suc n ∷ ns) → value_at depth most bytes ≡ more
+    → least ≤ ((most - at) - sum ns) - n → length bytes < at + least → KeepsWanting depth most bytes at inner (suc n ∷ ns) → value_at depth most bytes ≡ more
 bytes_wait_here depth most bytes at inner n ns least l head fits short leads =
     let w : value_at inner (((most - at) - sum ns) - n) (get_or bytes at 0 ∷ drop (at + 1) bytes) ≡ more =
     bytes_wait inner (((most - at) - sum ns) - n) (get_or bytes at 0) (drop (at + 1) bytes) least head fits (omega (arith, length-drop (at + 1) bytes)) in
     waits_at depth most bytes at inner n ns (ap (λ (x : List ℕ). value_at inner (((most - at) - sum ns) - n) x) (starts_with bytes at l) ∙ w) leads
 
 pub values_wait_here : (depth most : ℕ) (bytes : List ℕ) (at inner n : ℕ) (ns : List ℕ) (head count : ℕ) → at < length bytes → head_of (form (get_or bytes at 0)) (drop (at + 1) bytes) ≡ Values head count
-    → head + count ≤ ((most - at) - sum ns) - n → length bytes < at + head → Leads depth most bytes at (suc inner) (suc n ∷ ns) → value_at depth most bytes ≡ more
+    → head + count ≤ ((most - at) - sum ns) - n → length bytes < at + head → KeepsWanting depth most bytes at (suc inner) (suc n ∷ ns) → value_at depth most bytes ≡ more
 values_wait_here depth most bytes at inner n ns head count l first fits short leads =
     let w : value_at (suc inner) (((most - at) - sum ns) - n) (get_or bytes at 0 ∷ drop (at + 1) bytes) ≡ more =
     values_wait inner (((most - at) - sum ns) - n) (get_or bytes at 0) (drop (at + 1) bytes) head count first fits (omega (arith, length-drop (at + 1) bytes)) in

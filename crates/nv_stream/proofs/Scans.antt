@@ -4,7 +4,7 @@ use Rattle.std.proofs.lemmas.List.{reverse-append}
 use Rattle.std.proofs.lemmas.List.Sums.{sum_by-cons}
 use Rattle.nv_msgpack.specs.Spelling.{form}
 use Rattle.nv_msgpack.specs.Reading.{more, value_at}
-use Rattle.nv_stream.specs.Scanning.{head_of, Leads, IsPlace, IsFresh}
+use Rattle.nv_stream.specs.inside.Scanning.{head_of, KeepsWanting, IsPlace, IsFresh}
 use Rattle.nv_stream.specs.declared.scan.Head.TheVariants.{Bytes, Values}
 use Rattle.nv_stream.specs.declared.scan.Scan.{Scan}
 use Rattle.nv_stream.proofs.Places.{starts, stays_fed, closes, passes, opens, ends_here, bytes_wait_here, values_wait_here}
@@ -24,9 +24,9 @@ place_starts depth most bytes scan h f =
       all = omega arith;
       fits = omega arith;
       deep = omega arith;
-      leads = subst (λ (n : ℕ). Leads depth most bytes n (depth - length scan.outer.items) (scan.owed ∷ reverse scan.outer.items)) (sym f.at)
-          (subst (λ (l : List ℕ). Leads depth most bytes 0 (depth - length scan.outer.items) l) (sym owed)
-          (subst (λ (d : ℕ). Leads depth most bytes 0 d (1 ∷ [])) (sym inner) (starts depth most bytes)));
+      leads = subst (λ (n : ℕ). KeepsWanting depth most bytes n (depth - length scan.outer.items) (scan.owed ∷ reverse scan.outer.items)) (sym f.at)
+          (subst (λ (l : List ℕ). KeepsWanting depth most bytes 0 (depth - length scan.outer.items) l) (sym owed)
+          (subst (λ (d : ℕ). KeepsWanting depth most bytes 0 d (1 ∷ [])) (sym inner) (starts depth most bytes)));
     }
 
 -- more bytes don't move it
@@ -42,10 +42,10 @@ place_fed depth most bytes piece scan p =
     }
 
 -- one value is owed at least
-leads_one : (depth most : ℕ) (bytes : List ℕ) (at inner owed : ℕ) (ns : List ℕ) → 0 < owed → Leads depth most bytes at inner (owed ∷ ns) → Leads depth most bytes at inner (suc (owed - 1) ∷ ns)
+leads_one : (depth most : ℕ) (bytes : List ℕ) (at inner owed : ℕ) (ns : List ℕ) → 0 < owed → KeepsWanting depth most bytes at inner (owed ∷ ns) → KeepsWanting depth most bytes at inner (suc (owed - 1) ∷ ns)
 leads_one depth most bytes at inner owed ns h leads =
     let one : owed ≡ suc (owed - 1) = omega arith in
-    subst (λ (n : ℕ). Leads depth most bytes at inner (n ∷ ns)) one leads
+    subst (λ (n : ℕ). KeepsWanting depth most bytes at inner (n ∷ ns)) one leads
 
 -- what the innermost list or map may have
 fits_here : (most at all owed behind least : ℕ) → all ≡ owed + behind → 0 < owed → at + all ≤ most → least + at + all ≤ most + 1 → least ≤ ((most - at) - behind) - (owed - 1)
@@ -59,7 +59,7 @@ place_passes depth most bytes old new least p owed inside head room within at_is
     let all = p.all in
     let fits = p.fits in
     let deep = p.deep in
-    let leads : Leads depth most bytes (old.at + least) (depth - length old.outer.items) ((old.owed - 1) ∷ reverse old.outer.items) =
+    let leads : KeepsWanting depth most bytes (old.at + least) (depth - length old.outer.items) ((old.owed - 1) ∷ reverse old.outer.items) =
     passes depth most bytes old.at (depth - length old.outer.items) (old.owed - 1) (reverse old.outer.items) least inside head
     (fits_here most old.at old.owed_in_all old.owed (sum (reverse old.outer.items)) least all owed fits room) within
     (leads_one depth most bytes old.at (depth - length old.outer.items) old.owed (reverse old.outer.items) owed p.leads) in
@@ -70,9 +70,9 @@ place_passes depth most bytes old new least p owed inside head room within at_is
       all = omega arith;
       fits = omega arith;
       deep = omega arith;
-      leads = subst (λ (n : ℕ). Leads depth most bytes n (depth - length new.outer.items) (new.owed ∷ reverse new.outer.items)) (sym at_is)
-          (subst (λ (n : ℕ). Leads depth most bytes (old.at + least) (depth - length new.outer.items) (n ∷ reverse new.outer.items)) (sym owed_is)
-          (subst (λ (l : List ℕ). Leads depth most bytes (old.at + least) (depth - length l) ((old.owed - 1) ∷ reverse l)) (sym outer_is) leads));
+      leads = subst (λ (n : ℕ). KeepsWanting depth most bytes n (depth - length new.outer.items) (new.owed ∷ reverse new.outer.items)) (sym at_is)
+          (subst (λ (n : ℕ). KeepsWanting depth most bytes (old.at + least) (depth - length new.outer.items) (n ∷ reverse new.outer.items)) (sym owed_is)
+          (subst (λ (l : List ℕ). KeepsWanting depth most bytes (old.at + least) (depth - length l) ((old.owed - 1) ∷ reverse l)) (sym outer_is) leads));
     }
 
 -- the last of a list is the first of the reversed one
@@ -95,8 +95,8 @@ place_closes depth most bytes old new n p none outer_is at_is owed_is all_is =
     let owed : old.owed ∷ reverse old.outer.items ≡ 0 ∷ n ∷ reverse new.outer.items =
     ap (λ (l : List ℕ). old.owed ∷ reverse l) outer_is ∙ ap (λ (l : List ℕ). old.owed ∷ l) (reverse_push new.outer.items n)
     ∙ ap (λ (k : ℕ). k ∷ n ∷ reverse new.outer.items) none in
-    let before : Leads depth most bytes old.at (depth - length old.outer.items) (0 ∷ n ∷ reverse new.outer.items) =
-    subst (λ (l : List ℕ). Leads depth most bytes old.at (depth - length old.outer.items) l) owed p.leads in
+    let before : KeepsWanting depth most bytes old.at (depth - length old.outer.items) (0 ∷ n ∷ reverse new.outer.items) =
+    subst (λ (l : List ℕ). KeepsWanting depth most bytes old.at (depth - length old.outer.items) l) owed p.leads in
     let leads = closes depth most bytes old.at (depth - length old.outer.items) n (reverse new.outer.items) before in
     let inner : suc (depth - length old.outer.items) ≡ depth - length new.outer.items = omega arith in
     record {
@@ -104,9 +104,9 @@ place_closes depth most bytes old new n p none outer_is at_is owed_is all_is =
       all = omega arith;
       fits = omega arith;
       deep = omega arith;
-      leads = subst (λ (k : ℕ). Leads depth most bytes k (depth - length new.outer.items) (new.owed ∷ reverse new.outer.items)) (sym at_is)
-          (subst (λ (k : ℕ). Leads depth most bytes old.at (depth - length new.outer.items) (k ∷ reverse new.outer.items)) (sym owed_is)
-          (subst (λ (d : ℕ). Leads depth most bytes old.at d (n ∷ reverse new.outer.items)) inner leads));
+      leads = subst (λ (k : ℕ). KeepsWanting depth most bytes k (depth - length new.outer.items) (new.owed ∷ reverse new.outer.items)) (sym at_is)
+          (subst (λ (k : ℕ). KeepsWanting depth most bytes old.at (depth - length new.outer.items) (k ∷ reverse new.outer.items)) (sym owed_is)
+          (subst (λ (d : ℕ). KeepsWanting depth most bytes old.at d (n ∷ reverse new.outer.items)) inner leads));
     }
 
 pub place_opens : (depth most : ℕ) (bytes : List ℕ) (old new : Scan) (first count : ℕ) → IsPlace depth most bytes old → 0 < old.owed → old.at < length bytes
@@ -118,10 +118,10 @@ place_opens depth most bytes old new first count p owed inside head room within 
     let sums : sum (reverse new.outer.items) ≡ (old.owed - 1) + sum (reverse old.outer.items) = ap (λ (l : List ℕ). sum (reverse l)) outer_is ∙ sum_push old.outer.items (old.owed - 1) in
     let lengths : length new.outer.items ≡ length old.outer.items + 1 = ap (length {A = ℕ}) outer_is ∙ length-append old.outer.items ((old.owed - 1) ∷ []) in
     let inner : depth - length old.outer.items ≡ suc (depth - length new.outer.items) = omega arith in
-    let before : Leads depth most bytes old.at (suc (depth - length new.outer.items)) (suc (old.owed - 1) ∷ reverse old.outer.items) =
-    subst (λ (d : ℕ). Leads depth most bytes old.at d (suc (old.owed - 1) ∷ reverse old.outer.items)) inner
+    let before : KeepsWanting depth most bytes old.at (suc (depth - length new.outer.items)) (suc (old.owed - 1) ∷ reverse old.outer.items) =
+    subst (λ (d : ℕ). KeepsWanting depth most bytes old.at d (suc (old.owed - 1) ∷ reverse old.outer.items)) inner
     (leads_one depth most bytes old.at (depth - length old.outer.items) old.owed (reverse old.outer.items) owed p.leads) in
-    let leads : Leads depth most bytes (old.at + first) (depth - length new.outer.items) (count ∷ (old.owed - 1) ∷ reverse old.outer.items) =
+    let leads : KeepsWanting depth most bytes (old.at + first) (depth - length new.outer.items) (count ∷ (old.owed - 1) ∷ reverse old.outer.items) =
     opens depth most bytes old.at (depth - length new.outer.items) (old.owed - 1) (reverse old.outer.items) first count inside head
     (fits_here most old.at old.owed_in_all old.owed (sum (reverse old.outer.items)) (first + count) all owed fits room) within before in
     let stack : reverse new.outer.items ≡ (old.owed - 1) ∷ reverse old.outer.items = ap (λ (l : List ℕ). reverse l) outer_is ∙ reverse_push old.outer.items (old.owed - 1) in
@@ -130,9 +130,9 @@ place_opens depth most bytes old new first count p owed inside head room within 
       all = omega arith;
       fits = omega arith;
       deep = omega arith;
-      leads = subst (λ (k : ℕ). Leads depth most bytes k (depth - length new.outer.items) (new.owed ∷ reverse new.outer.items)) (sym at_is)
-          (subst (λ (k : ℕ). Leads depth most bytes (old.at + first) (depth - length new.outer.items) (k ∷ reverse new.outer.items)) (sym owed_is)
-          (subst (λ (l : List ℕ). Leads depth most bytes (old.at + first) (depth - length new.outer.items) (count ∷ l)) (sym stack) leads));
+      leads = subst (λ (k : ℕ). KeepsWanting depth most bytes k (depth - length new.outer.items) (new.owed ∷ reverse new.outer.items)) (sym at_is)
+          (subst (λ (k : ℕ). KeepsWanting depth most bytes (old.at + first) (depth - length new.outer.items) (k ∷ reverse new.outer.items)) (sym owed_is)
+          (subst (λ (l : List ℕ). KeepsWanting depth most bytes (old.at + first) (depth - length new.outer.items) (count ∷ l)) (sym stack) leads));
     }
 
 -- where a scan waits
@@ -154,8 +154,8 @@ pub waits_for_length : (depth most : ℕ) (bytes : List ℕ) (scan : Scan) (firs
     → value_at depth most bytes ≡ more
 waits_for_length depth most bytes scan first count p owed inside head room short less =
     let inner : depth - length scan.outer.items ≡ suc (depth - (length scan.outer.items + 1)) = omega arith in
-    let before : Leads depth most bytes scan.at (suc (depth - (length scan.outer.items + 1))) (suc (scan.owed - 1) ∷ reverse scan.outer.items) =
-    subst (λ (d : ℕ). Leads depth most bytes scan.at d (suc (scan.owed - 1) ∷ reverse scan.outer.items)) inner
+    let before : KeepsWanting depth most bytes scan.at (suc (depth - (length scan.outer.items + 1))) (suc (scan.owed - 1) ∷ reverse scan.outer.items) =
+    subst (λ (d : ℕ). KeepsWanting depth most bytes scan.at d (suc (scan.owed - 1) ∷ reverse scan.outer.items)) inner
     (leads_one depth most bytes scan.at (depth - length scan.outer.items) scan.owed (reverse scan.outer.items) owed p.leads) in
     values_wait_here depth most bytes scan.at (depth - (length scan.outer.items + 1)) (scan.owed - 1) (reverse scan.outer.items) first count inside head
     (fits_here most scan.at scan.owed_in_all scan.owed (sum (reverse scan.outer.items)) (first + count) p.all owed p.fits room) short before

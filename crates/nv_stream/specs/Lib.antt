@@ -1,4 +1,4 @@
 pub mod Answers
 pub mod Runs
-pub mod Scanning
 pub mod State
+pub mod inside

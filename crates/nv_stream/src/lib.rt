@@ -1,7 +1,7 @@
 //! The values of a stream of MessagePack that comes in pieces.
 //!
-//! A [`Stream`] is fed pieces as they come and asked for values. However the bytes were cut into pieces, the
-//! values, and the flaw or the unfinished value at the end, are the same.
+//! A [`Stream`] is fed pieces as they come and asked for values. However the bytes were cut into
+//! pieces, the values, and the flaw or the unfinished value at the end, are the same.
 #![tactic(auto)]
 
 mod laws;

@@ -3,7 +3,7 @@ ghost use Rattle.std.specs.Prelude.{◌≡◌, ◌+◌, ◌^◌, ◌<◌, ◌≤
 ghost use Rattle.nv_msgpack.specs.Spelling.{form, width, number_in};
 ghost use Rattle.nv_msgpack.specs.FirstByte.{size_of};
 ghost use Rattle.nv_msgpack.specs.Within.{IsPartial};
-ghost use Rattle.nv_stream.specs.Scanning.{head_of, IsPlace, Shows, IsFresh};
+ghost use Rattle.nv_stream.specs.inside.Scanning.{head_of, IsPlace, Shows, IsFresh};
 
 use nv_msgpack::{Bounds, FirstByte, Length, first_byte};
 use std::alloc::{AllocError, Global};
@@ -63,12 +63,14 @@ impl Scan {
         self.owed_in_all = 1;
     }
 
-    // Goes on over the bytes. `true`: the value that they begin isn't finished, and nothing is wrong with it yet.
+    // Goes on over the bytes. `true`: the value that they begin isn't finished, and nothing is
+    // wrong with it yet.
     pub fn waits(&mut self, bytes: &[u8], bounds: Bounds) -> Result<bool, AllocError>
         requires place { IsPlace bounds.depth bounds.bytes bytes.now self.old }
         requires some { 1 ≤ bounds.bytes }
         ensures place { IsPlace bounds.depth bounds.bytes bytes.now self.new }
-        ensures waits { IfOk result (λ b. b ≡ true → IsPartial bounds.depth bounds.bytes bytes.now) }
+        ensures waits { IfOk result (λ b. b ≡ true
+            → IsPartial bounds.depth bounds.bytes bytes.now) }
     {
         loop {
             match self.step(bytes, bounds)? {
@@ -113,7 +115,8 @@ impl Scan {
         }
     }
 
-    // The bytes that the value here may have, where each value that is owed behind it takes one at least.
+    // The bytes that the value here may have, where each value that is owed behind it takes one at
+    // least.
     fn room(&self, bounds: Bounds) -> u64
         requires owed { 0 < self.now.owed }
         requires all { self.now.owed ≤ self.now.owed_in_all }
@@ -128,7 +131,8 @@ impl Scan {
         requires place { IsPlace bounds.depth bounds.bytes bytes.now self.old }
         requires owed { 0 < self.old.owed }
         requires within { self.old.at < length bytes.now }
-        requires head { head_of (form (slice_index bytes.now self.old.at)) (drop (self.old.at + 1) bytes.now) ≡ Head.Bytes least }
+        requires head { head_of (form (slice_index bytes.now self.old.at))
+            (drop (self.old.at + 1) bytes.now) ≡ Head.Bytes least }
         ensures place { IsPlace bounds.depth bounds.bytes bytes.now self.new }
         ensures shows { Shows bounds.depth bounds.bytes bytes.now self.old self.new result }
     {
@@ -155,7 +159,8 @@ impl Scan {
         requires place { IsPlace bounds.depth bounds.bytes bytes.now self.old }
         requires owed { 0 < self.old.owed }
         requires within { self.old.at < length bytes.now }
-        requires head { head_of (form (slice_index bytes.now self.old.at)) (drop (self.old.at + 1) bytes.now) ≡ Head.Values first count }
+        requires head { head_of (form (slice_index bytes.now self.old.at))
+            (drop (self.old.at + 1) bytes.now) ≡ Head.Values first count }
         ensures place { IsPlace bounds.depth bounds.bytes bytes.now self.new }
         ensures shows { IfOk result (Shows bounds.depth bounds.bytes bytes.now self.old self.new) }
     {
@@ -201,7 +206,8 @@ fn head_at(bytes: &[u8], at: usize) -> Head
 // A first byte, its length, and as many bytes as the length says.
 fn sized(bytes: &[u8], at: usize, size: Length) -> u64
     requires { at < length bytes.now }
-    ensures value { result ≡ 1 + width (size_of size) + number_in (size_of size) (drop (at + 1) bytes.now) }
+    ensures value { result ≡ 1 + width (size_of size)
+        + number_in (size_of size) (drop (at + 1) bytes.now) }
     ensures small { result < 2 ^ 33 }
 {
     1 + u64::from(size.width()) + u64::from(size.number(bytes, at + 1))

@@ -1,9 +1,9 @@
 //! The stream: what was fed and not yet given.
 ghost use Rattle.std.specs.Prelude.{◌≡◌, ◌+◌, ◌^◌, ◌<◌, ◌≤◌, true, drop, length, vec_len, IfOk, OnOk, OnErr};
-ghost use Rattle.nv_stream.specs.State.{fresh, fed, gave, stopped, end_of};
+ghost use Rattle.nv_stream.specs.State.{empty_state, with_piece, behind_value, with_flaw, stream_end};
 ghost use Rattle.nv_msgpack.specs.Decoded.{IsRight, HasSpellingIfWhole, decoded_seen};
 ghost use Rattle.nv_msgpack.specs.Reading.{value_at};
-ghost use Rattle.nv_stream.specs.Answers.{Gives, NeedsMore};
+ghost use Rattle.nv_stream.specs.Answers.{IsAnswer, NeedsMore};
 
 use crate::scan::Scan;
 use nv_io::Flaw;
@@ -25,8 +25,9 @@ pub enum Next {
 
 /// The values of a stream of bytes that comes in pieces (MessagePack specification).
 ///
-/// However small the pieces are, the work is linear in the bytes: an unfinished value is gone over once, and decoded
-/// again only when it is whole or wrong. Memory is taken as bytes come, and never for what a length announces.
+/// However small the pieces are, the work is linear in the bytes: an unfinished value is gone over
+/// once, and decoded again only when it is whole or wrong. Memory is taken as bytes come, and never
+/// for what a length announces.
 #[derive(Drop)]
 pub struct Stream {
     alloc: Global,
@@ -45,21 +46,29 @@ pub struct Stream {
 impl Model for Stream {
     ghost use Rattle.std.specs.Prelude.{◌+◌, ◌-◌, ◌^◌, ◌<◌, ◌≤◌, drop, vec_len};
     ghost use Rattle.nv_stream.specs.State.{State};
-    ghost use Rattle.nv_stream.specs.Scanning.{IsPlace};
+    ghost use Rattle.nv_stream.specs.inside.Scanning.{IsPlace};
 
     ghost Value = { State };
 
-    ghost view = { λ s. record { depth = s.bounds.depth; most = s.bounds.bytes; start = s.start; held = drop s.given s.bytes.items; flaw = s.flaw } };
+    ghost view = { λ s. record {
+      depth = s.bounds.depth;
+      most = s.bounds.bytes;
+      start = s.start;
+      held = drop s.given s.bytes.items;
+      flaw = s.flaw;
+    } };
 
-    ghost invariant = { λ s. (1 ≤ s.bounds.bytes) × (s.given ≤ vec_len s.bytes) × (s.start + (vec_len s.bytes - s.given) < 2 ^ 64) × IsPlace s.bounds.depth s.bounds.bytes (drop s.given s.bytes.items) s.scan };
+    ghost invariant = { λ s. (1 ≤ s.bounds.bytes) × (s.given ≤ vec_len s.bytes)
+        × (s.start + (vec_len s.bytes - s.given) < 2 ^ 64)
+        × IsPlace s.bounds.depth s.bounds.bytes (drop s.given s.bytes.items) s.scan };
 }
 
 impl Stream {
-    /// A stream to which nothing was fed. Its values have at most `bounds.depth` lists and maps one in another and at
-    /// most `bounds.bytes` bytes each. It takes no memory yet.
+    /// A stream to which nothing was fed. Its values have at most `bounds.depth` lists and maps one
+    /// in another and at most `bounds.bytes` bytes each. It takes no memory yet.
     pub fn new(alloc: Global, bounds: Bounds) -> Result<Stream, AllocError>
         requires { 1 ≤ bounds.bytes }
-        ensures { IfOk result (λ s. s ≡ fresh bounds.depth bounds.bytes) }
+        ensures { IfOk result (λ s. s ≡ empty_state bounds.depth bounds.bytes) }
     {
         Ok(Stream {
             alloc,
@@ -73,10 +82,11 @@ impl Stream {
         })
     }
 
-    /// Adds a piece of the stream. It may be empty, and may end anywhere. Where memory is wanting, nothing was added.
+    /// Adds a piece of the stream. It may be empty, and may end anywhere. Where memory is wanting,
+    /// nothing was added.
     pub fn feed(&mut self, piece: &[u8]) -> Result<(), AllocError>
         requires { self.old.start + length self.old.held + length piece.now < 2 ^ 64 }
-        ensures ok { OnOk result (self.new ≡ fed self.old piece.now) }
+        ensures ok { OnOk result (self.new ≡ with_piece self.old piece.now) }
         ensures err { OnErr result (self.new ≡ self.old) }
     {
         if self.given >= self.bytes.len() - self.given {
@@ -93,10 +103,11 @@ impl Stream {
         self.given = 0;
     }
 
-    /// The next value, which is taken from the stream; or that more bytes are needed for it; or the flaw that stands
-    /// in its place. A flaw is the answer for good. Where memory is wanting, the stream is as it was.
+    /// The next value, which is taken from the stream; or that more bytes are needed for it; or the
+    /// flaw that stands in its place. A flaw is the answer for good. Where memory is wanting, the
+    /// stream is as it was.
     pub fn next(&mut self) -> Result<Next, AllocError>
-        ensures ok { IfOk result (λ n. Gives n self.old self.new) }
+        ensures ok { IfOk result (λ n. IsAnswer n self.old self.new) }
         ensures err { OnErr result (self.new ≡ self.old) }
     {
         if let Some(flaw) = self.flaw {
@@ -129,7 +140,7 @@ impl Stream {
         requires right { IsRight self.old.depth self.old.most self.old.held found }
         requires exact { decoded_seen found ≡ value_at self.old.depth self.old.most self.old.held }
         requires has_spelling { HasSpellingIfWhole found }
-        ensures { Gives result self.old self.new }
+        ensures { IsAnswer result self.old self.new }
     {
         match found {
             Decoded::Whole(value, length) => {
@@ -149,7 +160,7 @@ impl Stream {
     // Takes the first `taken` bytes from what is held.
     fn give(&mut self, taken: usize)
         requires { taken ≤ length self.old.held }
-        ensures { self.new ≡ gave self.old taken (drop taken self.old.held) }
+        ensures { self.new ≡ behind_value self.old taken (drop taken self.old.held) }
     {
         self.given += taken;
         self.start += taken as u64;
@@ -158,7 +169,7 @@ impl Stream {
     }
 
     fn stop(&mut self, flaw: Flaw) -> Next
-        ensures state { self.new ≡ stopped self.old flaw }
+        ensures state { self.new ≡ with_flaw self.old flaw }
         ensures answer { result ≡ Next.Flaw flaw }
     {
         self.flaw = Some(flaw);
@@ -171,10 +182,10 @@ impl Stream {
         &self.bytes[self.given..]
     }
 
-    /// How the stream ends if no further piece comes: the flaw that was met; else `Inside` with the byte of the
-    /// stream at which the unfinished value begins; else nothing.
+    /// How the stream ends if no further piece comes: the flaw that was met; else `Inside` with the
+    /// byte of the stream at which the unfinished value begins; else nothing.
     pub fn end(&self) -> Option<Flaw>
-        ensures { result ≡ end_of self.now }
+        ensures { result ≡ stream_end self.now }
     {
         if let Some(flaw) = self.flaw {
             return Some(flaw);

@@ -1,8 +1,9 @@
--- The content of a value: the plain tree of numbers and lists that it holds, without allocators and capacities.
+-- The content of a value: the plain tree of numbers and lists that it holds, without allocators and
+-- capacities.
 use Rattle.std.specs.Prelude.{ℕ, suc, ℤ, Bool, List, [], ◌∷◌}
 
--- A value of the MessagePack specification ("Type system"): an integer above the greatest i64 is `big`, a float is
--- its bytes, `opaque`, and a map is its keys and values in turn.
+-- A value of the MessagePack specification ("Type system"): an integer above the greatest i64 is
+-- `big`, a float is its bytes, `opaque`, and a map is its keys and values in turn.
 mutual
   pub data Tree : Type 0 where
     nil : Tree

@@ -1,96 +1,86 @@
-//! A list of bytes.
-ghost use Rattle.std.specs.Prelude.{◌≡◌, ◌==◌, ◌+◌, List, ℕ, [], ◌∷◌, ◌++◌, length, IfOk, IfErr, OnOk, OnErr, slice_get};
+//! Bytes in order, which several owners share.
+ghost use Rattle.std.specs.Prelude.{◌≡◌, ◌==◌, List, ℕ, [], length, IfOk, slice_get};
 ghost use Rattle.std.specs.Option.{option_copied};
 
-use std::alloc::{AllocError, AllocFailed, Global};
+use crate::block::Block;
+use std::alloc::{AllocError, Global};
 use std::marker::Model;
 
-/// Any bytes, in order. They need not be UTF-8.
+/// Any bytes, in order, fewer than 2^32. They need not be UTF-8. They never change, and who shares
+/// them has the same memory.
 #[derive(Drop)]
 pub struct Bytes {
-    items: Vec<u8>,
+    block: Block,
 }
 
 impl Model for Bytes {
+    ghost use Rattle.std.specs.Prelude.{List, ℕ};
+    ghost use Rattle.nv_value.specs.inside.Block.{HoldsBytes, block_bytes};
+
     ghost Value = { List ℕ };
 
-    ghost view = { λ b. b.items.items };
+    ghost view = { λ b. block_bytes b.block };
+
+    ghost invariant = { λ b. HoldsBytes b.block (block_bytes b.block) };
 }
 
 impl Bytes {
     /// No bytes.
-    pub fn new(alloc: Global) -> Bytes
-        ensures { result ≡ [] }
+    pub fn new(alloc: Global) -> Result<Bytes, AllocError>
+        ensures { IfOk result (λ b. b ≡ []) }
     {
-        Bytes {
-            items: Vec::new(alloc),
-        }
+        Bytes::from_slice(alloc, &[])
     }
 
-    /// The bytes of a vector.
-    pub fn from_vec(items: Vec<u8>) -> Bytes
-        ensures { result ≡ items.items }
+    /// The bytes of a vector. `AllocError` also where they are 2^32 or more.
+    pub fn from_vec(items: Vec<u8>) -> Result<Bytes, AllocError>
+        ensures { IfOk result (λ b. b ≡ items.items) }
     {
-        Bytes { items }
+        let block = Block::of_vec(items)?;
+        Ok(Bytes { block })
     }
 
-    /// A copy of the bytes of a slice.
+    /// The bytes of a slice, in memory of their own. `AllocError` also where they are 2^32 or more.
     pub fn from_slice(alloc: Global, items: &[u8]) -> Result<Bytes, AllocError>
         ensures { IfOk result (λ b. b ≡ items.now) }
     {
-        let items = Vec::from_slice(alloc, items)?;
-        Ok(Bytes { items })
+        let block = Block::of_slice(alloc, items)?;
+        Ok(Bytes { block })
     }
 
-    /// The bytes as a vector.
-    pub fn into_vec(self) -> Vec<u8>
-        ensures { result.items ≡ self }
+    /// The same bytes, shared: one owner more, and no bytes copied.
+    pub fn share(&self) -> Result<Bytes, AllocError>
+        ensures { IfOk result (λ b. b ≡ self.now) }
     {
-        let Bytes { items } = self;
-        items
-    }
-
-    /// Adds a byte at the end.
-    pub fn push(&mut self, item: u8) -> Result<(), AllocFailed<u8>>
-        ensures ok { OnOk result (self.new ≡ self.old ++ item ∷ []) }
-        ensures err { OnErr result (self.new ≡ self.old) }
-        ensures value_returned { IfErr result (λ e. e.value ≡ item) }
-    {
-        self.items.push(item)
+        let block = self.block.share()?;
+        Ok(Bytes { block })
     }
 
     /// How many bytes there are.
     pub fn len(&self) -> usize
         ensures { result ≡ length self.now }
     {
-        self.items.len()
+        self.block.len()
     }
 
     /// Whether there is no byte.
     pub fn is_empty(&self) -> bool
         ensures { result ≡ (length self.now == 0) }
     {
-        self.items.is_empty()
+        self.block.len() == 0
     }
 
     /// The byte at `place`, counted from 0, where there is one.
     pub fn get(&self, place: usize) -> Option<&u8>
         ensures { option_copied result ≡ slice_get self.now place }
     {
-        self.items.get(place)
+        self.as_slice().get(place)
     }
 
     /// All the bytes, lent.
     pub fn as_slice(&self) -> &[u8]
         ensures { result.now ≡ self.now }
     {
-        self.items.as_slice()
-    }
-
-    /// The same bytes in memory of their own.
-    pub fn copy(&self, alloc: Global) -> Result<Bytes, AllocError>
-        ensures { IfOk result (λ b. b ≡ self.now) }
-    {
-        Bytes::from_slice(alloc, self.items.as_slice())
+        self.block.as_slice()
     }
 }

@@ -1,6 +1,7 @@
 //! The values of MessagePack, as plain data: what requests, replies and events are made of.
 #![tactic(auto)]
 
+mod block;
 mod bytes;
 mod fault;
 mod value;

@@ -42,7 +42,7 @@ pub enum Value {
 }
 
 impl Value {
-    /// The same value in memory of its own.
+    /// The same value: its strings are shared, its lists and maps are made anew.
     #[cycle(copy)]
     pub fn copy(&self, alloc: Global) -> Result<Value, AllocError>
         ensures { IfOk result (λ v. content v ≡ content self.now) }
@@ -52,12 +52,12 @@ impl Value {
             Value::Truth(truth) => Ok(Value::Truth(*truth)),
             Value::Int(number) => Ok(Value::Int(*number)),
             Value::Big(number) => Ok(Value::Big(*number)),
-            Value::Text(bytes) => Ok(Value::Text(bytes.copy(alloc)?)),
-            Value::Bin(bytes) => Ok(Value::Bin(bytes.copy(alloc)?)),
+            Value::Text(bytes) => Ok(Value::Text(bytes.share()?)),
+            Value::Bin(bytes) => Ok(Value::Bin(bytes.share()?)),
             Value::List(items) => Ok(Value::List(copy_items(alloc, items)?)),
             Value::Pairs(fields) => Ok(Value::Pairs(copy_fields(alloc, fields)?)),
-            Value::Ext(kind, data) => Ok(Value::Ext(*kind, data.copy(alloc)?)),
-            Value::Opaque(bytes) => Ok(Value::Opaque(bytes.copy(alloc)?)),
+            Value::Ext(kind, data) => Ok(Value::Ext(*kind, data.share()?)),
+            Value::Opaque(bytes) => Ok(Value::Opaque(bytes.share()?)),
         }
     }
 }
@@ -160,27 +160,45 @@ mod tests {
         let copy = value.copy(alloc)?;
         drop(value);
         let line = shown(alloc, &copy)?;
-        assert_eq!(rt;
-            line.as_str(),
-            "[nil;{text [97]: -1;bin [98]: [true;big 9223372036854775808;];};ext 1 [200];float [63, 128, 0, 0];]"
-        );
+        let pairs = "{text [97]: -1;bin [98]: [true;big 9223372036854775808;];}";
+        let wanted = format!(in alloc; "[nil;{pairs};ext 1 [200];float [63, 128, 0, 0];]")?;
+        assert_eq!(rt; line.as_str(), wanted.as_str());
         Ok(())
     }
 
     #[test]
     fn bytes_are_a_list(rt: HostRuntime) -> Result<(), Fail> {
         let alloc = rt.alloc();
-        let mut list = Bytes::new(alloc);
-        assert!(rt; list.is_empty());
-        list.push(7)?;
-        list.push(8)?;
-        let copy = list.copy(alloc)?;
-        assert_eq!(rt; copy.len(), 2);
-        assert_eq!(rt; copy.get(1).copied(), Some(8));
-        assert_eq!(rt; copy.get(2).copied(), None);
-        assert_eq!(rt; list.as_slice(), [7, 8].as_slice());
-        let again = Bytes::from_vec(copy.into_vec());
-        assert_eq!(rt; again.as_slice(), list.as_slice());
+        let none = Bytes::new(alloc)?;
+        assert!(rt; none.is_empty());
+        let list = Bytes::from_slice(alloc, &[7, 8])?;
+        let same = list.share()?;
+        drop(list);
+        assert_eq!(rt; same.len(), 2);
+        assert_eq!(rt; same.get(1).copied(), Some(8));
+        assert_eq!(rt; same.get(2).copied(), None);
+        assert_eq!(rt; same.as_slice(), [7, 8].as_slice());
+        let again = Bytes::from_vec(vec![in alloc; 7, 8]?)?;
+        assert_eq!(rt; again.as_slice(), same.as_slice());
+        Ok(())
+    }
+
+    // On both sides of the size of each room.
+    #[test]
+    fn bytes_of_each_size(rt: HostRuntime) -> Result<(), Fail> {
+        let alloc = rt.alloc();
+        for size in [0usize, 1, 31, 32, 33, 64, 65, 96, 97, 128, 129, 1000] {
+            assert!(rt; size <= 1000);
+            let mut items = vec![in alloc; 9u8; size]?;
+            items.push(7)?;
+            let made = Bytes::from_slice(alloc, items.as_slice())?;
+            let same = made.share()?;
+            drop(made);
+            assert_eq!(rt; same.as_slice(), items.as_slice());
+            assert_eq!(rt; same.len(), size + 1);
+            let again = Bytes::from_vec(items)?;
+            assert_eq!(rt; again.as_slice(), same.as_slice());
+        }
         Ok(())
     }
 }

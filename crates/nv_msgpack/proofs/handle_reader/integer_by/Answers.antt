@@ -4,7 +4,8 @@ use Rattle.std.proofs.lemmas.Bool.{eqb-true, eqb-false}
 use Rattle.nv_msgpack.specs.Spelling.{unsigned_number}
 use Rattle.nv_msgpack.specs.declared.first_bytes.FirstByte.{FirstByte}
 use Rattle.nv_msgpack.specs.FirstByte.{bytes_of, form_seen}
-use Rattle.nv_msgpack.specs.Handle.{integer_of, integer_by}
+use Rattle.nv_msgpack.specs.Handle.{integer_of}
+use Rattle.nv_msgpack.specs.inside.Integers.{integer_by}
 use Rattle.nv_msgpack.proofs.Integers.{small_is, small_long, unsigned_is, unsigned_other, signed_is, signed_other, other_seen}
 use Rattle.nv_msgpack.proofs.handle_reader.integer_by.Goals as goal
 

@@ -2,7 +2,7 @@ use Rattle.std.proofs.Common.{◌<◌, length, sym, ap, ◌∙◌, arith}
 use Rattle.std.proofs.lemmas.Bool.{eqb-true, eqb-false}
 use Rattle.std.proofs.lemmas.List.{take_rest}
 use Rattle.nv_msgpack.specs.FirstByte.{form_seen}
-use Rattle.nv_msgpack.specs.Handle.{integer_by}
+use Rattle.nv_msgpack.specs.inside.Integers.{integer_by}
 use Rattle.nv_msgpack.proofs.Integers.{first_is, empty_is}
 use Rattle.nv_msgpack.proofs.handle_reader.whole_integer.Goals as goal
 

@@ -10,11 +10,14 @@ use Rattle.nv_msgpack.proofs.handles.handle.Goals as goal
 pub returns-in_err-put_integer-clause-spelled : goal.returns-in_err-put_integer-clause-spelled
 returns-in_err-put_integer-clause-spelled c = (0, spelled (integer c.args.number) c.ranges.number tt 0 (omega arith))
 
+pub returns-in_err-data-clause-spelled : goal.returns-in_err-data-clause-spelled
+returns-in_err-data-clause-spelled c = (0, spelled (integer c.args.number) c.ranges.number tt 0 (omega arith))
+
 pub returns-clause-spelled : goal.returns-clause-spelled
 returns-clause-spelled c = (0, spelled (integer c.args.number) c.ranges.number tt 0 (omega arith))
 
 pub returns-clause-has_spelling : goal.returns-clause-has_spelling
 returns-clause-has_spelling c =
-    let same : c.from_vec.result ≡ integer_spelling c.args.number = grind arith in
-    let few : length c.from_vec.result < 2 ^ 32 = omega (arith, ap (length {A = ℕ}) same, integer_length c.args.number) in
-    subst HasSpelling (sym (content-Ext _ c.from_vec.result)) few
+    let same : c.in_ok-data.data ≡ integer_spelling c.args.number = grind arith in
+    let few : length c.in_ok-data.data < 2 ^ 32 = omega (arith, ap (length {A = ℕ}) same, integer_length c.args.number) in
+    subst HasSpelling (sym (content-Ext _ c.in_ok-data.data)) few

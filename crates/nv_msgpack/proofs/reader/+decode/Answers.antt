@@ -7,7 +7,7 @@ use Rattle.nv_value.proofs.Contents.{pair_content_is}
 use Rattle.nv_msgpack.specs.Spelling.{of_list, of_map}
 use Rattle.nv_msgpack.specs.FirstByte.{size_of, form_seen}
 use Rattle.nv_msgpack.specs.Reading.{Reading, whole, after}
-use Rattle.nv_msgpack.specs.Steps.{Gives}
+use Rattle.nv_msgpack.specs.inside.Steps.{Gives}
 use Rattle.nv_msgpack.proofs.Loop.{joined, owed_at, contents-push, pair_contents-push, none_read, all_read, ends_within, items_end_within, item_more, item_stop, field_more, field_stop, key_stops, value_stops, pair_read, value_flat, value_plain, value_many, nothing_yet, plain_seen}
 use Rattle.nv_msgpack.proofs.reader.+decode.Goals as goal
 

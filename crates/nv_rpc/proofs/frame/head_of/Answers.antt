@@ -1,5 +1,5 @@
 use Rattle.std.proofs.Common.{ap, sym, option_map}
-use Rattle.nv_rpc.specs.Frames.{head_of_call}
+use Rattle.nv_rpc.specs.inside.Heads.{head_of_call}
 use Rattle.nv_rpc.proofs.CallParts.{no_call_below, no_call_above}
 use Rattle.nv_rpc.proofs.frame.head_of.Goals as goal
 

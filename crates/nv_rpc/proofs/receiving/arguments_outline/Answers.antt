@@ -1,5 +1,5 @@
 use Rattle.std.proofs.Common.{ap, sym, option_map}
-use Rattle.nv_rpc.specs.Outlines.{outline_of}
+use Rattle.nv_rpc.specs.inside.Outlines.{outline_of}
 use Rattle.nv_rpc.proofs.OtherLengths.{no_event_between, no_event_above}
 use Rattle.nv_rpc.proofs.receiving.arguments_outline.Goals as goal
 

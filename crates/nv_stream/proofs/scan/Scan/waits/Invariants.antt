@@ -1,4 +1,4 @@
-use Rattle.nv_stream.specs.Scanning.{IsPlace, left_to_do}
+use Rattle.nv_stream.specs.inside.Scanning.{IsPlace, left_to_do}
 use Rattle.nv_stream.proofs.scan.Scan.waits.Given as goal
 
 abbrev pub invariant-loop : goal.invariant-loop

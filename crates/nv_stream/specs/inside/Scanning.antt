@@ -1,4 +1,4 @@
--- A place inside a value that isn't finished yet, and what is known there (own rule).
+-- inside: a place inside a value that isn't finished yet, and what is known there (own rule).
 use Rattle.std.specs.Prelude.{ℕ, ◌+◌, ◌-◌, ◌*◌, ◌<◌, ◌≤◌, ◌≡◌, Bool, true, false, List, [], ◌∷◌, ◌++◌, length, take, drop, reverse, sum, suc}
 use Rattle.nv_msgpack.specs.Spelling.{Form, unused, alone, raw, many, width, number_in, extra, values}
 use Rattle.nv_msgpack.specs.Reading.{Reading, whole, more, flawed, items_at, value_at}
@@ -8,8 +8,9 @@ use Rattle.nv_stream.specs.declared.scan.Step.{Step}
 use Rattle.nv_stream.specs.declared.scan.Step.TheVariants.{On, Waits, Stops}
 use Rattle.nv_stream.specs.declared.scan.Scan.{Scan}
 
--- What a first byte and the length behind it tell: so many bytes in all, or so many values behind so many bytes.
--- A byte of the length that is missing counts 0 (MessagePack specification, "Overview").
+-- What a first byte and the length behind it tell: so many bytes in all, or so many values behind
+-- so many bytes. A byte of the length that is missing counts 0 (MessagePack specification,
+-- "Overview").
 abbrev pub head_of : Form → List ℕ → Head
 head_of unused rest = Unused
 head_of (alone t) rest = Bytes 1
@@ -28,16 +29,20 @@ wants_then (whole a k) next = next k
 wants_then more next = true
 wants_then (flawed x k) next = false
 
--- Whether the values that are still owed, by the innermost list or map first, want more bytes. Room is for all of them.
+-- Whether the values that are still owed, by the innermost list or map first, want more bytes. Room
+-- is for all of them.
 unfoldable pub owed_want : ℕ → List ℕ → ℕ → List ℕ → Bool
 owed_want depth [] room rest = false
 owed_want depth (n ∷ ns) room rest =
-    wants_then (items_at (value_at depth) n (room - sum ns) rest) (λ k. owed_want (suc depth) ns (room - k) (drop k rest))
+    wants_then (items_at (value_at depth) n (room - sum ns) rest)
+    (λ k. owed_want (suc depth) ns (room - k) (drop k rest))
 
--- Whatever comes behind the first bytes, up to this place: if the values owed there want more, the value at the front does.
-abbrev pub Leads : ℕ → ℕ → List ℕ → ℕ → ℕ → List ℕ → Type 0
-Leads depth most bytes at inner owed =
-    (rest : List ℕ) → owed_want inner owed (most - at) rest ≡ true → wants (value_at depth most (take at bytes ++ rest)) ≡ true
+-- Whatever comes behind the first bytes, up to this place: if the values owed there want more, the
+-- value at the front does.
+abbrev pub KeepsWanting : ℕ → ℕ → List ℕ → ℕ → ℕ → List ℕ → Type 0
+KeepsWanting depth most bytes at inner owed =
+    (rest : List ℕ) → owed_want inner owed (most - at) rest ≡ true
+    → wants (value_at depth most (take at bytes ++ rest)) ≡ true
 
 -- A scan is at a place of the bytes, inside the value that they begin.
 pub record IsPlace (depth most : ℕ) (bytes : List ℕ) (scan : Scan) : Type 0 where
@@ -45,7 +50,8 @@ pub record IsPlace (depth most : ℕ) (bytes : List ℕ) (scan : Scan) : Type 0 
   pub all : scan.owed_in_all ≡ scan.owed + sum (reverse scan.outer.items)
   pub fits : scan.at + scan.owed_in_all ≤ most
   pub deep : length scan.outer.items ≤ depth
-  pub leads : Leads depth most bytes scan.at (depth - length scan.outer.items) (scan.owed ∷ reverse scan.outer.items)
+  pub leads : KeepsWanting depth most bytes scan.at (depth - length scan.outer.items)
+      (scan.owed ∷ reverse scan.outer.items)
 
 -- A scan stands before a value.
 pub record IsFresh (scan : Scan) : Type 0 where

@@ -1,4 +1,4 @@
--- What a message is beside the values that it holds.
+-- inside: what a message is beside the values that it holds.
 use Rattle.std.specs.Prelude.{ℕ, zero, suc, Option, Some, None}
 use Rattle.nv_value.specs.Content.{Tree, Trees, no_more, one, list}
 use Rattle.nv_rpc.specs.Steps.{◌>>=◌}

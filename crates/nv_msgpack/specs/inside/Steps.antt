@@ -1,4 +1,5 @@
--- What the steps of the decoder give: the parts of a reading, at places counted from the first byte of the text.
+-- inside: what the steps of the decoder give: the parts of a reading, at places counted from the
+-- first byte of the text.
 use Rattle.std.specs.Prelude.{ℕ, ◌+◌, ◌*◌, ◌≡◌, nat_lt, if◌then◌else◌, List, length, take, drop, Result, Ok, Err}
 use Rattle.nv_msgpack.specs.declared.stop.Fault.{Fault}
 use Rattle.nv_msgpack.specs.declared.stop.Fault.TheVariants as faults
