@@ -1,8 +1,11 @@
 -- Devices in memory: the pieces that one gives, the calls of it that fail, and what it took.
 use Rattle.std.specs.Prelude.{ℕ, ◌+◌, ◌-◌, ◌^◌, min, Bool, ◌==◌, nat_lt, if◌then◌else◌, List, ◌++◌, length, take, drop, slice_index, IsTrue}
 use Rattle.std.specs.List.{list_any, list_all}
+use Rattle.nv_io.specs.declared.reading.Got.{Got}
+use Rattle.nv_io.specs.declared.reading.Got.TheVariants.{Bytes, End, Failed}
 
--- The calls of a device that fail, by their numbers from 0; how many calls were made, and how many faults there were.
+-- The calls of a device that fail, by their numbers from 0; how many calls were made, and how many
+-- faults there were.
 pub record Failing : Type 0 where
   pub fails : List ℕ
   pub calls : ℕ
@@ -24,7 +27,8 @@ after_call f = record {
   faults = if is_failing f then one_more f.faults else f.faults;
 }
 
--- Bytes given out in pieces: those that were taken, those that are left, the sizes, and the place of the next size.
+-- Bytes given out in pieces: those that were taken, those that are left, the sizes, and the place
+-- of the next size.
 pub record Cutting : Type 0 where
   pub taken : List ℕ
   pub left : List ℕ
@@ -52,12 +56,19 @@ after_piece c n = record {
   turn = next_turn (length c.cuts) c.turn;
 }
 
+-- what a read that gives this leaves
+abbrev pub after_read : Cutting → Got → Cutting
+after_read c (Bytes n) = after_piece c n
+after_read c End = c
+after_read c Failed = c
+
 -- A source in memory: its pieces, and its reads that fail.
 pub record MemReading : Type 0 where
   pub pieces : Cutting
   pub failures : Failing
 
--- A sink in memory: the bytes that it took, the most that it takes in a write, and its writes that fail.
+-- A sink in memory: the bytes that it took, the most that it takes in a write, and its writes that
+-- fail.
 pub record MemWriting : Type 0 where
   pub taken : List ℕ
   pub most : ℕ

@@ -5,7 +5,8 @@ use Rattle.std.specs.Io.KnownBytes.{append_known, prepend_known}
 use Rattle.nv_io.specs.Faults.{Rose}
 
 -- A source gave just these bytes: they came to what was taken, and were the first of what was left.
-pub record Gave (taken_before taken_after left_before left_after : Option (List ℕ)) (given : List ℕ) : Type 0 where
+pub record Gave (taken_before taken_after left_before left_after : Option (List ℕ))
+    (given : List ℕ) : Type 0 where
   pub taken : taken_after ≡ append_known taken_before given
   pub left : left_before ≡ prepend_known given left_after
 

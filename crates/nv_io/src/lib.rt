@@ -1,7 +1,7 @@
 //! The outside of the server: where bytes come from, where they go, and how a session ends.
 //!
-//! A program over these traits never sees a file or a socket. It runs over the process's own streams,
-//! or over sources and sinks in memory whose pieces and faults a test chooses.
+//! A program over these traits never sees a file or a socket. It runs over the process's own
+//! streams, or over sources and sinks in memory whose pieces and faults a test chooses.
 #![tactic(auto)]
 
 mod ending;

@@ -5,7 +5,7 @@ ghost use Rattle.std.specs.Io.KnownBytes.{append_known, prepend_known, IsAtEnd};
 ghost use Rattle.nv_io.specs.Faults.{Rose};
 ghost use Rattle.nv_io.specs.Reading.{bytes_got, IfBytes};
 ghost use Rattle.nv_io.specs.Writing.{bytes_put, IfTook};
-ghost use Rattle.nv_io.specs.Memory.{AreSizes, is_failing, after_call, piece_len};
+ghost use Rattle.nv_io.specs.Memory.{AreSizes, is_failing, after_call, piece_len, after_read};
 
 use crate::failures::Failures;
 use crate::pieces::Pieces;
@@ -38,7 +38,8 @@ impl MemSource {
     pub fn new(bytes: Vec<u8>, cuts: Vec<usize>, fails: Vec<u64>) -> MemSource
         requires some { 0 < vec_len cuts }
         requires sizes { AreSizes cuts.items }
-        ensures pieces { result.pieces ≡ record { taken = []; left = bytes.items; cuts = cuts.items; turn = 0 } }
+        ensures pieces { result.pieces
+            ≡ record { taken = []; left = bytes.items; cuts = cuts.items; turn = 0 } }
         ensures failures { result.failures ≡ record { fails = fails.items; calls = 0; faults = 0 } }
     {
         MemSource {
@@ -62,16 +63,20 @@ impl Source for MemSource {
     ) -> Got
         requires { 0 < length into.old }
         ensures count { IfBytes result (λ n. (0 < n) × (n ≤ length into.new)) }
-        ensures taken { Some self.new.pieces.taken ≡ append_known (Some self.old.pieces.taken) (bytes_got result into.new) }
-        ensures left { Some self.old.pieces.left ≡ prepend_known (bytes_got result into.new) (Some self.new.pieces.left) }
+        ensures taken { Some self.new.pieces.taken
+            ≡ append_known (Some self.old.pieces.taken) (bytes_got result into.new) }
+        ensures left { Some self.old.pieces.left
+            ≡ prepend_known (bytes_got result into.new) (Some self.new.pieces.left) }
         ensures end { result ≡ Got.End → IsAtEnd (Some self.new.pieces.left) }
         ensures later { self.old.failures.faults ≤ self.new.failures.faults }
-        ensures failed { result ≡ Got.Failed → Rose self.old.failures.faults self.new.failures.faults }
+        ensures failed { result ≡ Got.Failed
+            → Rose self.old.failures.faults self.new.failures.faults }
 
         // Just the chosen reads fail, and each piece has its size.
         ensures fails { (result ≡ Got.Failed) ↔ IsTrue (is_failing self.old.failures) }
         ensures calls { self.new.failures ≡ after_call self.old.failures }
         ensures piece { IfBytes result (λ n. n ≡ piece_len self.old.pieces (length into.old)) }
+        ensures pieces { self.new.pieces ≡ after_read self.old.pieces result }
     {
         if self.failures.call() {
             return Got::Failed;
@@ -83,8 +88,8 @@ impl Source for MemSource {
     }
 }
 
-/// A sink that keeps what it takes, at most so many bytes a write. Chosen writes fail, and so does one
-/// for which there is no memory.
+/// A sink that keeps what it takes, at most so many bytes a write. Chosen writes fail, and so does
+/// one for which there is no memory.
 #[derive(Drop)]
 pub struct MemSink {
     bytes: Vec<u8>,
@@ -107,7 +112,11 @@ impl MemSink {
     /// The numbers in `fails` are those of the writes that fail, from 0.
     pub fn new(alloc: Global, most: usize, fails: Vec<u64>) -> MemSink
         requires { 0 < most }
-        ensures { result ≡ record { taken = []; most = most; failures = record { fails = fails.items; calls = 0; faults = 0 } } }
+        ensures { result ≡ record {
+          taken = [];
+          most = most;
+          failures = record { fails = fails.items; calls = 0; faults = 0 };
+        } }
     {
         MemSink {
             bytes: Vec::new(alloc),
@@ -136,9 +145,11 @@ impl Sink for MemSink {
     ) -> Put
         requires { 0 < length piece.now }
         ensures count { IfTook result (λ n. (0 < n) × (n ≤ length piece.now)) }
-        ensures taken { Some self.new.taken ≡ append_known (Some self.old.taken) (bytes_put result piece.now) }
+        ensures taken { Some self.new.taken
+            ≡ append_known (Some self.old.taken) (bytes_put result piece.now) }
         ensures later { self.old.failures.faults ≤ self.new.failures.faults }
-        ensures failed { result ≡ Put.Failed → Rose self.old.failures.faults self.new.failures.faults }
+        ensures failed { result ≡ Put.Failed
+            → Rose self.old.failures.faults self.new.failures.faults }
 
         // The chosen writes fail, and each other takes all that it may, unless memory is wanting.
         ensures fails { IsTrue (is_failing self.old.failures) → result ≡ Put.Failed }

@@ -34,7 +34,8 @@ impl Model for Pieces {
       turn = p.turn;
     } };
 
-    ghost invariant = { λ p. (p.at ≤ vec_len p.bytes) × (p.turn < vec_len p.cuts) × AreSizes p.cuts.items };
+    ghost invariant = { λ p. (p.at ≤ vec_len p.bytes) × (p.turn < vec_len p.cuts)
+        × AreSizes p.cuts.items };
 }
 
 impl Pieces {
@@ -63,7 +64,8 @@ impl Pieces {
         requires room { 0 < length into.old }
         requires some { 0 < length self.old.left }
         ensures value { result ≡ piece_len self.old (length into.old) }
-        ensures count { (0 < result) × (result ≤ length into.new) × (result ≤ length self.old.left) }
+        ensures count { (0 < result) × (result ≤ length into.new)
+            × (result ≤ length self.old.left) }
         ensures bytes { take result into.new ≡ take result self.old.left }
         ensures after { self.new ≡ after_piece self.old result }
     {

@@ -4,7 +4,7 @@ ghost use Rattle.std.specs.declared.option.Option.{Option};
 ghost use Rattle.std.specs.Io.KnownBytes.{append_known, prepend_known, IsAtEnd};
 ghost use Rattle.nv_io.specs.Reading.{bytes_got, IfBytes};
 ghost use Rattle.nv_io.specs.Writing.{IfTook};
-ghost use Rattle.nv_io.specs.Memory.{AreSizes, piece_len};
+ghost use Rattle.nv_io.specs.Memory.{AreSizes, piece_len, after_read};
 
 use crate::pieces::Pieces;
 use crate::reading::{Got, Source};
@@ -54,13 +54,16 @@ impl Source for SureSource {
     ) -> Got
         requires { 0 < length into.old }
         ensures count { IfBytes result (λ n. (0 < n) × (n ≤ length into.new)) }
-        ensures taken { Some self.new.taken ≡ append_known (Some self.old.taken) (bytes_got result into.new) }
-        ensures left { Some self.old.left ≡ prepend_known (bytes_got result into.new) (Some self.new.left) }
+        ensures taken { Some self.new.taken
+            ≡ append_known (Some self.old.taken) (bytes_got result into.new) }
+        ensures left { Some self.old.left
+            ≡ prepend_known (bytes_got result into.new) (Some self.new.left) }
         ensures end { result ≡ Got.End → IsAtEnd (Some self.new.left) }
 
         // No read fails, and each piece has its size.
         ensures sure { result ≢ Got.Failed }
         ensures piece { IfBytes result (λ n. n ≡ piece_len self.old (length into.old)) }
+        ensures after { self.new ≡ after_read self.old result }
     {
         if self.pieces.is_empty() {
             return Got::End;

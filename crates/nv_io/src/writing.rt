@@ -18,8 +18,8 @@ pub enum Put {
     Failed,
 }
 
-/// Bytes that go out. Its meaning is the bytes that were taken, where these are told, and a count of
-/// faults, which never falls.
+/// Bytes that go out. Its meaning is the bytes that were taken, where these are told, and a count
+/// of faults, which never falls.
 pub trait Sink {
     ghost taken: { Self → Option (List ℕ) };
 
@@ -33,7 +33,8 @@ pub trait Sink {
     ) -> Put
         requires { 0 < length piece.now }
         ensures count { IfTook result (λ n. (0 < n) × (n ≤ length piece.now)) }
-        ensures taken { taken self.new ≡ append_known (taken self.old) (bytes_put result piece.now) }
+        ensures taken { taken self.new
+            ≡ append_known (taken self.old) (bytes_put result piece.now) }
         ensures later { faults self.old ≤ faults self.new }
         ensures failed { result ≡ Put.Failed → Rose (faults self.old) (faults self.new) };
 

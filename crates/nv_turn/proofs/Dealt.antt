@@ -2,9 +2,9 @@
 use Rattle.std.proofs.Common.{◌≡◌, ℕ, zero, suc, ◌+◌, ◌-◌, List, [], ◌∷◌, ◌++◌, map, refl, ap, sym, subst, ◌∙◌, arith, Option, add-one}
 use Rattle.std.specs.List.{range_with_len}
 use Rattle.nv_turn.specs.declared.view.View.{View}
-use Rattle.nv_turn.specs.Passes.{TurnId, Passed, first_pass, dealt}
-use Rattle.nv_turn.specs.Rule.{note, numbers_of, seen_of, carried}
-use Rattle.nv_turn.specs.Seats.{passed}
+use Rattle.nv_turn.specs.Passes.{TurnId, PassState, first_pass, first_passes}
+use Rattle.nv_turn.specs.inside.Rule.{note, numbers_of, first_seen, numbers_carried}
+use Rattle.nv_turn.specs.inside.Seats.{pass_of}
 
 range_more : (a n : ℕ) → range_with_len a (suc n) ≡ range_with_len a n ++ (a + n) ∷ []
 range_more a zero = ap (λ k. k ∷ []) (omega arith)
@@ -22,26 +22,26 @@ map_range_more f a n k e =
     ap (map f) more ∙ map_more f (range_with_len a n) k
 
 module _ {E D : Type 0} (turn : TurnId) (start : Option D) where
-  pub dealt_none : dealt {E = E} turn start 0 ≡ []
-  unfolding dealt
+  pub dealt_none : first_passes {E = E} turn start 0 ≡ []
+  unfolding first_passes
   dealt_none = refl
 
-  pub dealt_more : (n : ℕ) → dealt {E = E} turn start (n + 1) ≡ dealt turn start n ++ first_pass turn start (n + 1) ∷ []
-  unfolding dealt
+  pub dealt_more : (n : ℕ) → first_passes {E = E} turn start (n + 1) ≡ first_passes turn start n ++ first_pass turn start (n + 1) ∷ []
+  unfolding first_passes
   dealt_more n = map_range_more (first_pass turn start) 1 n (n + 1) (omega arith)
 
-  pub dealt_at : (k n : ℕ) → k + 1 ≡ n → dealt {E = E} turn start n ≡ dealt turn start k ++ first_pass turn start n ∷ []
-  dealt_at k n e = subst (λ m. dealt {E = E} turn start m ≡ dealt turn start k ++ first_pass turn start m ∷ []) e (dealt_more k)
+  pub dealt_at : (k n : ℕ) → k + 1 ≡ n → first_passes {E = E} turn start n ≡ first_passes turn start k ++ first_pass turn start n ∷ []
+  dealt_at k n e = subst (λ m. first_passes {E = E} turn start m ≡ first_passes turn start k ++ first_pass turn start m ∷ []) e (dealt_more k)
 
   -- one more pass
-  pub dealt_push : (xs ys : List (Passed E D)) (p : Passed E D) (k n : ℕ) → ys ≡ xs ++ p ∷ [] → xs ≡ dealt turn start k → p ≡ first_pass turn start n → k + 1 ≡ n → ys ≡ dealt turn start n
-  dealt_push xs ys p k n ys_is xs_is p_is e = ys_is ∙ (ap (λ z. z ++ p ∷ []) xs_is ∙ (ap (λ z. dealt turn start k ++ z ∷ []) p_is ∙ sym (dealt_at k n e)))
+  pub dealt_push : (xs ys : List (PassState E D)) (p : PassState E D) (k n : ℕ) → ys ≡ xs ++ p ∷ [] → xs ≡ first_passes turn start k → p ≡ first_pass turn start n → k + 1 ≡ n → ys ≡ first_passes turn start n
+  dealt_push xs ys p k n ys_is xs_is p_is e = ys_is ∙ (ap (λ z. z ++ p ∷ []) xs_is ∙ (ap (λ z. first_passes turn start k ++ z ∷ []) p_is ∙ sym (dealt_at k n e)))
 
   -- a pass that has just drawn its number
-  pub fresh_pass : (z : TurnId) (number n : ℕ) (v : View E D) → z ≡ turn → v.notes ≡ note [] (n ∷ []) ∷ [] → v.start ≡ start → n ≡ number → passed z number v ≡ first_pass turn start number
+  pub fresh_pass : (z : TurnId) (number n : ℕ) (v : View E D) → z ≡ turn → v.notes ≡ note [] (n ∷ []) ∷ [] → v.start ≡ start → n ≡ number → pass_of z number v ≡ first_pass turn start number
   fresh_pass z number n v z_is notes start_is n_is =
-      let numbers : carried v ≡ number ∷ [] = ap numbers_of notes ∙ ap (λ (k : ℕ). k ∷ []) n_is in
-      let seen : seen_of v.notes ≡ [] = ap seen_of notes in
+      let numbers : numbers_carried v ≡ number ∷ [] = ap numbers_of notes ∙ ap (λ (k : ℕ). k ∷ []) n_is in
+      let seen : first_seen v.notes ≡ [] = ap first_seen notes in
       λ i. record { turn = z_is i; number = number; numbers = numbers i; seen = seen i; start = start_is i }
 
 -- two lists that end in one element each
@@ -58,10 +58,10 @@ some_end [] x e = cc (e)
 some_end (y ∷ xs) x e = cc (e)
 
 -- the last of such passes, and those before it
-pub dealt_last : {E D : Type 0} (turn : TurnId) (start : Option D) (n : ℕ) (all rest : List (Passed E D)) (p : Passed E D)
-    → all ≡ dealt turn start n → all ≡ rest ++ p ∷ [] → (p ≡ first_pass turn start n) × (rest ≡ dealt turn start (n - 1))
+pub dealt_last : {E D : Type 0} (turn : TurnId) (start : Option D) (n : ℕ) (all rest : List (PassState E D)) (p : PassState E D)
+    → all ≡ first_passes turn start n → all ≡ rest ++ p ∷ [] → (p ≡ first_pass turn start n) × (rest ≡ first_passes turn start (n - 1))
 dealt_last turn start zero all rest p is ends = absurd (some_end rest p (sym ends ∙ (is ∙ dealt_none turn start)))
 dealt_last turn start (suc n) all rest p is ends =
-    let same = ends_same rest (dealt turn start n) p (first_pass turn start (suc n)) (sym ends ∙ (is ∙ dealt_at turn start n (suc n) (omega arith))) in
+    let same = ends_same rest (first_passes turn start n) p (first_pass turn start (suc n)) (sym ends ∙ (is ∙ dealt_at turn start n (suc n) (omega arith))) in
     let less : n ≡ suc n - 1 = omega arith in
-    (same.1, same.0 ∙ ap (dealt turn start) less)
+    (same.1, same.0 ∙ ap (first_passes turn start) less)

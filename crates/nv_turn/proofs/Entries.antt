@@ -2,7 +2,7 @@
 use Rattle.std.proofs.Common.{◌≡◌, ◌≢◌, ℕ, ◌+◌, Bool, true, false, cond, ◌==◌, ◌||◌, ◌⊎◌, inl, inr, ⊎_elim, List, [], ◌∷◌, ◌++◌, length, refl, ap, sym, ◌∙◌, arith, append-nil, length-append, eq-eqb, ne_eqb, eqb-true}
 use Rattle.std.proofs.lemmas.List.Elements.{filter-append}
 use mathlib.Core.List.{IsPrefix}
-use Rattle.nv_turn.specs.Story.{Has, own}
+use Rattle.nv_turn.specs.Story.{Has, entries_by}
 
 or_cases : (a b : Bool) → (a || b) ≡ true → (a ≡ true) ⊎ (b ≡ true)
 or_cases true b h = inl refl
@@ -42,31 +42,31 @@ none_by_length [] e = refl
 none_by_length (x ∷ xs) e = absurd (omega arith)
 
 module _ {E : Type 0} (caller : E → ℕ) where
-  pub own-append : (c : ℕ) (xs ys : List E) → own caller c (xs ++ ys) ≡ own caller c xs ++ own caller c ys
+  pub own-append : (c : ℕ) (xs ys : List E) → entries_by caller c (xs ++ ys) ≡ entries_by caller c xs ++ entries_by caller c ys
   own-append c xs ys = filter-append (λ e. caller e == c) xs ys
 
-  own_other : (c : ℕ) (e : E) → caller e ≢ c → own caller c (e ∷ []) ≡ []
+  own_other : (c : ℕ) (e : E) → caller e ≢ c → entries_by caller c (e ∷ []) ≡ []
   own_other c e ne = ap (λ b. cond b (e ∷ []) []) (ne_eqb (caller e) c ne)
 
-  own_one : (c : ℕ) (e : E) → caller e ≡ c → own caller c (e ∷ []) ≡ e ∷ []
+  own_one : (c : ℕ) (e : E) → caller e ≡ c → entries_by caller c (e ∷ []) ≡ e ∷ []
   own_one c e same = ap (λ b. cond b (e ∷ []) []) (eq-eqb (caller e) c same)
 
   -- an entry of another caller
-  pub own_beside : (c : ℕ) (story : List E) (e : E) → caller e ≢ c → own caller c (story ++ e ∷ []) ≡ own caller c story
+  pub own_beside : (c : ℕ) (story : List E) (e : E) → caller e ≢ c → entries_by caller c (story ++ e ∷ []) ≡ entries_by caller c story
   own_beside c story e ne =
-      own-append c story (e ∷ []) ∙ (ap (λ (z : List E). own caller c story ++ z) (own_other c e ne) ∙ append-nil (own caller c story))
+      own-append c story (e ∷ []) ∙ (ap (λ (z : List E). entries_by caller c story ++ z) (own_other c e ne) ∙ append-nil (entries_by caller c story))
 
   -- an entry of this caller
-  pub own_added : (c : ℕ) (story : List E) (e : E) → caller e ≡ c → own caller c (story ++ e ∷ []) ≡ own caller c story ++ e ∷ []
-  own_added c story e same = own-append c story (e ∷ []) ∙ ap (λ (z : List E). own caller c story ++ z) (own_one c e same)
+  pub own_added : (c : ℕ) (story : List E) (e : E) → caller e ≡ c → entries_by caller c (story ++ e ∷ []) ≡ entries_by caller c story ++ e ∷ []
+  own_added c story e same = own-append c story (e ∷ []) ∙ ap (λ (z : List E). entries_by caller c story ++ z) (own_one c e same)
 
   -- between two beginnings of a story that have the same entries of c lies none of c
-  pub own_between : (c : ℕ) (xs ys zs : List E) → IsPrefix xs ys → IsPrefix ys zs → own caller c zs ≡ own caller c xs → own caller c ys ≡ own caller c xs
+  pub own_between : (c : ℕ) (xs ys zs : List E) → IsPrefix xs ys → IsPrefix ys zs → entries_by caller c zs ≡ entries_by caller c xs → entries_by caller c ys ≡ entries_by caller c xs
   own_between c xs ys zs p q same =
-      let whole : own caller c ys ≡ own caller c xs ++ own caller c p.0 = ap (own caller c) (sym p.1) ∙ own-append c xs p.0 in
-      let more : own caller c zs ≡ own caller c ys ++ own caller c q.0 = ap (own caller c) (sym q.1) ∙ own-append c ys q.0 in
-      let a : length (own caller c ys) ≡ length (own caller c xs) + length (own caller c p.0) = ap length whole ∙ length-append (own caller c xs) (own caller c p.0) in
-      let b : length (own caller c zs) ≡ length (own caller c ys) + length (own caller c q.0) = ap length more ∙ length-append (own caller c ys) (own caller c q.0) in
-      let d : length (own caller c zs) ≡ length (own caller c xs) = ap length same in
-      let none : own caller c p.0 ≡ [] = none_by_length (own caller c p.0) (omega arith) in
-      whole ∙ (ap (λ (z : List E). own caller c xs ++ z) none ∙ append-nil (own caller c xs))
+      let whole : entries_by caller c ys ≡ entries_by caller c xs ++ entries_by caller c p.0 = ap (entries_by caller c) (sym p.1) ∙ own-append c xs p.0 in
+      let more : entries_by caller c zs ≡ entries_by caller c ys ++ entries_by caller c q.0 = ap (entries_by caller c) (sym q.1) ∙ own-append c ys q.0 in
+      let a : length (entries_by caller c ys) ≡ length (entries_by caller c xs) + length (entries_by caller c p.0) = ap length whole ∙ length-append (entries_by caller c xs) (entries_by caller c p.0) in
+      let b : length (entries_by caller c zs) ≡ length (entries_by caller c ys) + length (entries_by caller c q.0) = ap length more ∙ length-append (entries_by caller c ys) (entries_by caller c q.0) in
+      let d : length (entries_by caller c zs) ≡ length (entries_by caller c xs) = ap length same in
+      let none : entries_by caller c p.0 ≡ [] = none_by_length (entries_by caller c p.0) (omega arith) in
+      whole ∙ (ap (λ (z : List E). entries_by caller c xs ++ z) none ∙ append-nil (entries_by caller c xs))

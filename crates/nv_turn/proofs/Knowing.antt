@@ -2,8 +2,8 @@
 use Rattle.std.proofs.Common.{◌≡◌, ℕ, Bool, true, false, ltb, cond, ◌⊎◌, inl, inr, ⊎_elim, List, [], ◌∷◌, ◌++◌, length, refl, sym, subst, ◌∙◌, append-nil}
 use mathlib.Core.List.{IsPrefix}
 use Rattle.nv_turn.specs.declared.view.Note.{Note}
-use Rattle.nv_turn.specs.Story.{Has, own}
-use Rattle.nv_turn.specs.Rule.{note, numbers_of, In, EachKnows}
+use Rattle.nv_turn.specs.Story.{Has, entries_by}
+use Rattle.nv_turn.specs.inside.Rule.{note, numbers_of, IsAmong, EachKnows}
 use Rattle.nv_turn.proofs.Prefixes.{prefix_self, prefix_trans}
 use Rattle.nv_turn.proofs.Entries.{has_cases, has_left, has_right}
 
@@ -14,16 +14,16 @@ pub to_note : (c : ℕ) (numbers : List ℕ) → Has c numbers → Has c (number
 to_note c numbers = subst (Has c) (sym (append-nil numbers))
 
 module _ {E : Type 0} where
-  pub in_left : (m : Note E) (xs ys : List (Note E)) → In m xs → In m (xs ++ ys)
+  pub in_left : (m : Note E) (xs ys : List (Note E)) → IsAmong m xs → IsAmong m (xs ++ ys)
   in_left m [] ys h = absurd h
   in_left m (x ∷ xs) ys h = ⊎_elim (λ e. inl e) (λ t. inr (in_left m xs ys t)) h
 
-  pub in_right : (m : Note E) (xs ys : List (Note E)) → In m ys → In m (xs ++ ys)
+  pub in_right : (m : Note E) (xs ys : List (Note E)) → IsAmong m ys → IsAmong m (xs ++ ys)
   in_right m [] ys h = h
   in_right m (x ∷ xs) ys h = inr (in_right m xs ys h)
 
   -- what one of the notes has, all have together
-  pub in_numbers : (c : ℕ) (m : Note E) (notes : List (Note E)) → In m notes → Has c m.numbers → Has c (numbers_of notes)
+  pub in_numbers : (c : ℕ) (m : Note E) (notes : List (Note E)) → IsAmong m notes → Has c m.numbers → Has c (numbers_of notes)
   in_numbers c m [] h has = absurd h
   in_numbers c m (n ∷ notes) h has =
       ⊎_elim (λ e. has_left c n.numbers _ (subst (λ (z : Note E). Has c z.numbers) e has)) (λ t. has_right c n.numbers _ (in_numbers c m notes t has)) h
@@ -52,7 +52,7 @@ module _ {E : Type 0} (caller : E → ℕ) where
   knows_both story (x ∷ xs) ys k l = (k.0, knows_both story xs ys k.1 l)
 
   -- the story goes on, by entries of other callers
-  pub knows_on : (story later : List E) (notes : List (Note E)) → IsPrefix story later → ((c : ℕ) → Has c (numbers_of notes) → own caller c later ≡ own caller c story)
+  pub knows_on : (story later : List E) (notes : List (Note E)) → IsPrefix story later → ((c : ℕ) → Has c (numbers_of notes) → entries_by caller c later ≡ entries_by caller c story)
       → EachKnows caller story notes → EachKnows caller later notes
   knows_on story later [] p same k = tt
   knows_on story later (n ∷ notes) p same k = (

@@ -3,7 +3,7 @@ use Rattle.std.proofs.Common.{◌≡◌, ℕ, zero, suc, ◌+◌, ◌<◌, ◌�
 use mathlib.Core.Logic.{dite}
 use native.Mathlib.Decide.{ℕ_discrete}
 use Rattle.std.specs.List.{range_with_len}
-use Rattle.nv_turn.specs.Story.{Has, HasAll}
+use Rattle.nv_turn.specs.Story.{Has, HasEachUpTo}
 use Rattle.nv_turn.proofs.Entries.{has_one, has_left, has_right}
 
 pub range_join : (a m n : ℕ) → range_with_len a m ++ range_with_len (a + m) n ≡ range_with_len a (m + n)
@@ -23,5 +23,5 @@ has_range a (suc n) c le lt =
     (λ ne. has_right c (a ∷ []) (range_with_len (a + 1) n) (has_range (a + 1) n c (omega arith) (omega arith)))
 
 -- the numbers from 1 to n are all
-pub has_all : (n : ℕ) → HasAll n (range_with_len 1 n)
+pub has_all : (n : ℕ) → HasEachUpTo n (range_with_len 1 n)
 has_all n c pos le = has_range 1 n c (omega arith) (omega arith)

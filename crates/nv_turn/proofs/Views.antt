@@ -7,8 +7,8 @@ use native.Mathlib.Decide.{ℕ_discrete}
 use lib.ListN.{get_elem?}
 use Rattle.atomic_table.proofs.Lists.{at_set, set_else}
 use Rattle.nv_turn.specs.declared.view.View.{View}
-use Rattle.nv_turn.specs.Story.{Has, own}
-use Rattle.nv_turn.specs.Rule.{note, Carries, Shares, number, turn, right, NobodyHolds, SomebodyHolds, SomebodyKnows, In, Fits, Turned, Body}
+use Rattle.nv_turn.specs.Story.{Has, entries_by}
+use Rattle.nv_turn.specs.inside.Rule.{note, Carries, Shares, same_number, both_hold, both_draw, NobodyHolds, SomebodyHolds, SomebodyKnows, IsAmong, FitsRule, IsFreeOrHeld, RuleHolds}
 
 module _ {A : Type 0} where
   pub at_same : (l : List A) (i : ℕ) (a b : A) → get_elem? l i ≡ some a → get_elem? (set l i b) i ≡ some b
@@ -24,15 +24,15 @@ not_both b t f = cc (t, f)
 
 module _ {E D : Type 0} where
   pub shares_sym : (v w : View E D) → Shares v w → Shares w v
-  shares_sym v w (number c a b) = number c b a
-  shares_sym v w (turn a b) = turn b a
-  shares_sym v w (right a b) = right b a
+  shares_sym v w (same_number c a b) = same_number c b a
+  shares_sym v w (both_hold a b) = both_hold b a
+  shares_sym v w (both_draw a b) = both_draw b a
 
   -- what w has is what v has
   pub shares_on : (v w x : View E D) → ((c : ℕ) → Carries w c → Carries v c) → (w.holds ≡ true → v.holds ≡ true) → (0 < w.due → 0 < v.due) → Shares w x → Shares v x
-  shares_on v w x f g h (number c a b) = number c (f c a) b
-  shares_on v w x f g h (turn a b) = turn (g a) b
-  shares_on v w x f g h (right a b) = right (h a) b
+  shares_on v w x f g h (same_number c a b) = same_number c (f c a) b
+  shares_on v w x f g h (both_hold a b) = both_hold (g a) b
+  shares_on v w x f g h (both_draw a b) = both_draw (h a) b
 
   pub nobody_on : (views : List (View E D)) (id : ℕ) (w : View E D) → NobodyHolds views → w.holds ≡ false → NobodyHolds (set views id w)
   nobody_on views id w nobody rests i x e =
@@ -50,14 +50,14 @@ module _ {E D : Type 0} where
       dite (ℕ_discrete h.0 id)
       (λ e. let is : h.1 ≡ v = some-injective h.1 v (sym h.4 ∙ (ap (λ k. get_elem? views k) e ∙ here)) in
       let notes : h.1.notes ≡ w.notes = ap (λ (z : View E D). z.notes) is ∙ sym same in
-      (id, w, h.2, h.3, at_same views id v w here, subst (λ ns. In (note story h.3) ns) notes h.5, h.6))
+      (id, w, h.2, h.3, at_same views id v w here, subst (λ ns. IsAmong (note story h.3) ns) notes h.5, h.6))
       (λ ne. (h.0, h.1, h.2, h.3, at_else views id h.0 w h.1 ne h.4, h.5, h.6))
 
   -- a view that carries a number has now seen the whole story
   pub now_knows : (story : List E) (views : List (View E D)) (id n : ℕ) (v w : View E D) (numbers : List ℕ) → get_elem? views id ≡ some v → w.notes ≡ note story numbers ∷ [] → Has n numbers
       → SomebodyKnows story (set views id w)
   now_knows story views id n v w numbers here is has =
-      (id, w, n, numbers, at_same views id v w here, subst (λ ns. In (note story numbers) ns) (sym is) (inl refl), has)
+      (id, w, n, numbers, at_same views id v w here, subst (λ ns. IsAmong (note story numbers) ns) (sym is) (inl refl), has)
 
 module _ {T E D : Type 0} (caller : E → ℕ) (stands : T → List E → Type 0) (start : T → D) (first : D) (most : ℕ) where
   Latest : List E → ℕ → List (View E D) → Type 0
@@ -65,18 +65,18 @@ module _ {T E D : Type 0} (caller : E → ℕ) (stands : T → List E → Type 0
 
   -- one view goes from v to w, and the story, the lock, the next number and the slot become others
   pub changed : (story later : List E) (lock lock' next next' : ℕ) (home home' : maybe.Option (Option T)) (views : List (View E D)) (id : ℕ) (v w : View E D)
-      → Body caller stands start first most story lock next home views → get_elem? views id ≡ some v
-      → Fits caller stands start first most later next' w
-      → ((j : ℕ) (x : View E D) → get_elem? views j ≡ some x → Fits caller stands start first most story next x → (Shares v x → ⊥)
-      → Fits caller stands start first most later next' x × (Shares w x → ⊥))
-      → Turned caller stands start first most later lock' home' (set views id w)
-      → ((c : ℕ) → (c ≡ 0) ⊎ (next' ≤ c) → own caller c later ≡ [])
+      → RuleHolds caller stands start first most story lock next home views → get_elem? views id ≡ some v
+      → FitsRule caller stands start first most later next' w
+      → ((j : ℕ) (x : View E D) → get_elem? views j ≡ some x → FitsRule caller stands start first most story next x → (Shares v x → ⊥)
+      → FitsRule caller stands start first most later next' x × (Shares w x → ⊥))
+      → IsFreeOrHeld caller stands start first most later lock' home' (set views id w)
+      → ((c : ℕ) → (c ≡ 0) ⊎ (next' ≤ c) → entries_by caller c later ≡ [])
       → (0 < next') × (next' ≤ most + 1)
       → ((next' ≡ 1) × (later ≡ [])) ⊎ SomebodyKnows later (set views id w)
-      → Body caller stands start first most later lock' next' home' (set views id w)
+      → RuleHolds caller stands start first most later lock' next' home' (set views id w)
   changed story later lock lock' next next' home home' views id v w r here fits others turned callers within latest =
-      let others' : (j : ℕ) (x : View E D) → j ≢ id → get_elem? views j ≡ some x → Fits caller stands start first most later next' x × (Shares w x → ⊥) = λ j x ne e. others j x e (r.each j x e) (λ sh. ne (sym (r.apart id j v x here e sh))) in record {
-        each = λ j x e. ⊎_elim (λ t. subst (λ z. Fits caller stands start first most later next' z) t.1 fits) (λ t. (others' j x t.0 t.1).0) (at_set views id j w x e);
+      let others' : (j : ℕ) (x : View E D) → j ≢ id → get_elem? views j ≡ some x → FitsRule caller stands start first most later next' x × (Shares w x → ⊥) = λ j x ne e. others j x e (r.each j x e) (λ sh. ne (sym (r.apart id j v x here e sh))) in record {
+        each = λ j x e. ⊎_elim (λ t. subst (λ z. FitsRule caller stands start first most later next' z) t.1 fits) (λ t. (others' j x t.0 t.1).0) (at_set views id j w x e);
         apart = λ i j x y ei ej sh. ⊎_elim
             (λ s. ⊎_elim (λ t. s.0 ∙ sym t.0) (λ t. absurd ((others' j y t.0 t.1).1 (subst (λ z. Shares z y) (sym s.1) sh))) (at_set views id j w y ej))
             (λ s. ⊎_elim (λ t. absurd ((others' i x s.0 s.1).1 (subst (λ z. Shares z x) (sym t.1) (shares_sym x y sh)))) (λ t. r.apart i j x y s.1 t.1 sh) (at_set views id j w y ej))
@@ -89,7 +89,7 @@ module _ {T E D : Type 0} (caller : E → ℕ) (stands : T → List E → Type 0
 
   -- who holds is as before
   pub turned_on : (story : List E) (lock : ℕ) (home : maybe.Option (Option T)) (views : List (View E D)) (id : ℕ) (v w : View E D) → get_elem? views id ≡ some v → w.holds ≡ v.holds
-      → Turned caller stands start first most story lock home views → Turned caller stands start first most story lock home (set views id w)
+      → IsFreeOrHeld caller stands start first most story lock home views → IsFreeOrHeld caller stands start first most story lock home (set views id w)
   turned_on story lock home views id v w here same t =
       ⊎_elim (λ free. inl (free.0, nobody_on views id w free.1 (same ∙ free.1 id v here), free.2))
       (λ held. inr (held.0, somebody_on views id v w here (λ h. same ∙ h) held.1)) t

@@ -1,6 +1,4 @@
 pub mod Story
 pub mod Passes
-pub mod Rule
-pub mod Steps
-pub mod Seats
+pub mod inside
 pub mod Lending

@@ -1,6 +1,6 @@
 // The value, while one pass holds the turn.
 ghost use Rattle.std.specs.Prelude.{◌≡◌, List, Some};
-ghost use Rattle.nv_turn.specs.Story.{Follows};
+ghost use Rattle.nv_turn.specs.Story.{AddsOneAtMost};
 ghost use Rattle.nv_turn.specs.Passes.{IsSamePass};
 
 use crate::pass::Pass;
@@ -21,14 +21,18 @@ pub struct Held<'a, T: Story> {
 
 impl<'a, T: Story> Model for Held<'a, T> {
     ghost use Rattle.std.specs.Prelude.{◌≡◌};
-    ghost use Rattle.nv_turn.specs.Passes.{Holding};
-    ghost use Rattle.nv_turn.specs.Seats.{passed, IsHolder};
+    ghost use Rattle.nv_turn.specs.Passes.{HeldState};
+    ghost use Rattle.nv_turn.specs.inside.Seats.{pass_of, IsHolder};
 
-    ghost Value = { Holding T T.Entry T.Start };
+    ghost Value = { HeldState T T.Entry T.Start };
 
-    ghost view = { λ h. record { value = h.value; pass = passed h.seat.table_id h.number h.seat.me.0 } };
+    ghost view = { λ h. record {
+      value = h.value;
+      pass = pass_of h.seat.table_id h.number h.seat.me.0;
+    } };
 
-    ghost invariant = { λ h. (h.seat.table_id ≡ h.turn.now.turn) × IsHolder h.seat.me h.number h.count };
+    ghost invariant = { λ h. (h.seat.table_id ≡ h.turn.now.turn)
+        × IsHolder h.seat.me h.number h.count };
 }
 
 impl<'a, T: Story> Held<'a, T> {
@@ -39,12 +43,17 @@ impl<'a, T: Story> Held<'a, T> {
         self.number
     }
 
-    /// Gives the turn back. The value may have gained one entry of this number, and must not have changed its start.
+    /// Gives the turn back. The value may have gained one entry of this number, and must not have
+    /// changed its start.
     pub fn leave<R>(self, _rt: &R) -> Pass<T>
         requires start { self.pass.start ≡ Some (T.start self.value) }
-        requires story { (later : List T.Entry) × Follows T.caller self.pass.number self.pass.seen later × T.stands self.value later }
+        requires story { (later : List T.Entry)
+            × AddsOneAtMost T.caller self.pass.number self.pass.seen later
+            × T.stands self.value later }
         ensures pass { IsSamePass self.entry.pass result }
-        ensures seen { (later : List T.Entry) → Follows T.caller self.entry.pass.number self.entry.pass.seen later → T.stands self.entry.value later → result.seen ≡ later }
+        ensures seen { (later : List T.Entry)
+            → AddsOneAtMost T.caller self.entry.pass.number self.entry.pass.seen later
+            → T.stands self.entry.value later → result.seen ≡ later }
     {
         let Held {
             turn,

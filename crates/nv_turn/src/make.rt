@@ -1,7 +1,7 @@
 // How a turn and its passes are made.
 ghost use Rattle.std.specs.Prelude.{◌≡◌, ℕ, ◌+◌, ◌-◌, ◌<◌, ◌≤◌, true, false, [], ◌∷◌, IfOk, IfErr, Option, Some, vec_len, vec_capacity};
-ghost use Rattle.nv_turn.specs.Passes.{TurnId, dealt, first_pass};
-ghost use Rattle.nv_turn.specs.Seats.{IsAtRest, passed};
+ghost use Rattle.nv_turn.specs.Passes.{TurnId, first_passes, first_pass};
+ghost use Rattle.nv_turn.specs.inside.Seats.{IsAtRest, pass_of};
 
 use crate::pass::Pass;
 use crate::plays::{Another, Draw};
@@ -12,10 +12,11 @@ use crate::view::View;
 use atomic_table::{Refused, Seat, Table};
 use std::alloc::{AllocError, Global};
 use std::snapshot::Snapshot;
+use std::sync::atomic::AtomicU64;
 
 impl<T: Story> Turn<T> {
-    /// Puts a value whose story is empty behind a lock, and makes passes with the numbers from 1 on. Where there is
-    /// no memory the value comes back.
+    /// Puts a value whose story is empty behind a lock, and makes passes with the numbers from 1
+    /// on. Where there is no memory the value comes back.
     pub fn make(
         alloc: Global,
         value: T,
@@ -24,7 +25,8 @@ impl<T: Story> Turn<T> {
         requires empty { T.stands value [] }
         requires passes { (0 < passes) × (passes ≤ 512) }
         ensures turn { IfOk result (λ r. r.0.passes ≡ passes) }
-        ensures passes { IfOk result (λ r. r.1.items ≡ dealt r.0.turn (Some (T.start value)) passes) }
+        ensures passes { IfOk result (λ r. r.1.items
+            ≡ first_passes r.0.turn (Some (T.start value)) passes) }
         ensures count { IfOk result (λ r. vec_len r.1 ≡ passes) }
         ensures err { IfErr result (λ e. e.0 ≡ value) }
     {
@@ -38,7 +40,11 @@ impl<T: Story> Turn<T> {
         let slots = one_slot(alloc, value)?;
         match Table::new(alloc, &[0, 0, 1], slots, &key) {
             Ok((table, seat)) => {
-                let turn = Turn { table };
+                let turn = Turn {
+                    table,
+                    for_turn: AtomicU64::new(0),
+                    for_entry: AtomicU64::new(0),
+                };
                 let dealt = turn.deal(seat, passes, room);
                 Ok((turn, dealt))
             }
@@ -56,8 +62,9 @@ impl<T: Story> Turn<T> {
         requires turn { seat.table_id ≡ self.now.turn }
         requires passes { (0 < passes) × (passes ≤ 512) × (passes ≡ self.now.passes) }
         requires room { (room.items ≡ []) × (vec_len room ≡ 0) × (vec_capacity room ≡ passes) }
-        requires seat { (seat.me.1 ≡ []) × (seat.me.0.holds ≡ false) × (seat.me.0.due ≡ 1) × (seat.me.0.notes ≡ []) }
-        ensures passes { result.items ≡ dealt self.now.turn seat.me.0.start passes }
+        requires seat { (seat.me.1 ≡ []) × (seat.me.0.holds ≡ false) × (seat.me.0.due ≡ 1)
+            × (seat.me.0.notes ≡ []) }
+        ensures passes { result.items ≡ first_passes self.now.turn seat.me.0.start passes }
         ensures count { vec_len result ≡ passes }
     {
         let shared = &self.table.shared;
@@ -107,8 +114,11 @@ fn out_of_slot<T>(mut slots: Vec<Option<T>>) -> T
 /// Takes the last of the passes that `make` gave, which has the highest number.
 pub fn take_pass<T: Story>(passes: &mut Vec<Pass<T>>) -> Pass<T>
     requires { 0 < vec_len passes.old }
-    ensures pass { (turn : TurnId) (start : Option T.Start) (n : ℕ) → passes.old.items ≡ dealt turn start n → result ≡ first_pass turn start n }
-    ensures others { (turn : TurnId) (start : Option T.Start) (n : ℕ) → passes.old.items ≡ dealt turn start n → passes.new.items ≡ dealt turn start (n - 1) }
+    ensures pass { (turn : TurnId) (start : Option T.Start) (n : ℕ)
+        → passes.old.items ≡ first_passes turn start n → result ≡ first_pass turn start n }
+    ensures others { (turn : TurnId) (start : Option T.Start) (n : ℕ)
+        → passes.old.items ≡ first_passes turn start n
+        → passes.new.items ≡ first_passes turn start (n - 1) }
     ensures count { vec_len passes.new + 1 ≡ vec_len passes.old }
 {
     let Some(pass) = passes.pop() else {

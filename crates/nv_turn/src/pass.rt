@@ -6,9 +6,11 @@ use crate::view::View;
 use atomic_table::Seat;
 use std::marker::Model;
 
-/// The right to come in at one turn, under one number. It says which beginning of the story was seen.
+/// The right to come in at one turn, under one number. It says which beginning of the story was
+/// seen.
 ///
-/// A pass may be dropped. Its turn can then never be closed, since that needs the numbers of all passes.
+/// A pass may be dropped. Its turn can then never be closed, since that needs the numbers of all
+/// passes.
 #[derive(Drop)]
 pub struct Pass<T: Story> {
     pub(crate) seat: Seat<Option<T>, View<T::Entry, T::Start>>,
@@ -17,12 +19,12 @@ pub struct Pass<T: Story> {
 }
 
 impl<T: Story> Model for Pass<T> {
-    ghost use Rattle.nv_turn.specs.Passes.{Passed};
-    ghost use Rattle.nv_turn.specs.Seats.{passed, IsAtRest};
+    ghost use Rattle.nv_turn.specs.Passes.{PassState};
+    ghost use Rattle.nv_turn.specs.inside.Seats.{pass_of, IsAtRest};
 
-    ghost Value = { Passed T.Entry T.Start };
+    ghost Value = { PassState T.Entry T.Start };
 
-    ghost view = { λ p. passed p.seat.table_id p.number p.seat.me.0 };
+    ghost view = { λ p. pass_of p.seat.table_id p.number p.seat.me.0 };
 
     ghost invariant = { λ p. IsAtRest p.seat.me p.number p.count };
 }

@@ -1,5 +1,5 @@
 // What each step on the table tells, and how views are cut and joined.
-ghost use Rattle.nv_turn.specs.Steps.{takes, looks, merges, publishes, gives_back, draws, undue, newcomer, together, spent_view};
+ghost use Rattle.nv_turn.specs.inside.Steps.{TakesTurn, LooksAtStory, MergesNotes, AddsEntry, GivesBack, DrawsNumber, undue_view, newcomer_view, joined_view, spent_view};
 
 use crate::story::Story;
 use crate::view::View;
@@ -12,7 +12,7 @@ pub struct Take<T> {
 }
 
 impl<T: Story> Play<Option<T>, View<T::Entry, T::Start>> for Take<T> {
-    ghost then = { takes T.caller T.stands T.start };
+    ghost then = { TakesTurn T.caller T.stands T.start };
 }
 
 /// A load of word 1.
@@ -21,7 +21,7 @@ pub struct Look<T> {
 }
 
 impl<T: Story> Play<Option<T>, View<T::Entry, T::Start>> for Look<T> {
-    ghost then = { looks T.caller T.stands T.start };
+    ghost then = { LooksAtStory T.caller T.stands T.start };
 }
 
 /// A load of word 0, after a join.
@@ -30,7 +30,7 @@ pub struct Merge<T> {
 }
 
 impl<T: Story> Play<Option<T>, View<T::Entry, T::Start>> for Merge<T> {
-    ghost then = { merges T.caller T.stands T.start };
+    ghost then = { MergesNotes T.caller T.stands T.start };
 }
 
 /// Word 1 plus 1, with the value in hand.
@@ -39,37 +39,37 @@ pub struct Publish<T> {
 }
 
 impl<T: Story> Play<Option<T>, View<T::Entry, T::Start>> for Publish<T> {
-    ghost then = { publishes T.caller T.stands T.start };
+    ghost then = { AddsEntry T.caller T.stands T.start };
 }
 
 /// Word 0 to 0, and the slot in.
 pub struct Give;
 
 impl<T, E, D> Play<Option<T>, View<E, D>> for Give {
-    ghost then = { gives_back };
+    ghost then = { GivesBack };
 }
 
 /// Word 2 plus 1.
 pub struct Draw;
 
 impl<T, E, D> Play<Option<T>, View<E, D>> for Draw {
-    ghost then = { draws };
+    ghost then = { DrawsNumber };
 }
 
 /// One more pass, which takes over the right to draw.
 pub struct Another;
 
 impl<E, D> Split<View<E, D>> for Another {
-    ghost left = { undue };
+    ghost left = { undue_view };
 
-    ghost right = { newcomer };
+    ghost right = { newcomer_view };
 }
 
 /// Two passes into one.
 pub struct Both;
 
 impl<E, D> Join<View<E, D>> for Both {
-    ghost both = { together };
+    ghost both = { joined_view };
 
     ghost spent = { spent_view };
 }

@@ -17,10 +17,11 @@ pub struct Ruled<T> {
 }
 
 impl<T: Story> TableRule<Option<T>, View<T::Entry, T::Start>, Key<T>> for Ruled<T> {
-    ghost use Rattle.nv_turn.specs.Rule.{Kept};
-    ghost use Rattle.nv_turn.specs.Steps.{opening_view};
+    ghost use Rattle.nv_turn.specs.inside.Rule.{KeepsRule};
+    ghost use Rattle.nv_turn.specs.inside.Steps.{opening_view};
 
-    ghost holds = { λ key. Kept T.caller T.stands T.start (T.start key.value.value) key.passes };
+    ghost holds = { λ key.
+        KeepsRule T.caller T.stands T.start (T.start key.value.value) key.passes };
 
     ghost first = { λ key. opening_view (T.start key.value.value) };
 }

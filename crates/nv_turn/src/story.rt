@@ -1,8 +1,8 @@
 // What a value behind a turn has to tell.
 ghost use Rattle.std.specs.Prelude.{◌≡◌, ℕ, List, [], ◌∷◌, ◌++◌, length};
 
-/// A value that stands for a list of entries, its story, each with the number of its caller, and that has a start
-/// which no call changes.
+/// A value that stands for a list of entries, its story, each with the number of its caller, and
+/// that has a start which no call changes.
 pub trait Story {
     type Entry;
 
@@ -21,5 +21,6 @@ pub trait Story {
         ensures { (story : List Self.Entry) → stands self.now story → result ≡ length story };
 
     // A value that was given one more entry tells which one it was.
-    ghost one_end: { (y : Self) (story : List Self.Entry) (e f : Self.Entry) → stands y (story ++ e ∷ []) → stands y (story ++ f ∷ []) → e ≡ f };
+    ghost one_end: { (y : Self) (story : List Self.Entry) (e f : Self.Entry)
+        → stands y (story ++ e ∷ []) → stands y (story ++ f ∷ []) → e ≡ f };
 }

@@ -1,7 +1,7 @@
 ghost use Rattle.std.specs.Prelude.{◌≡◌, ℕ, ◌<◌, ◌≤◌, ◌+◌, [], ◌∷◌, ◌++◌, Some, map, slice_index, vec_len, if◌then◌else◌};
 ghost use Rattle.std.specs.List.{range_with_len};
-ghost use Rattle.nv_turn.specs.Story.{own, same_end};
-ghost use Rattle.nv_turn.specs.Passes.{Gains, IsSamePass, dealt, first_pass};
+ghost use Rattle.nv_turn.specs.Story.{entries_by, same_end};
+ghost use Rattle.nv_turn.specs.Passes.{Gains, IsSamePass, first_passes, first_pass};
 ghost use Rattle.std.specs.Thread.{IsSync};
 
 use crate::{Pass, Story, Turn, take_pass};
@@ -38,7 +38,8 @@ impl Story for Tally {
 // Adds one entry where there is memory, and says whether it did.
 fn add_one<R: Wait>(rt: &R, turn: &Turn<Tally>, pass: Pass<Tally>, item: u32) -> (Pass<Tally>, bool)
     requires { pass.turn ≡ turn.now.turn }
-    ensures { Gains (λ line. line.0) pass result.0 (if result.1 then (pass.number, item) ∷ [] else []) }
+    ensures { Gains (λ line. line.0) pass result.0
+        (if result.1 then (pass.number, item) ∷ [] else []) }
 {
     let mut held = turn.enter(rt, pass);
     let number = held.number();
@@ -52,7 +53,8 @@ fn add_one<R: Wait>(rt: &R, turn: &Turn<Tally>, pass: Pass<Tally>, item: u32) ->
 // Adds entries in order, until `count` or want of memory, and says how many.
 fn add_all<R: Wait>(rt: &R, turn: &Turn<Tally>, pass: Pass<Tally>, count: u32) -> (Pass<Tally>, u32)
     requires { pass.turn ≡ turn.now.turn }
-    ensures { Gains (λ line. line.0) pass result.0 (map (λ k. (pass.number, k)) (range_with_len 0 result.1)) }
+    ensures { Gains (λ line. line.0) pass result.0
+        (map (λ k. (pass.number, k)) (range_with_len 0 result.1)) }
 {
     let mut pass = pass;
     for item in 0..count {
@@ -77,18 +79,22 @@ fn add_in_two<R: Threads + Wait + Sync>(
     requires second { (b.turn ≡ turn.now.turn) × (b.numbers ≡ b.number ∷ []) × (b.seen ≡ []) }
     ensures turn { result.0.turn ≡ turn.now.turn }
     ensures numbers { result.0.numbers ≡ a.number ∷ b.number ∷ [] }
-    ensures one { own (λ line. line.0) a.number result.0.seen ≡ map (λ k. (a.number, k)) (range_with_len 0 result.1) }
-    ensures other { own (λ line. line.0) b.number result.0.seen ≡ map (λ k. (b.number, k)) (range_with_len 0 result.2) }
+    ensures one { entries_by (λ line. line.0) a.number result.0.seen
+        ≡ map (λ k. (a.number, k)) (range_with_len 0 result.1) }
+    ensures other { entries_by (λ line. line.0) b.number result.0.seen
+        ≡ map (λ k. (b.number, k)) (range_with_len 0 result.2) }
 {
     let (one, other) = join(
         rt,
         || -> (Pass<Tally>, u32)
             requires { a.turn ≡ turn.now.turn }
-            ensures { Gains (λ line. line.0) a result.0 (map (λ k. (a.number, k)) (range_with_len 0 result.1)) }
+            ensures { Gains (λ line. line.0) a result.0
+                (map (λ k. (a.number, k)) (range_with_len 0 result.1)) }
         { add_all(rt, turn, a, count) },
         || -> (Pass<Tally>, u32)
             requires { b.turn ≡ turn.now.turn }
-            ensures { Gains (λ line. line.0) b result.0 (map (λ k. (b.number, k)) (range_with_len 0 result.1)) }
+            ensures { Gains (λ line. line.0) b result.0
+                (map (λ k. (b.number, k)) (range_with_len 0 result.1)) }
         { add_all(rt, turn, b, count) },
     );
     (turn.join(one.0, other.0), one.1, other.1)
@@ -102,11 +108,15 @@ fn add_in_four<R: Threads + Wait + Sync>(
     count: u32,
 ) -> (Tally, [u32; 4])
     requires four { turn.passes ≡ 4 }
-    requires passes { (passes.items ≡ dealt turn.turn (Some tt) 4) × (vec_len passes ≡ 4) }
-    ensures one { own (λ line. line.0) 1 result.0.lines.items ≡ map (λ k. (1, k)) (range_with_len 0 (slice_index result.1 0)) }
-    ensures two { own (λ line. line.0) 2 result.0.lines.items ≡ map (λ k. (2, k)) (range_with_len 0 (slice_index result.1 1)) }
-    ensures three { own (λ line. line.0) 3 result.0.lines.items ≡ map (λ k. (3, k)) (range_with_len 0 (slice_index result.1 2)) }
-    ensures four { own (λ line. line.0) 4 result.0.lines.items ≡ map (λ k. (4, k)) (range_with_len 0 (slice_index result.1 3)) }
+    requires passes { (passes.items ≡ first_passes turn.turn (Some tt) 4) × (vec_len passes ≡ 4) }
+    ensures one { entries_by (λ line. line.0) 1 result.0.lines.items
+        ≡ map (λ k. (1, k)) (range_with_len 0 (slice_index result.1 0)) }
+    ensures two { entries_by (λ line. line.0) 2 result.0.lines.items
+        ≡ map (λ k. (2, k)) (range_with_len 0 (slice_index result.1 1)) }
+    ensures three { entries_by (λ line. line.0) 3 result.0.lines.items
+        ≡ map (λ k. (3, k)) (range_with_len 0 (slice_index result.1 2)) }
+    ensures four { entries_by (λ line. line.0) 4 result.0.lines.items
+        ≡ map (λ k. (4, k)) (range_with_len 0 (slice_index result.1 3)) }
 {
     let d = take_pass(&mut passes);
     let c = take_pass(&mut passes);
@@ -116,18 +126,24 @@ fn add_in_four<R: Threads + Wait + Sync>(
     let ((ab, one, two), (cd, three, four)) = join(
         rt,
         || -> (Pass<Tally>, u32, u32)
-            requires { IsSync R.row × (a ≡ first_pass shared.now.turn (Some tt) 1) × (b ≡ first_pass shared.now.turn (Some tt) 2) }
+            requires { IsSync R.row × (a ≡ first_pass shared.now.turn (Some tt) 1)
+                × (b ≡ first_pass shared.now.turn (Some tt) 2) }
             ensures turn { result.0.turn ≡ shared.entry.now.turn }
             ensures numbers { result.0.numbers ≡ 1 ∷ 2 ∷ [] }
-            ensures one { own (λ line. line.0) 1 result.0.seen ≡ map (λ k. (1, k)) (range_with_len 0 result.1) }
-            ensures other { own (λ line. line.0) 2 result.0.seen ≡ map (λ k. (2, k)) (range_with_len 0 result.2) }
+            ensures one { entries_by (λ line. line.0) 1 result.0.seen
+                ≡ map (λ k. (1, k)) (range_with_len 0 result.1) }
+            ensures other { entries_by (λ line. line.0) 2 result.0.seen
+                ≡ map (λ k. (2, k)) (range_with_len 0 result.2) }
         { add_in_two(rt, shared, a, b, count) },
         || -> (Pass<Tally>, u32, u32)
-            requires { IsSync R.row × (c ≡ first_pass shared.now.turn (Some tt) 3) × (d ≡ first_pass shared.now.turn (Some tt) 4) }
+            requires { IsSync R.row × (c ≡ first_pass shared.now.turn (Some tt) 3)
+                × (d ≡ first_pass shared.now.turn (Some tt) 4) }
             ensures turn { result.0.turn ≡ shared.entry.now.turn }
             ensures numbers { result.0.numbers ≡ 3 ∷ 4 ∷ [] }
-            ensures one { own (λ line. line.0) 3 result.0.seen ≡ map (λ k. (3, k)) (range_with_len 0 result.1) }
-            ensures other { own (λ line. line.0) 4 result.0.seen ≡ map (λ k. (4, k)) (range_with_len 0 result.2) }
+            ensures one { entries_by (λ line. line.0) 3 result.0.seen
+                ≡ map (λ k. (3, k)) (range_with_len 0 result.1) }
+            ensures other { entries_by (λ line. line.0) 4 result.0.seen
+                ≡ map (λ k. (4, k)) (range_with_len 0 result.2) }
         { add_in_two(rt, shared, c, d, count) },
     );
     let last = turn.join(ab, cd);
@@ -157,7 +173,8 @@ fn four_threads_tell_one_story(rt: HostRuntime) -> Result<(), Fail> {
     Ok(())
 }
 
-// Adds an entry whenever the story has an even number of entries, or whenever it has an odd one, and waits for the other thread between.
+// Adds an entry whenever the story has an even number of entries, or whenever it has an odd one,
+// and waits for the other thread between.
 fn alternate<R: Wait>(
     rt: &R,
     turn: &Turn<Tally>,
@@ -192,7 +209,7 @@ fn alternate_in_two<R: Threads + Wait + Sync>(
     count: u32,
 ) -> Tally
     requires two { turn.passes ≡ 2 }
-    requires passes { (passes.items ≡ dealt turn.turn (Some tt) 2) × (vec_len passes ≡ 2) }
+    requires passes { (passes.items ≡ first_passes turn.turn (Some tt) 2) × (vec_len passes ≡ 2) }
 {
     let b = take_pass(&mut passes);
     let a = take_pass(&mut passes);

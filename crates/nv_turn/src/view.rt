@@ -1,4 +1,5 @@
-// What a seat at the table behind a turn knows. These types are for contracts: no value of `Note` or `View` is made.
+// What a seat at the table behind a turn knows. These types are for contracts: no value of `Note`
+// or `View` is made.
 use std::collections::LinkedList;
 
 /// A beginning of the story, and numbers of which all entries stand in it.

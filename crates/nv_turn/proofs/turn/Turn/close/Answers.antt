@@ -1,18 +1,18 @@
 use Rattle.std.proofs.Common.{◌≡◌, sym, ap, ◌∙◌, subst₂, Some}
-use Rattle.nv_turn.specs.Story.{HasAll}
+use Rattle.nv_turn.specs.Story.{HasEachUpTo}
 use Rattle.nv_turn.proofs.Closing.{closed_value}
 use Rattle.nv_turn.proofs.turn.Turn.close.Goals as goal
 
 pub unreachable-requires : goal.unreachable-requires
 unreachable-requires g c =
-    let all = subst₂ HasAll (sym (ap (λ z. z.passes) c.self.view_is)) (sym (ap (λ z. z.numbers) c.last.view_is)) c.requires.all in
+    let all = subst₂ HasEachUpTo (sym (ap (λ z. z.passes) c.self.view_is)) (sym (ap (λ z. z.numbers) c.last.view_is)) c.requires.all in
     let last = c.last.invariant in
     let y = closed_value _ _ _ _ _ _ _ _ _ _ _ c.self.invariant.2 all last.rests last.seated.one_note c.close_with-closed.ensures.values.2 c.take-slot.ensures.value in
     c.in_default.not-Some y.0 y.1
 
 pub returns-clause-seen : goal.returns-clause-seen
 returns-clause-seen g c =
-    let all = subst₂ HasAll (sym (ap (λ z. z.passes) c.self.view_is)) (sym (ap (λ z. z.numbers) c.last.view_is)) c.requires.all in
+    let all = subst₂ HasEachUpTo (sym (ap (λ z. z.passes) c.self.view_is)) (sym (ap (λ z. z.numbers) c.last.view_is)) c.requires.all in
     let last = c.last.invariant in
     let y = closed_value _ _ _ _ _ _ _ _ _ _ _ c.self.invariant.2 all last.rests last.seated.one_note c.close_with-closed.ensures.values.2 c.take-slot.ensures.value in
     let same : y.0 ≡ c.in-Some.value = cc (y.1, c.in-Some.is) in
@@ -20,7 +20,7 @@ returns-clause-seen g c =
 
 pub returns-clause-start : goal.returns-clause-start
 returns-clause-start g c =
-    let all = subst₂ HasAll (sym (ap (λ z. z.passes) c.self.view_is)) (sym (ap (λ z. z.numbers) c.last.view_is)) c.requires.all in
+    let all = subst₂ HasEachUpTo (sym (ap (λ z. z.passes) c.self.view_is)) (sym (ap (λ z. z.numbers) c.last.view_is)) c.requires.all in
     let last = c.last.invariant in
     let y = closed_value _ _ _ _ _ _ _ _ _ _ _ c.self.invariant.2 all last.rests last.seated.one_note c.close_with-closed.ensures.values.2 c.take-slot.ensures.value in
     let same : y.0 ≡ c.in-Some.value = cc (y.1, c.in-Some.is) in

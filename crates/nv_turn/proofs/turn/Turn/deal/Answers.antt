@@ -1,5 +1,5 @@
 use Rattle.std.proofs.Common.{◌≡◌, ◌+◌, ◌-◌, sym, ap, ◌∙◌, arith, rules}
-use Rattle.nv_turn.specs.Passes.{first_pass, dealt}
+use Rattle.nv_turn.specs.Passes.{first_pass, first_passes}
 use Rattle.nv_turn.proofs.Dealing.{draw_allowed, split_allowed}
 use Rattle.nv_turn.proofs.Dealt.{dealt_none, dealt_push, fresh_pass}
 use Rattle.nv_turn.proofs.turn.Turn.deal.Goals as goal
@@ -12,7 +12,7 @@ loop-number-init g c = record {
   due = c.requires.seat.2;
   notes = c.requires.seat.3;
   start = search rules;
-  made = λ n e. c.requires.room.0 ∙ (sym (dealt_none _ _) ∙ ap (dealt c.args.self.now.turn c.args.seat.me.0.start) (omega arith));
+  made = λ n e. c.requires.room.0 ∙ (sym (dealt_none _ _) ∙ ap (first_passes c.args.self.now.turn c.args.seat.me.0.start) (omega arith));
   count = omega (arith, c.requires.room.1);
   room = c.requires.room.2;
 }
