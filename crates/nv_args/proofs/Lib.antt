@@ -1,6 +1,12 @@
+pub mod ArgLemmas
 pub mod Handles
+pub mod HeldLemmas
 pub mod KeyLemmas
+pub mod KindLemmas
+pub mod NameSearch
 pub mod Pairs
+pub mod ReadLemmas
 pub mod Refusing
+pub mod Signatures
 pub mod Words
 pub mod Weights

@@ -3,7 +3,7 @@ use Rattle.std.proofs.Common.{◌≡◌, ℕ, zero, suc, ◌<◌, ◌≤◌, Lis
 use Rattle.nv_value.specs.Content.{Tree, Trees, nil, truth, integer, big, text, bin, list, pairs, ext, opaque, no_more, one, in_turn}
 use Rattle.nv_value.specs.View.{content, contents}
 use Rattle.nv_value.specs.declared.value.Value.{Value}
-use Rattle.nv_args.specs.Arguments.{string_in, paired, pairs_in, argument}
+use Rattle.nv_args.specs.Arguments.{string_in, keys_with_values, pairs_in, argument}
 use Rattle.nv_args.specs.Weight.{weight, weights}
 
 -- a string has no more bytes than its value
@@ -31,14 +31,14 @@ pub string-among : (values : List Value) (place : ℕ) (string : List ℕ) → p
 string-among values place string h e =
     omega (arith, string-light (argument (map content values) place) string (sym e), value-light values place h)
 
-paired-light : (ts : Trees) → weights (in_turn (paired ts)) ≤ weights ts
-paired-light no_more = omega arith
-paired-light (one key no_more) = omega arith
-paired-light (one key (one value ts)) = omega (arith, paired-light ts)
+keys_with_values-light : (ts : Trees) → weights (in_turn (keys_with_values ts)) ≤ weights ts
+keys_with_values-light no_more = omega arith
+keys_with_values-light (one key no_more) = omega arith
+keys_with_values-light (one key (one value ts)) = omega (arith, keys_with_values-light ts)
 
 -- the pairs of a value have no more bytes than it has
 pairs-light : (t : Tree) (ps : List (Tree × Tree)) → pairs_in t ≡ Some ps → weights (in_turn ps) ≤ weight t
-pairs-light (pairs ts) ps e = let same : paired ts ≡ ps = cc in omega (arith, ap (λ (qs : List (Tree × Tree)). weights (in_turn qs)) same, paired-light ts)
+pairs-light (pairs ts) ps e = let same : keys_with_values ts ≡ ps = cc in omega (arith, ap (λ (qs : List (Tree × Tree)). weights (in_turn qs)) same, keys_with_values-light ts)
 pairs-light (list no_more) ps e = let same : [] ≡ ps = cc in omega (arith, ap (λ (qs : List (Tree × Tree)). weights (in_turn qs)) same)
 pairs-light (list (one t ts)) ps e = cc
 pairs-light (text bytes) ps e = cc

@@ -1,20 +1,24 @@
 -- Lemmas on the words of faults.
-use Rattle.std.proofs.Common.{◌≡◌, ℕ, ℤ, pos, negsuc, suc, ◌+◌, ◌^◌, ◌<◌, ◌≤◌, List, ◌++◌, length, codes, decimal, FitsSigned, w64, sym, subst, ap, lit<, arith, length-append}
+use Rattle.std.proofs.Common.{◌≡◌, ℕ, ℤ, pos, negsuc, suc, ◌+◌, ◌^◌, ◌<◌, ◌≤◌, List, ◌++◌, length, codes, decimal, FitsSigned, w64, sym, subst, ap, ◌∙◌, lit<, arith, length-append}
 use Rattle.std.proofs.lemmas.Int.{ints}
 use Rattle.std.proofs.lemmas.Fmt.{length-decimal-le}
 use Rattle.std.specs.Fmt.{signed_decimal}
 use Rattle.nv_args.specs.declared.faults.Fail.{Fail}
-use Rattle.nv_args.specs.declared.faults.Fail.TheVariants.{Api}
+use Rattle.nv_args.specs.declared.faults.Fail.TheVariants.{Api, NoMemory}
+use Rattle.nv_value.specs.declared.fault.ApiFault.{ApiFault}
 use Rattle.nv_args.specs.Refusals.{Refuses}
+use Rattle.nv_args.specs.inside.Telling.{TellsFault}
 use Rattle.nv_args.specs.Faults.{wrong_count, wrong_type, no_buffer}
 
--- a refusal with the words that are wanted, which are short
-pub refuses_with : (fail : Fail) (kind code : ℕ) (words wanted : List ℕ) → fail ≡ Api (record { kind = kind; code = code; words = words }) → words ≡ wanted
+-- what tells a fault whose words are short refuses with it
+pub refuses_told : (fail : Fail) (kind code : ℕ) (words wanted : List ℕ)
+    → TellsFault fail (record { kind = kind; code = code; words = words }) → words ≡ wanted
     → length wanted < 2 ^ 32 → Refuses fail (record { kind = kind; code = code; words = wanted })
-refuses_with fail kind code words wanted is same short =
-    let P : Fail → Type 0 = λ f. Refuses f (record { kind = kind; code = code; words = wanted }) in
-    let Q : List ℕ → Type 0 = λ ws. length ws < 2 ^ 32 in
-    subst P (sym is) (ap (λ (ws : List ℕ). record { kind = kind; code = code; words = ws }) same, subst Q (sym same) short)
+refuses_told NoMemory kind code words wanted tells same short = tt
+refuses_told (Api fault) kind code words wanted tells same short =
+    let is : fault ≡ record { kind = kind; code = code; words = wanted } =
+    tells ∙ ap (λ (ws : List ℕ). record { kind = kind; code = code; words = ws }) same in
+    (is, subst (λ (ws : List ℕ). length ws < 2 ^ 32) (sym (ap (λ (f : ApiFault). f.words) is)) short)
 
 -- a number of 64 bits has at most 20 digits
 pub decimal-short : (n : ℕ) → n < 2 ^ 64 → length (decimal n) ≤ 20

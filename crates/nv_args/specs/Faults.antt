@@ -1,4 +1,5 @@
--- The faults of a call: kind (0 Exception, 1 Validation), number and exact words. Of those that hold for one call the least number is answered.
+-- The faults of a call: kind (0 Exception, 1 Validation), number and exact words. Of those that
+-- hold for one call the least number is answered.
 use Rattle.std.specs.Prelude.{ℕ, ℤ, List, ◌++◌, codes, decimal}
 use Rattle.std.specs.Fmt.{signed_decimal}
 use Rattle.nv_value.specs.declared.fault.ApiFault.{ApiFault}
@@ -12,7 +13,8 @@ abbrev pub wrong_count : ℕ → ℕ → ApiFault
 wrong_count expected found = record {
   kind = 1;
   code = 2;
-  words = codes "Wrong number of arguments: expecting " ++ (decimal expected ++ (codes " but got " ++ decimal found));
+  words = codes "Wrong number of arguments: expecting "
+      ++ (decimal expected ++ (codes " but got " ++ decimal found));
 }
 
 -- 3: the argument of this number, from 1, isn't of its parameter's type
@@ -20,20 +22,25 @@ abbrev pub wrong_type : ℕ → List ℕ → List ℕ → ApiFault
 wrong_type number method kind_name = record {
   kind = 1;
   code = 3;
-  words = codes "Wrong type for argument " ++ (decimal number ++ (codes " when calling " ++ (method ++ (codes ", expecting " ++ kind_name))));
+  words = codes "Wrong type for argument "
+      ++ (decimal number ++ (codes " when calling "
+      ++ (method ++ (codes ", expecting " ++ kind_name))));
 }
 
 -- 4: the handle names no buffer
 abbrev pub no_buffer : ℤ → ApiFault
-no_buffer handle = record { kind = 1; code = 4; words = codes "Invalid buffer id: " ++ signed_decimal handle }
+no_buffer handle =
+    record { kind = 1; code = 4; words = codes "Invalid buffer id: " ++ signed_decimal handle }
 
 -- 5: the handle names no window
 abbrev pub no_window : ℤ → ApiFault
-no_window handle = record { kind = 1; code = 5; words = codes "Invalid window id: " ++ signed_decimal handle }
+no_window handle =
+    record { kind = 1; code = 5; words = codes "Invalid window id: " ++ signed_decimal handle }
 
 -- 6: the handle names no tabpage
 abbrev pub no_tabpage : ℤ → ApiFault
-no_tabpage handle = record { kind = 1; code = 6; words = codes "Invalid tabpage id: " ++ signed_decimal handle }
+no_tabpage handle =
+    record { kind = 1; code = 6; words = codes "Invalid tabpage id: " ++ signed_decimal handle }
 
 -- 7: the method takes no such key; nothing stands behind the words where the key is no string
 abbrev pub invalid_key : List ℕ → ApiFault

@@ -6,3 +6,7 @@ pub mod Table
 pub mod Reading
 pub mod Maps
 pub mod Texts
+pub mod inside
+pub mod Args
+pub mod Kinds
+pub mod Methods

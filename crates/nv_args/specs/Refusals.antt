@@ -1,4 +1,5 @@
--- What a step of a call gives, beside the answer that is wanted of it. Want of memory may always come in its place.
+-- What a step of a call gives, beside the answer that is wanted of it. Want of memory may always
+-- come in its place.
 use Rattle.std.specs.Prelude.{◌≡◌, ◌^◌, ◌<◌, length, ⊤, Result, Ok, Err}
 use Rattle.nv_value.specs.declared.fault.ApiFault.{ApiFault}
 use Rattle.nv_args.specs.declared.faults.Fail.{Fail}
@@ -19,7 +20,8 @@ Meets seen (Ok a) wanted = wanted ≡ Ok (seen a)
 Meets seen (Err (Api fault)) wanted = (wanted ≡ Err fault) × CanBeTold fault
 Meets seen (Err NoMemory) wanted = ⊤
 
--- a refused step leaves what it would have changed as it was; where memory was wanting nothing is said
+-- a refused step leaves what it would have changed as it was; where memory was wanting nothing is
+-- said
 abbrev pub RefusedKeeps : {A B : Type 0} → Result A Fail → B → B → Type 0
 RefusedKeeps (Ok a) after before = ⊤
 RefusedKeeps (Err (Api fault)) after before = after ≡ before

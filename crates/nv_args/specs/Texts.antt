@@ -1,4 +1,5 @@
--- Lines as calls give them and are given them (help: api-indexing, nvim_buf_set_lines(), nvim_buf_get_text()), and numbers in the texts of commands.
+-- Lines as calls give them and are given them (help: api-indexing, nvim_buf_set_lines(),
+-- nvim_buf_get_text()), and numbers in the texts of commands.
 use Rattle.std.specs.Prelude.{ℕ, ◌+◌, ◌==◌, nat_lt, ◌&&◌, Bool, List, [], ◌∷◌, length, take, drop, slice_range, Option, Some, None, if◌then◌else◌}
 use Rattle.std.specs.List.{list_any, splice}
 use Rattle.std.specs.Str.{all_ascii_digits}
@@ -15,7 +16,8 @@ strings (line ∷ lines) = one (text line) (strings lines)
 abbrev pub has_newline : List ℕ → Bool
 has_newline = list_any (λ byte. byte == 10)
 
--- lines that are put in place of all of a text, or of a part: one empty line where none would be left, since a text is never empty
+-- lines that are put in place of all of a text, or of a part: one empty line where none would be
+-- left, since a text is never empty
 abbrev pub left_with : List (List ℕ) → List (List ℕ) → List (List ℕ)
 left_with [] new = [] ∷ []
 left_with (line ∷ lines) new = new
@@ -42,9 +44,11 @@ last_before col (line ∷ next ∷ lines) = line ∷ last_before col (next ∷ l
 
 -- the text between two places, line by line
 abbrev pub text_between : List (List ℕ) → Pos → Pos → List (List ℕ)
-text_between lines start stop = first_from start.col (last_before stop.col (slice_range lines start.row (stop.row + 1)))
+text_between lines start stop =
+    first_from start.col (last_before stop.col (slice_range lines start.row (stop.row + 1)))
 
 -- the number that 1 to 18 decimal digits write, leading zeros allowed
-abbrev pub number_in : List ℕ → Option ℕ
-number_in digits =
-    if nat_lt 0 (length digits) && (nat_lt (length digits) 19 && all_ascii_digits digits) then Some (digits_value 10 digits) else None
+abbrev pub decimal_number : List ℕ → Option ℕ
+decimal_number digits =
+    if nat_lt 0 (length digits) && (nat_lt (length digits) 19 && all_ascii_digits digits)
+    then Some (digits_value 10 digits) else None

@@ -16,6 +16,7 @@ abbrev mutual
   weights no_more = 0
   weights (one t ts) = weight t + weights ts
 
--- Values so light that a fault can tell any string in them: together their strings have fewer than 2^31 bytes (own rule; a message has far fewer).
+-- Values so light that a fault can tell any string in them: together their strings have fewer than
+-- 2^31 bytes (own rule; a message has far fewer).
 abbrev pub AreLight : Trees → Type 0
 AreLight ts = weights ts < 2 ^ 31

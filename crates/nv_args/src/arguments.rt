@@ -1,8 +1,8 @@
 //! What a value gives as an argument, by the types of the API.
 ghost use Rattle.std.specs.Prelude.{◌≡◌, pos, ℤ, map, option_map, IfOk, IfSome};
 ghost use Rattle.nv_value.specs.View.{content, pair_content};
-ghost use Rattle.nv_msgpack.specs.Handle.{handle_in};
-ghost use Rattle.nv_args.specs.Arguments.{integer_in, truth_in, string_in, lines_in, pairs_in};
+ghost use Rattle.nv_msgpack.specs.Handle.{handle_in, integer_of};
+ghost use Rattle.nv_args.specs.Arguments.{truth_in, string_in, line_list_in, pairs_in};
 
 use nv_msgpack::handle_of;
 use nv_value::{Bytes, Fields, Value};
@@ -20,7 +20,7 @@ pub fn buffer_of(value: &Value) -> Option<i64>
 
 /// An Integer argument.
 pub fn integer_of(value: &Value) -> Option<i64>
-    ensures { result ≡ integer_in (content value.now) }
+    ensures { result ≡ integer_of (content value.now) }
 {
     match value {
         Value::Int(number) => Some(*number),
@@ -51,7 +51,8 @@ pub fn string_of(value: Value) -> Option<Bytes>
 
 /// A list of lines: an Array of Strings.
 pub fn lines_of(alloc: Global, value: Value) -> Result<Option<Vec<Bytes>>, AllocError>
-    ensures { IfOk result (λ found. option_map (λ v. v.items) found ≡ lines_in (content value)) }
+    ensures { IfOk result (λ found. option_map (λ v. v.items) found
+        ≡ line_list_in (content value)) }
 {
     let Value::List(items) = value else {
         return Ok(None);
@@ -68,7 +69,8 @@ pub fn lines_of(alloc: Global, value: Value) -> Result<Option<Vec<Bytes>>, Alloc
 
 /// A Dict argument: the pairs of a map. An empty list has none.
 pub fn fields_of(alloc: Global, value: Value) -> Option<Fields>
-    ensures { option_map (λ fields. map pair_content fields.items) result ≡ pairs_in (content value) }
+    ensures { option_map (λ fields. map pair_content fields.items) result
+        ≡ pairs_in (content value) }
 {
     match value {
         Value::Pairs(fields) => Some(fields),

@@ -2,6 +2,7 @@
 ghost use Rattle.std.specs.Prelude.{◌≡◌, ◌+◌, ◌++◌, ◌^◌, ◌<◌, length, string_bytes};
 ghost use Rattle.nv_args.specs.declared.faults.Fail.TheVariants.{NoMemory};
 ghost use Rattle.nv_args.specs.Refusals.{Refuses};
+ghost use Rattle.nv_args.specs.inside.Telling.{TellsFault};
 ghost use Rattle.nv_args.specs.Faults.{unknown_method, wrong_count, wrong_type, no_buffer, invalid_key, out_of_bounds, start_after_end, newline_inside, not_modifiable, unknown_name, limit_reached};
 
 use nv_value::{ApiFault, Bytes};
@@ -24,19 +25,22 @@ impl From<AllocError> for Fail {
     }
 }
 
+// A fault with these words, whose memory it takes over.
 fn fault(kind: u8, code: u16, words: String) -> Fail
-    ensures { result ≡ Fail.Api (record { kind = kind; code = code; words = string_bytes words }) }
+    ensures { TellsFault result (record { kind = kind; code = code; words = string_bytes words }) }
 {
-    let words = Bytes::from_vec(words.into_bytes());
-    Fail::Api(ApiFault { kind, code, words })
+    match Bytes::from_vec(words.into_bytes()) {
+        Ok(words) => Fail::Api(ApiFault { kind, code, words }),
+        Err(_) => Fail::NoMemory,
+    }
 }
 
 fn fixed(alloc: Global, kind: u8, code: u16, words: &str) -> Fail
     requires { length words.now < 2 ^ 32 }
     ensures { Refuses result (record { kind = kind; code = code; words = words.now }) }
 {
-    match String::from_str(alloc, words) {
-        Ok(words) => fault(kind, code, words),
+    match Bytes::from_slice(alloc, words.as_bytes()) {
+        Ok(words) => Fail::Api(ApiFault { kind, code, words }),
         Err(_) => Fail::NoMemory,
     }
 }
@@ -49,12 +53,11 @@ fn named(alloc: Global, kind: u8, code: u16, front: &str, name: &[u8]) -> Fail
     let Ok(mut words) = Vec::from_slice(alloc, front.as_bytes()) else {
         return Fail::NoMemory;
     };
-    match words.extend_from_slice(name) {
-        Ok(()) => Fail::Api(ApiFault {
-            kind,
-            code,
-            words: Bytes::from_vec(words),
-        }),
+    if words.extend_from_slice(name).is_err() {
+        return Fail::NoMemory;
+    }
+    match Bytes::from_vec(words) {
+        Ok(words) => Fail::Api(ApiFault { kind, code, words }),
         Err(_) => Fail::NoMemory,
     }
 }

@@ -1,5 +1,5 @@
 //! The keys of a Dict argument.
-ghost use Rattle.std.specs.Prelude.{◌≡◌, ◌<◌, ◌^◌, map, length, [], IfOk};
+ghost use Rattle.std.specs.Prelude.{◌≡◌, ◌<◌, ◌^◌, map, length, [], IfOk, option_map};
 ghost use Rattle.nv_value.specs.View.{content, pair_content, pair_contents};
 ghost use Rattle.nv_args.specs.Arguments.{string_in, last_pairs, no_pairs, first_key};
 ghost use Rattle.nv_args.specs.Refusals.{Meets};
@@ -7,35 +7,42 @@ ghost use Rattle.nv_args.specs.Weight.{AreLight};
 
 use crate::arguments::string_of;
 use crate::faults::{Fail, invalid_key};
-use nv_value::{Bytes, Fields, Pair};
+use nv_value::{Fields, Pair};
 use std::alloc::{AllocError, Global};
 use std::collections::HashSet;
 
 // The name of a pair's key, where it is a string.
-fn name_of(pair: Pair) -> Option<Bytes>
-    ensures { result ≡ string_in (content pair.key) }
+fn name_of(alloc: Global, pair: Pair) -> Result<Option<Vec<u8>>, AllocError>
+    ensures { IfOk result (λ name. option_map (λ v. v.items) name ≡ string_in (content pair.key)) }
 {
-    string_of(pair.key)
+    match string_of(pair.key) {
+        Some(bytes) => {
+            let name = Vec::from_slice(alloc, bytes.as_slice())?;
+            Ok(Some(name))
+        }
+        None => Ok(None),
+    }
 }
 
 // The first key that counts, of those with one name the last; empty where it is no string.
-fn first_key(alloc: Global, mut fields: Fields) -> Result<Bytes, AllocError>
+fn first_key(alloc: Global, mut fields: Fields) -> Result<Vec<u8>, AllocError>
     requires { AreLight (pair_contents fields.items) }
-    ensures key { IfOk result (λ key. key ≡ first_key (last_pairs (map pair_content fields.items))) }
-    ensures short { IfOk result (λ key. length key < 2 ^ 31) }
+    ensures key { IfOk result (λ key. key.items ≡ first_key
+        (last_pairs (map pair_content fields.items))) }
+    ensures short { IfOk result (λ key. length key.items < 2 ^ 31) }
 {
     let mut seen = HashSet::new(alloc);
-    let mut first = Bytes::new(alloc);
+    let mut first = Vec::new(alloc);
     while let Some(pair) = fields.pop() {
-        match name_of(pair) {
+        let name = name_of(alloc, pair)?;
+        match name {
             Some(key) => {
-                let key = key.into_vec();
                 if !seen.contains(key.as_slice()) {
-                    first = Bytes::from_slice(alloc, key.as_slice())?;
+                    first = Vec::from_slice(alloc, key.as_slice())?;
                     seen.insert(key)?;
                 }
             }
-            None => first = Bytes::new(alloc),
+            None => first = Vec::new(alloc),
         }
     }
     Ok(first)

@@ -1,8 +1,9 @@
-//! Arguments and faults against tables written by hand, from Neovim's help on indices and the words of the faults.
+//! Arguments and faults against tables written by hand, from Neovim's help on indices and the words
+//! of the faults.
 
 use crate::{
     Fail, dict_argument, fields_of, invalid_key, is_outside, limit_reached, lines_argument,
-    newline_inside, no_buffer, not_modifiable, out_of_bounds, row_of, start_after_end,
+    newline_inside, no_buffer, not_modifiable, out_of_bounds, row_of_index, start_after_end,
     string_argument, text_col, text_row, unknown_method, unknown_name, wrong_count, wrong_type,
 };
 use nv_value::{Bytes, Value};
@@ -89,7 +90,7 @@ fn indices() -> &'static [(i64, usize, bool, usize)] {
 fn indices_name_rows(rt: HostRuntime) -> Result<(), Failed> {
     for (index, lines, outside, row) in indices() {
         assert_eq!(rt; is_outside(*index, *lines), *outside, "{index}");
-        assert_eq!(rt; row_of(*index, *lines), *row, "{index}");
+        assert_eq!(rt; row_of_index(*index, *lines), *row, "{index}");
     }
     Ok(())
 }

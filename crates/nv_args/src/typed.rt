@@ -1,8 +1,8 @@
-//! Arguments of a method, each by the type of its parameter. The fault of an argument names the method, the argument's
-//! number from 1, and the type.
+//! Arguments of a method, each by the type of its parameter. The fault of an argument names the
+//! method, the argument's number from 1, and the type.
 ghost use Rattle.std.specs.Prelude.{◌<◌, ◌≤◌, ◌^◌, length, map, IfOk};
 ghost use Rattle.nv_value.specs.View.{content, contents, pair_content, pair_contents};
-ghost use Rattle.nv_args.specs.Arguments.{counted, buffer_argument, integer_argument, truth_argument, string_argument, lines_argument, dict_argument};
+ghost use Rattle.nv_args.specs.Arguments.{full_arguments, buffer_argument, integer_argument, truth_argument, string_argument, lines_argument, dict_argument};
 ghost use Rattle.nv_args.specs.Refusals.{Meets};
 ghost use Rattle.nv_args.specs.Weight.{weights};
 
@@ -12,8 +12,9 @@ use nv_value::{Bytes, Fields, Items, Value};
 use std::alloc::Global;
 
 /// Refuses a call whose arguments aren't as many as its method's parameters.
-pub fn counted(alloc: Global, expected: usize, params: &[Value]) -> Result<(), Fail>
-    ensures { Meets (λ _. map content params.now) result (counted expected (map content params.now)) }
+pub fn check_count(alloc: Global, expected: usize, params: &[Value]) -> Result<(), Fail>
+    ensures { Meets (λ _. map content params.now) result
+        (full_arguments expected (map content params.now)) }
 {
     if params.len() != expected {
         return Err(wrong_count(alloc, expected, params.len()));
@@ -31,7 +32,8 @@ pub fn buffer_argument(
     requires within { place < length params.now }
     requires few { place < 255 }
     requires short { length method.now < 2 ^ 15 }
-    ensures { Meets (λ handle. handle) result (buffer_argument method.now (map content params.now) place) }
+    ensures { Meets (λ handle. handle) result
+        (buffer_argument method.now (map content params.now) place) }
 {
     match buffer_of(&params[place]) {
         Some(handle) => Ok(handle),
@@ -49,7 +51,8 @@ pub fn integer_argument(
     requires within { place < length params.now }
     requires few { place < 255 }
     requires short { length method.now < 2 ^ 15 }
-    ensures { Meets (λ number. number) result (integer_argument method.now (map content params.now) place) }
+    ensures { Meets (λ number. number) result
+        (integer_argument method.now (map content params.now) place) }
 {
     match integer_of(&params[place]) {
         Some(number) => Ok(number),
@@ -67,7 +70,8 @@ pub fn truth_argument(
     requires within { place < length params.now }
     requires few { place < 255 }
     requires short { length method.now < 2 ^ 15 }
-    ensures { Meets (λ truth. truth) result (truth_argument method.now (map content params.now) place) }
+    ensures { Meets (λ truth. truth) result
+        (truth_argument method.now (map content params.now) place) }
 {
     match truth_of(&params[place]) {
         Some(truth) => Ok(truth),
@@ -85,7 +89,8 @@ pub fn string_argument(
     requires within { place < length params.items }
     requires few { place < 255 }
     requires short { length method.now < 2 ^ 15 }
-    ensures row { Meets (λ string. string) result (string_argument method.now (map content params.items) place) }
+    ensures row { Meets (λ string. string) result
+        (string_argument method.now (map content params.items) place) }
     ensures light { IfOk result (λ string. length string ≤ weights (contents params.items)) }
 {
     let value = params.swap_remove(place);
@@ -105,7 +110,8 @@ pub fn lines_argument(
     requires within { place < length params.items }
     requires few { place < 255 }
     requires short { length method.now < 2 ^ 15 }
-    ensures { Meets (λ strings. strings.items) result (lines_argument method.now (map content params.items) place) }
+    ensures { Meets (λ strings. strings.items) result
+        (lines_argument method.now (map content params.items) place) }
 {
     let value = params.swap_remove(place);
     match lines_of(alloc, value)? {
@@ -124,8 +130,10 @@ pub fn dict_argument(
     requires within { place < length params.items }
     requires few { place < 255 }
     requires short { length method.now < 2 ^ 15 }
-    ensures row { Meets (λ fields. map pair_content fields.items) result (dict_argument method.now (map content params.items) place) }
-    ensures light { IfOk result (λ fields. weights (pair_contents fields.items) ≤ weights (contents params.items)) }
+    ensures row { Meets (λ fields. map pair_content fields.items) result
+        (dict_argument method.now (map content params.items) place) }
+    ensures light { IfOk result (λ fields. weights (pair_contents fields.items)
+        ≤ weights (contents params.items)) }
 {
     let value = params.swap_remove(place);
     match fields_of(alloc, value) {

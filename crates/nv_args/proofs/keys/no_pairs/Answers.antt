@@ -12,6 +12,6 @@ pub returns : goal.returns
 returns c =
     let pairs = map pair_content c.args.fields.items in
     let some : 0 < length c.args.fields.items = grind (arith, nat_tests) in
-    let key : c.as_slice.result.now ≡ first_key (last_pairs pairs) = c.as_slice.ensures ∙ c.in_ok-key.ensures.key in
+    let key : c.as_slice.result.now ≡ first_key (last_pairs pairs) = c.as_slice.ensures.value ∙ c.in_ok-key.ensures.key in
     meets_refused {A = Unit {0}} (λ _. []) c.invalid_key.result (invalid_key c.as_slice.result.now) _ c.invalid_key.ensures
     (refused-first pairs (omega (arith, length-map c.args.fields.items pair_content)) ∙ ap (λ (k : List ℕ). Err (invalid_key k)) (sym key))

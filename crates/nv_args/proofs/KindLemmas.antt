@@ -1,0 +1,99 @@
+-- Values by the kinds of parameters.
+use Rattle.std.proofs.Common.{◌≡◌, ℕ, zero, suc, ◌+◌, ◌<◌, Bool, true, false, cond, List, [], ◌∷◌, length, map, drop, Option, Some, None, refl, sym, ap, ◌∙◌, arith}
+use Rattle.std.proofs.lemmas.Bool.Decides.{nat_tests}
+use Rattle.std.specs.Prelude.{◌==◌, get_or, slice_get, is_some, option_map, option_and_then}
+use Rattle.nv_value.specs.Content.{Tree, Trees, list}
+use Rattle.nv_value.specs.View.{content, contents}
+use Rattle.nv_value.specs.declared.value.Value.{Value}
+use Rattle.nv_args.specs.declared.kinds.Kind.{Kind as TypeKind}
+use Rattle.nv_args.specs.Arguments.{tree_list, pairs_in}
+use Rattle.nv_args.specs.Kinds.{kind_of}
+use Rattle.nv_args.specs.Reading.{list_arg, array_in, values_passing, arg_of}
+use Rattle.nv_args.specs.inside.Held.{first_wrong}
+
+-- a list is a Dict where it is empty
+pub dict-list : (t : Tree) (values : List Value) (n : ℕ) (b : Bool) → t ≡ list (contents values)
+    → n ≡ length values → b ≡ (n == 0) → b ≡ is_some (pairs_in t)
+dict-list t [] n b is count e = e ∙ ap (λ (m : ℕ). m == 0) count ∙ ap (λ (u : Tree). is_some (pairs_in u)) (sym is)
+dict-list t (v ∷ values) n b is count e =
+    let none : (length (v ∷ values) == 0) ≡ false = grind (arith, nat_tests) in
+    e ∙ ap (λ (m : ℕ). m == 0) count ∙ none ∙ ap (λ (u : Tree). is_some (pairs_in u)) (sym is)
+
+-- the trees of values, one by one
+pub tree_list-contents : (values : List Value) → tree_list (contents values) ≡ map content values
+tree_list-contents [] = refl
+tree_list-contents (v ∷ values) = ap (λ (ts : List Tree). content v ∷ ts) (tree_list-contents values)
+
+some-list : (b : Bool) (ts : Trees) → b ≡ is_some (option_map list_arg (cond b (Some ts) None))
+some-list true ts = refl
+some-list false ts = refl
+
+-- a list whose values pass
+pub list-passing : (test : List Tree → Bool) (t : Tree) (values : List Value) (b : Bool)
+    → t ≡ list (contents values) → b ≡ test (map content values)
+    → b ≡ is_some (option_map list_arg (option_and_then (values_passing test) (array_in t)))
+list-passing test t values b is e =
+    e
+    ∙ ap test (sym (tree_list-contents values))
+    ∙ some-list (test (tree_list (contents values))) (contents values)
+    ∙ ap (λ (u : Tree). is_some (option_map list_arg (option_and_then (values_passing test) (array_in u)))) (sym is)
+
+-- the kind at a place
+pub kind-there : (kinds : List TypeKind) (place : ℕ) (d : TypeKind) → place < length kinds
+    → slice_get (map kind_of kinds) place ≡ Some (kind_of (get_or kinds place d))
+kind-there [] place d within = absurd (omega arith)
+kind-there (k ∷ kinds) zero d within = refl
+kind-there (k ∷ kinds) (suc place) d within = kind-there kinds place d (omega arith)
+
+-- the first wrong value from a place on
+wrong-step : (kinds : List TypeKind) (values : List Value) (place : ℕ) (d : TypeKind) (v : Value)
+    → place < length kinds → place < length values → v ≡ get_or values place v
+    → first_wrong (drop place (map kind_of kinds)) (drop place (map content values))
+    ≡ cond (is_some (arg_of (kind_of (get_or kinds place d)) (content v)))
+    (option_map (λ n. suc n) (first_wrong (drop (suc place) (map kind_of kinds)) (drop (suc place) (map content values))))
+    (Some 0)
+wrong-step [] values place d v a b is = absurd (omega arith)
+wrong-step (k ∷ kinds) [] place d v a b is = absurd (omega arith)
+wrong-step (k ∷ kinds) (x ∷ values) zero d v a b is =
+    ap (λ (u : Value). cond (is_some (arg_of (kind_of k) (content u)))
+    (option_map (λ n. suc n) (first_wrong (map kind_of kinds) (map content values))) (Some 0)) (sym is)
+wrong-step (k ∷ kinds) (x ∷ values) (suc place) d v a b is =
+    wrong-step kinds values place d v (omega arith) (omega arith) is
+
+-- it stands there
+pub wrong-here : (kinds : List TypeKind) (values : List Value) (place : ℕ) (d : TypeKind) (v : Value)
+    (b : Bool) (all : Option ℕ) → place < length kinds → place < length values
+    → v ≡ get_or values place v → b ≡ is_some (arg_of (kind_of (get_or kinds place d)) (content v))
+    → b ≡ false
+    → all ≡ option_map (λ n. place + n) (first_wrong (drop place (map kind_of kinds)) (drop place (map content values)))
+    → Some place ≡ all
+wrong-here kinds values place d v b all a h is test fails so_far =
+    let next = first_wrong (drop (suc place) (map kind_of kinds)) (drop (suc place) (map content values)) in
+    let here : is_some (arg_of (kind_of (get_or kinds place d)) (content v)) ≡ false = sym test ∙ fails in
+    let found : first_wrong (drop place (map kind_of kinds)) (drop place (map content values)) ≡ Some 0 =
+    wrong-step kinds values place d v a h is
+    ∙ ap (λ (t : Bool). cond t (option_map (λ n. suc n) next) (Some 0)) here in
+    let number : place ≡ place + 0 = omega arith in
+    ap Some number ∙ sym (so_far ∙ ap (option_map (λ n. place + n)) found)
+
+-- or behind it
+pub wrong-behind : (kinds : List TypeKind) (values : List Value) (place m : ℕ) (d : TypeKind) (v : Value)
+    (b : Bool) (all : Option ℕ) → place < length kinds → place < length values
+    → v ≡ get_or values place v → b ≡ is_some (arg_of (kind_of (get_or kinds place d)) (content v))
+    → b ≡ true → m ≡ suc place
+    → all ≡ option_map (λ n. place + n) (first_wrong (drop place (map kind_of kinds)) (drop place (map content values)))
+    → all ≡ option_map (λ n. m + n) (first_wrong (drop m (map kind_of kinds)) (drop m (map content values)))
+wrong-behind kinds values place m d v b all a h is test passes next_is so_far =
+    let rest : ℕ → Option ℕ = λ k. first_wrong (drop k (map kind_of kinds)) (drop k (map content values)) in
+    let here : is_some (arg_of (kind_of (get_or kinds place d)) (content v)) ≡ true = sym test ∙ passes in
+    let found : rest place ≡ option_map (λ n. suc n) (rest (suc place)) =
+    wrong-step kinds values place d v a h is
+    ∙ ap (λ (t : Bool). cond t (option_map (λ n. suc n) (rest (suc place))) (Some 0)) here in
+    so_far
+    ∙ ap (option_map (λ n. place + n)) found
+    ∙ shifted (rest (suc place))
+    ∙ ap (λ (k : ℕ). option_map (λ n. k + n) (rest k)) (sym next_is)
+  where
+    shifted : (o : Option ℕ) → option_map (λ n. place + n) (option_map (λ n. suc n) o) ≡ option_map (λ n. suc place + n) o
+    shifted None = refl
+    shifted (Some n) = let e : place + suc n ≡ suc place + n = omega arith in ap Some e

@@ -1,0 +1,4 @@
+-- What private contracts alone cite.
+pub mod Held
+pub mod Ordered
+pub mod Telling
