@@ -1,2 +1,13 @@
 pub mod FlatLengths
 pub mod Splices
+pub mod Newlines
+pub mod Ranges
+pub mod Chunks
+pub mod Neighbours
+pub mod Starts
+pub mod Parts
+pub mod InChunk
+pub mod Cuts
+pub mod Anew
+pub mod Shifts
+pub mod Tables

@@ -1,1 +1,3 @@
 pub mod Text
+pub mod Chunks
+pub mod inside

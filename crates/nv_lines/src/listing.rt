@@ -1,10 +1,13 @@
 // A list of lines, as it is handed over.
-ghost use Rattle.std.specs.Prelude.{◌≡◌, ◌^◌, ◌≤◌, ◌↔◌, [], ◌∷◌, ◌++◌, length, IsTrue, OnOk, OnErr, IfErr, IfSome, MatchOption, All, slice_get, option_copied};
+ghost use Rattle.std.specs.Prelude.{◌≡◌, ◌^◌, ◌≤◌, ◌↔◌, [], ◌∷◌, ◌++◌, length, IsTrue, IfOk, OnOk, OnErr, IfErr, IfSome, MatchOption, All, slice_get, slice_range, option_copied};
+ghost use Rattle.std.specs.List.{splice};
 ghost use Rattle.nv_places.specs.Flat.{flat, IsLine};
 
+use crate::exchange::exchange;
+use crate::gathering::add_shared;
 use crate::measuring::checked_flat_len;
 use crate::single::Line;
-use std::alloc::{AllocFailed, Global};
+use std::alloc::{AllocError, AllocFailed, Global};
 use std::marker::Model;
 
 /// A list of lines, maybe empty.
@@ -39,7 +42,7 @@ impl LineList {
     {
         // What a line keeps is known where it is looked at.
         for line in &lines {
-            let _ = line.as_slice();
+            let _ = line.len();
         }
         LineList { lines }
     }
@@ -57,8 +60,17 @@ impl LineList {
         ensures err { OnErr result (self.new ≡ self.old) }
         ensures line_returned { IfErr result (λ e. e.value ≡ line) }
     {
-        let _ = line.as_slice();
+        let _ = line.len();
         self.lines.push(line)
+    }
+
+    /// The same lines, shared: one owner more of each, and no bytes copied.
+    pub fn share(&self) -> Result<LineList, AllocError>
+        ensures { IfOk result (λ list. list ≡ self.now) }
+    {
+        let mut lines = Vec::with_capacity(*self.lines.allocator(), self.lines.len())?;
+        add_shared(&mut lines, &self.lines)?;
+        Ok(LineList::from_vec(lines))
     }
 
     /// The number of lines.
@@ -83,9 +95,37 @@ impl LineList {
         self.lines.get(place)
     }
 
-    /// The number of bytes of the flat text of these lines. `None` exactly where it is 2^64 or more.
+    /// All lines, lent.
+    pub fn as_slice(&self) -> &[Line]
+        ensures value { result.now ≡ self.now }
+        ensures lines { All IsLine result.now }
+    {
+        self.lines.as_slice()
+    }
+
+    // Puts `new` in place of the lines from `from` up to before `to`, and gives those back. Where
+    // memory is wanting nothing changes.
+    pub(crate) fn replace(
+        &mut self,
+        from: usize,
+        to: usize,
+        new: LineList,
+    ) -> Result<LineList, AllocError>
+        requires order { from ≤ to }
+        requires within { to ≤ length self.old }
+        ensures ok { OnOk result (self.new ≡ splice self.old from to new) }
+        ensures taken { IfOk result (λ taken. taken ≡ slice_range self.old from to) }
+        ensures err { OnErr result (self.new ≡ self.old) }
+    {
+        let taken = exchange(&mut self.lines, from, to, new.into_vec())?;
+        Ok(LineList::from_vec(taken))
+    }
+
+    /// The number of bytes of the flat text of these lines. `None` exactly where it is 2^64 or
+    /// more.
     pub fn flat_len(&self) -> Option<u64>
-        ensures { MatchOption result (2 ^ 64 ≤ length (flat self.now)) (λ n. n ≡ length (flat self.now)) }
+        ensures { MatchOption result (2 ^ 64 ≤ length (flat self.now))
+            (λ n. n ≡ length (flat self.now)) }
     {
         checked_flat_len(&self.lines)
     }

@@ -19,14 +19,16 @@ pub fn flat_len(lines: &[Line]) -> u64
 
 // So many bytes, and those of one more line with its end. `None` exactly where they don't fit.
 fn with_line(bytes: u64, line: &Line) -> Option<u64>
-    ensures { SomeIff result (bytes + (length line.now + 1) < 2 ^ 64) (bytes + (length line.now + 1)) }
+    ensures { SomeIff result (bytes + (length line.now + 1) < 2 ^ 64)
+        (bytes + (length line.now + 1)) }
 {
     bytes.checked_add(line.len() as u64)?.checked_add(1)
 }
 
 /// The number of bytes of the flat text of these lines. `None` exactly where it doesn't fit.
 pub fn checked_flat_len(lines: &[Line]) -> Option<u64>
-    ensures { MatchOption result (2 ^ 64 ≤ length (flat lines.now)) (λ n. n ≡ length (flat lines.now)) }
+    ensures { MatchOption result (2 ^ 64 ≤ length (flat lines.now))
+        (λ n. n ≡ length (flat lines.now)) }
 {
     let mut bytes = 0;
     for line in lines {

@@ -1,21 +1,24 @@
 // One line.
-ghost use Rattle.std.specs.Prelude.{◌≡◌, ◌≢◌, ◌↔◌, [], ◌∷◌, ◌++◌, length, vec_len, IsTrue, OnOk, OnErr, IfErr, slice_get, option_copied};
+ghost use Rattle.std.specs.Prelude.{◌≡◌, ◌↔◌, [], length, IsTrue, IfOk, slice_get, option_copied};
 ghost use Rattle.nv_places.specs.Flat.{IsLine};
 
-use std::alloc::{AllocFailed, Global};
+use memchr::memchr;
+use nv_value::Bytes;
+use std::alloc::{AllocError, Global};
 use std::marker::Model;
 
 /// Whether bytes are one line: none of them is 10.
 pub fn is_line(bytes: &[u8]) -> bool
     ensures { IsTrue result ↔ IsLine bytes.now }
 {
-    bytes.iter().all(|byte| *byte != 10)
+    memchr(10, bytes).is_none()
 }
 
-/// A line: a list of bytes, none of which is 10. They may be any others, UTF-8 or not.
+/// A line: bytes, none of which is 10. They may be any others, UTF-8 or not. They never change, and
+/// who shares them has the same memory.
 #[derive(Drop)]
 pub struct Line {
-    bytes: Vec<u8>,
+    bytes: Bytes,
 }
 
 impl Model for Line {
@@ -24,43 +27,51 @@ impl Model for Line {
 
     ghost Value = { List ℕ };
 
-    ghost view = { λ line. line.bytes.items };
+    ghost view = { λ line. line.bytes };
 
-    ghost invariant = { λ line. IsLine line.bytes.items };
+    ghost invariant = { λ line. IsLine line.bytes };
 }
 
 impl Line {
     /// A line without bytes.
-    pub fn new(alloc: Global) -> Line
-        ensures { result ≡ [] }
+    pub fn new(alloc: Global) -> Result<Line, AllocError>
+        ensures { IfOk result (λ line. line ≡ []) }
     {
-        Line {
-            bytes: Vec::new(alloc),
-        }
+        let bytes = Bytes::new(alloc)?;
+        Ok(Line { bytes })
     }
 
-    pub fn from_vec(bytes: Vec<u8>) -> Line
-        requires { IsLine bytes.items }
-        ensures { result ≡ bytes.items }
+    /// The line of bytes that are shared. They are moved, and nothing is copied.
+    pub fn from_bytes(bytes: Bytes) -> Line
+        requires { IsLine bytes }
+        ensures { result ≡ bytes }
     {
         Line { bytes }
     }
 
-    pub fn into_vec(self) -> Vec<u8>
-        ensures value { result.items ≡ self }
-        ensures line { IsLine result.items }
+    /// The line of the bytes of a vector.
+    pub fn from_vec(bytes: Vec<u8>) -> Result<Line, AllocError>
+        requires { IsLine bytes.items }
+        ensures { IfOk result (λ line. line ≡ bytes.items) }
+    {
+        let bytes = Bytes::from_vec(bytes)?;
+        Ok(Line { bytes })
+    }
+
+    /// Its bytes, moved out.
+    pub fn into_bytes(self) -> Bytes
+        ensures value { result ≡ self }
+        ensures line { IsLine result }
     {
         self.bytes
     }
 
-    /// Adds a byte at the end.
-    pub fn push(&mut self, byte: u8) -> Result<(), AllocFailed<u8>>
-        requires { byte ≢ 10 }
-        ensures ok { OnOk result (self.new ≡ self.old ++ byte ∷ []) }
-        ensures err { OnErr result (self.new ≡ self.old) }
-        ensures byte_returned { IfErr result (λ e. e.value ≡ byte) }
+    /// The same line, shared: one owner more, and no bytes copied.
+    pub fn share(&self) -> Result<Line, AllocError>
+        ensures { IfOk result (λ line. line ≡ self.now) }
     {
-        self.bytes.push(byte)
+        let bytes = self.bytes.share()?;
+        Ok(Line { bytes })
     }
 
     /// The number of bytes.
@@ -75,7 +86,7 @@ impl Line {
     pub fn is_empty(&self) -> bool
         ensures { IsTrue result ↔ (self.now ≡ []) }
     {
-        self.bytes.is_empty()
+        self.bytes.len() == 0
     }
 
     /// The byte at a place, from 0. `None` exactly at or past the end.
@@ -85,11 +96,19 @@ impl Line {
         self.bytes.get(place)
     }
 
-    /// All bytes.
+    /// All bytes, lent.
     pub fn as_slice(&self) -> &[u8]
         ensures value { result.now ≡ self.now }
         ensures line { IsLine result.now }
     {
         self.bytes.as_slice()
+    }
+
+    /// All bytes, lent as they are shared.
+    pub fn as_bytes(&self) -> &Bytes
+        ensures value { result.now ≡ self.now }
+        ensures line { IsLine result.now }
+    {
+        &self.bytes
     }
 }

@@ -1,18 +1,11 @@
-use Rattle.std.proofs.Common.{ap, arith}
-use Rattle.nv_places.specs.Flat.{row_start}
-use Rattle.nv_lines.proofs.FlatLengths.{flat_parts, rows_apart}
+use Rattle.std.proofs.Common.{arith, refl}
+use Rattle.nv_lines.proofs.FlatLengths.{rows_apart}
 use Rattle.nv_lines.proofs.whole.Lines.flat_len_between.Goals as goal
 
-pub flat_len-requires : goal.flat_len-requires
-flat_len-requires c =
-    omega (arith, c.self.invariant.0.small, flat_parts c.self.inside.lines.items _ c.args.from c.args.to c.deref.ensures.value c.requires.order)
+pub overflow_sub-result : goal.overflow_sub-result
+overflow_sub-result c =
+    omega (arith, c.offset.ensures, c.offset-2.ensures, rows_apart c.args.self.now c.args.self.now c.args.from c.args.to refl c.requires.order)
 
 pub returns : goal.returns
 returns c =
-    omega (
-      arith,
-      c.flat_len.ensures,
-      rows_apart c.self.inside.lines.items _ c.args.from c.args.to c.deref.ensures.value c.requires.order,
-      ap (λ ls. row_start ls c.args.from) c.self.view_is,
-      ap (λ ls. row_start ls c.args.to) c.self.view_is,
-    )
+    omega (arith, c.offset.ensures, c.offset-2.ensures, rows_apart c.args.self.now c.args.self.now c.args.from c.args.to refl c.requires.order)

@@ -1,65 +1,106 @@
-use Rattle.std.proofs.Common.{◌∙◌, ap, arith, length}
+use Rattle.std.proofs.Common.{◌∙◌, ap, arith, length, sym, subst, refl}
 use Rattle.std.specs.List.{splice}
-use Rattle.nv_lines.proofs.FlatLengths.{flat_halves, row_start-le, length-flat-splice}
-use Rattle.nv_lines.proofs.Splices.{All-splice, length-splice_some}
 use Rattle.nv_places.specs.Flat.{flat, IsLine}
+use Rattle.nv_lines.specs.Text.{IsText}
+use Rattle.nv_lines.specs.Chunks.{chunk_lines}
+use Rattle.nv_lines.proofs.FlatLengths.{flat_parts, length-flat-splice}
+use Rattle.nv_lines.proofs.Splices.{All-splice, length-splice_some}
+use Rattle.nv_lines.proofs.Chunks.{length-flat-le}
+use Rattle.nv_lines.proofs.Ranges.{length-splice}
 use Rattle.nv_lines.proofs.whole.Lines.replace.Goals as goal
 
-pub overflow_sub-kept : goal.overflow_sub-kept
-overflow_sub-kept c =
-    let whole = ap (λ ls. length (flat ls)) c.self.view_is in
-    omega (arith, c.flat_len_between.ensures, c.self.invariant.1, whole, row_start-le c.args.self.now c.args.to)
+pub overflow_add-rows : goal.overflow_add-rows
+overflow_add-rows c =
+    omega (
+      arith,
+      c.len.ensures.value,
+      c.self.invariant.count,
+      ap length c.self.view_is,
+      length-splice c.args.self.now c.args.new c.args.from c.args.to c.requires.order c.requires.within,
+      length-flat-le (splice c.args.self.now c.args.from c.args.to c.args.new),
+      c.requires.small,
+    )
+
+pub flat_len-added-requires : goal.flat_len-added-requires
+flat_len-added-requires c =
+    omega (
+      arith,
+      ap (λ l. length (flat l)) c.as_slice.ensures.value,
+      length-flat-splice c.args.self.now c.args.new c.args.from c.args.to,
+      c.requires.small,
+    )
 
 pub flat_len-requires : goal.flat_len-requires
 flat_len-requires c =
-    let added = ap (λ ls. length (flat ls)) (c.deref.ensures.value ∙ c.into_vec-new.ensures.value) in
-    omega (arith, c.requires.small, added, length-flat-splice c.args.self.now c.args.new c.args.from c.args.to)
-
-pub overflow_add-bytes : goal.overflow_add-bytes
-overflow_add-bytes c =
-    let whole = ap (λ ls. length (flat ls)) c.self.view_is in
-    let added = ap (λ ls. length (flat ls)) (c.deref.ensures.value ∙ c.into_vec-new.ensures.value) in
+    let all = chunk_lines c.self.inside.chunks.items in
     omega (
       arith,
-      c.flat_len_between.ensures,
+      ap (λ l. length (flat l)) (c.as_slice-2.ensures.value ∙ c.in_ok-taken.ensures.taken),
+      flat_parts all all c.args.from c.args.to refl c.requires.order,
+      c.self.invariant.text.small,
+    )
+
+pub overflow_sub-self : goal.overflow_sub-self
+overflow_sub-self c =
+    let all = chunk_lines c.self.inside.chunks.items in
+    omega (
+      arith,
       c.flat_len.ensures,
-      c.self.invariant.1,
+      ap (λ l. length (flat l)) (c.as_slice-2.ensures.value ∙ c.in_ok-taken.ensures.taken),
+      flat_parts all all c.args.from c.args.to refl c.requires.order,
+      c.self.invariant.total,
+    )
+
+pub overflow_add-self : goal.overflow_add-self
+overflow_add-self c =
+    let all = chunk_lines c.self.inside.chunks.items in
+    omega (
+      arith,
+      c.flat_len.ensures,
+      c.flat_len-added.ensures,
+      ap (λ l. length (flat l)) c.as_slice.ensures.value,
+      ap (λ l. length (flat l)) (c.as_slice-2.ensures.value ∙ c.in_ok-taken.ensures.taken),
+      flat_parts all all c.args.from c.args.to refl c.requires.order,
+      length-flat-splice all c.args.new c.args.from c.args.to,
+      ap (λ l. length (flat (splice l c.args.from c.args.to c.args.new))) c.self.view_is,
+      c.self.invariant.total,
       c.requires.small,
-      whole,
-      added,
-      flat_halves c.args.self.now c.args.to,
-      length-flat-splice c.args.self.now c.args.new c.args.from c.args.to,
     )
 
 pub invariant_of-self-2 : goal.invariant_of-self-2
 invariant_of-self-2 c =
-    let lines = c.self.inside.lines.items in
-    let new = c.into_vec-new.result.items in
-    let put = c.in_ok-put_lines.ensures.ok in
-    let whole = ap (λ ls. length (flat ls)) c.self.view_is in
-    let same = ap (λ ls. length (flat (splice ls c.args.from c.args.to c.args.new))) c.self.view_is in
-    let given = ap (λ ls. length (flat (splice lines c.args.from c.args.to ls))) c.into_vec-new.ensures.value in
-    let added = ap (λ ls. length (flat ls)) (c.deref.ensures.value ∙ c.into_vec-new.ensures.value) in
-    let old_count = ap length c.self.view_is in
-    let new_count = ap length c.into_vec-new.ensures.value in
-    rw put (
-      record {
-        some =
-            length-splice_some lines new c.args.from c.args.to c.requires.order (omega (arith, old_count, c.requires.within))
-            (omega (arith, old_count, new_count, c.requires.left));
-        each = All-splice IsLine lines new c.args.from c.args.to c.self.invariant.0.each c.into_vec-new.ensures.lines;
-        small = omega (arith, same, given, c.requires.small);
-      },
-      omega (
-        arith,
-        c.flat_len_between.ensures,
-        c.flat_len.ensures,
-        c.self.invariant.1,
-        whole,
-        same,
-        given,
-        added,
-        flat_halves c.args.self.now c.args.to,
-        length-flat-splice c.args.self.now c.args.new c.args.from c.args.to,
-      ),
-    )
+    let all = chunk_lines c.self.inside.chunks.items in
+    let put = c.in_ok-taken.ensures.ok in
+    let rows = ap length c.self.view_is in
+    record {
+      text =
+          subst IsText (sym put) (record {
+            some =
+                length-splice_some all c.args.new c.args.from c.args.to c.requires.order (omega (arith, rows, c.requires.within))
+                (omega (arith, rows, c.requires.left));
+            each = All-splice IsLine all c.args.new c.args.from c.args.to c.self.invariant.text.each c.len.ensures.lines;
+            small =
+                omega (arith, ap (λ l. length (flat (splice l c.args.from c.args.to c.args.new))) c.self.view_is, c.requires.small);
+          });
+      table = c.in_ok-taken.ensures.table;
+      count =
+          omega (
+            arith,
+            ap length put,
+            c.len.ensures.value,
+            c.self.invariant.count,
+            length-splice all c.args.new c.args.from c.args.to c.requires.order (omega (arith, rows, c.requires.within)),
+          );
+      total =
+          omega (
+            arith,
+            ap (λ l. length (flat l)) put,
+            c.flat_len.ensures,
+            c.flat_len-added.ensures,
+            ap (λ l. length (flat l)) c.as_slice.ensures.value,
+            ap (λ l. length (flat l)) (c.as_slice-2.ensures.value ∙ c.in_ok-taken.ensures.taken),
+            flat_parts all all c.args.from c.args.to refl c.requires.order,
+            length-flat-splice all c.args.new c.args.from c.args.to,
+            c.self.invariant.total,
+          );
+    }
