@@ -3,3 +3,15 @@ pub mod NameLemmas
 pub mod SoundLemmas
 pub mod BoundLemmas
 pub mod UniqueLemmas
+pub mod EachLemmas
+pub mod WordLemmas
+pub mod PlacesLemmas
+pub mod SpreadLemmas
+pub mod SpliceLemmas
+pub mod EditLemmas
+pub mod RemoveLemmas
+pub mod FindLemmas
+pub mod SwapLemmas
+pub mod PartsLemmas
+pub mod WithinLemmas
+pub mod StoredLemmas

@@ -14,7 +14,10 @@ moved_far start old new far = record far { pos = moved_place far.right start old
 -- a mark after the extent `old` from `start` on became the extent `new`
 abbrev pub moved_mark : Pos → Extent → Extent → Mark → Mark
 moved_mark start old new m =
-    record m { start = moved_place m.right start old new m.start; stop = option_map (moved_far start old new) m.stop }
+    record m {
+      start = moved_place m.right start old new m.start;
+      stop = option_map (moved_far start old new) m.stop;
+    }
 
 -- the places of a mark stay numbers of 32 bits
 abbrev pub MovesNarrowly : Pos → Extent → Extent → Mark → Type 0

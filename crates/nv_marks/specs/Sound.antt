@@ -9,7 +9,8 @@ use Rattle.nv_marks.specs.declared.extmark.Mark.{Mark}
 abbrev pub same_name : Mark → Mark → Bool
 same_name m k = m.ns == k.ns && m.id == k.id
 
--- the marks are in order, no two of one namespace and id, and none above the greatest id of its namespace
+-- the marks are in order, no two of one namespace and id, and none above the greatest id of its
+-- namespace
 pub record IsSound (marks : List Mark) (greatest : List (ℕ × ℕ)) : Type 0 where
   pub in_order : IsSorted mark_order marks
   pub distinct : IsDistinct same_name marks

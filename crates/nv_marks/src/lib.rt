@@ -1,11 +1,19 @@
-//! The ordered set of the extmarks of a buffer, which move with each splice of its text (help: api-extended-marks).
+//! The ordered set of the extmarks of a buffer, which move with each splice of its text (help:
+//! api-extended-marks).
 #![tactic(auto)]
 
+mod chunk;
 mod extmark;
 mod laws;
+mod list;
 mod mark_set;
+mod parts;
+mod record;
+mod steps;
+mod store;
 
 pub use extmark::{Far, Mark, Paint};
-pub use laws::{bound_laws, order_laws};
+pub use laws::{bound_laws, cost_laws, order_laws};
 pub use mark_set::MarkSet;
 pub use nv_places::{Extent, Pos};
+pub use steps::Steps;

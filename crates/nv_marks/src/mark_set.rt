@@ -1,23 +1,42 @@
 //! The set of marks, in order.
 
+ghost use Rattle.nv_marks.specs.Cost.{most_steps};
 ghost use Rattle.nv_marks.specs.Marks.{greatest_id, is_named, mark_at, without};
 ghost use Rattle.nv_marks.specs.Moves.{MovesNarrowly, moved_mark};
-ghost use Rattle.nv_marks.specs.Order.{IsInOrder, mark_order, starts_within};
-ghost use Rattle.nv_marks.specs.Sound.{IsSound, same_name};
+ghost use Rattle.nv_marks.specs.Order.{IsInOrder, starts_within};
+ghost use Rattle.nv_marks.specs.Sound.{IsSound};
+ghost use Rattle.nv_marks.specs.inside.Chunks.{IsSpare};
+ghost use Rattle.nv_marks.specs.inside.Records.{ForEach};
 ghost use Rattle.nv_places.specs.Places.{IsNarrow, further};
-ghost use Rattle.std.specs.List.{IsDistinct};
-ghost use Rattle.std.specs.Prelude.{◌≡◌, ◌+◌, ◌<◌, ◌≤◌, ◌++◌, ◌∷◌, ◌==◌, ℕ, [], All, IfOk, IsSorted, OnErr, OnOk, SomeIff, if◌then◌else◌, length, map, max, option_map, take, filter, vec_len, vec_capacity, position};
+ghost use Rattle.std.specs.Prelude.{◌≡◌, ◌+◌, ◌*◌, ◌<◌, ◌≤◌, ◌++◌, ◌∷◌, ◌==◌, ℕ, [], All, IfOk, IfSome, OnErr, OnOk, SomeIff, if◌then◌else◌, length, map, max, min, is_some, option_map, take, filter, vec_capacity, vec_len};
 
+use crate::chunk::Chunk;
 use crate::extmark::Mark;
+use crate::list::list;
+use crate::parts::{find_mark, put_mark, take_found};
+use crate::record::Record;
+use crate::steps::Steps;
+use crate::store::Store;
 use nv_places::{Extent, Pos};
 use std::alloc::{AllocError, Global};
 use std::collections::BTreeMap;
-use std::marker::Model;
+use std::marker::{Brand, Model};
+use std::sync::ledger::{Blank, Ledger};
 
 /// The extmarks of one buffer.
+///
+/// Their starts and ends stand in chunks, with places relative to the first of each chunk: a splice
+/// writes those in the replaced part, and of each chunk behind it one place.
 #[derive(Drop)]
 pub struct MarkSet {
-    marks: Vec<Mark>,
+    alloc: Global,
+    store: Store,
+    /// How many marks there are.
+    count: usize,
+    /// Chunks that wait to be filled.
+    spare: Vec<Chunk>,
+    /// Where records are put in order, so that a splice takes no memory.
+    scratch: Vec<Record>,
     greatest: BTreeMap<u32, u32>,
 }
 
@@ -26,11 +45,19 @@ impl Model for MarkSet {
 
     ghost Value = { Marks };
 
-    ghost use Rattle.nv_marks.specs.Sound.{IsSound};
+    ghost use Rattle.nv_marks.specs.inside.Chunks.{spread_records};
+    ghost use Rattle.nv_marks.specs.inside.Records.{marks_among};
+    ghost use Rattle.nv_marks.specs.inside.Stored.{IsEquipped, HoldsMarks};
+    ghost use Rattle.std.specs.Prelude.{vec_capacity, vec_len};
 
-    ghost view = { λ s. record { marks = s.marks.items; greatest = s.greatest.entries } };
+    ghost view = { λ s. record {
+      marks = marks_among (spread_records s.store.chunks.items);
+      greatest = s.greatest.entries;
+    } };
 
-    ghost invariant = { λ s. IsSound s.marks.items s.greatest.entries };
+    ghost invariant = { λ s. HoldsMarks s.store.chunks.items s.greatest.entries
+        × IsEquipped s.count s.store.chunks.items s.scratch.items (vec_len s.scratch)
+        (vec_capacity s.scratch) s.spare.items };
 }
 
 impl MarkSet {
@@ -39,7 +66,11 @@ impl MarkSet {
         ensures { IfOk result (λ s. s ≡ record { marks = []; greatest = [] }) }
     {
         Ok(MarkSet {
-            marks: Vec::new(alloc),
+            alloc,
+            store: Store::new(alloc),
+            count: 0,
+            spare: Vec::new(alloc),
+            scratch: Vec::new(alloc),
             greatest: BTreeMap::new(alloc),
         })
     }
@@ -49,31 +80,38 @@ impl MarkSet {
         ensures count { result ≡ length self.now.marks }
         ensures sound { IsSound self.now.marks self.now.greatest }
     {
-        self.marks.len()
+        self.count
     }
 
     /// The mark of this namespace and id.
     pub fn find(&self, ns: u32, id: u32) -> Option<Mark>
         ensures { result ≡ mark_at self.now.marks ns id }
     {
-        self.marks
-            .iter()
-            .copied()
-            .find(|mark| mark.is_named(ns, id))
+        find_mark(&self.store, ns, id)
     }
 
     /// Sets a mark, in place of the one of the same namespace and id if there is one.
     pub fn set(&mut self, mark: Mark) -> Result<(), AllocError>
-        ensures marks { OnOk result (IsInOrder (mark ∷ without mark.ns mark.id self.old.marks) self.new.marks) }
-        ensures found { OnOk result ((ns id : ℕ) → mark_at self.new.marks ns id ≡ (if is_named ns id mark then Some mark else mark_at self.old.marks ns id)) }
-        ensures greatest { OnOk result ((ns : ℕ) → greatest_id self.new.greatest ns ≡ (if ns == mark.ns then max (greatest_id self.old.greatest ns) mark.id else greatest_id self.old.greatest ns)) }
+        ensures marks { OnOk result (IsInOrder (mark
+            ∷ without mark.ns mark.id self.old.marks) self.new.marks) }
+        ensures found { OnOk result ((ns id : ℕ) → mark_at self.new.marks ns id
+            ≡ (if is_named ns id mark then Some mark else mark_at self.old.marks ns id)) }
+        ensures greatest { OnOk result
+            ((ns : ℕ) → greatest_id self.new.greatest ns
+            ≡ (if ns == mark.ns then max (greatest_id self.old.greatest ns) mark.id
+            else greatest_id self.old.greatest ns)) }
         ensures err { OnErr result (self.new ≡ self.old) }
     {
-        self.marks.reserve(1)?;
+        let found = find_mark(&self.store, mark.ns, mark.id);
+        let room = scratch_room(self.count).ok_or(AllocError)?;
+        self.scratch.reserve(room)?;
+        self.store.reserve()?;
+        stock(self.alloc, &mut self.spare)?;
         let greatest = self.greatest.get(&mark.ns).copied().unwrap_or(0);
         self.greatest.insert(mark.ns, greatest.max(mark.id))?;
-        take_out(&mut self.marks, mark.ns, mark.id);
-        put_in(&mut self.marks, mark);
+        take_found(&mut self.store, found, mark.ns, mark.id, &mut self.scratch);
+        put_mark(&mut self.store, mark, &mut self.spare, &mut self.scratch);
+        self.count = count_with(self.count, found);
         Ok(())
     }
 
@@ -83,11 +121,14 @@ impl MarkSet {
         ensures marks { self.new.marks ≡ without ns id self.old.marks }
         ensures greatest { self.new.greatest ≡ self.old.greatest }
     {
-        take_out(&mut self.marks, ns, id)
+        let found = find_mark(&self.store, ns, id)?;
+        take_found(&mut self.store, Some(found), ns, id, &mut self.scratch);
+        self.count -= 1;
+        Some(found)
     }
 
-    /// Puts the first `limit` marks that start from `from` to `to`, both included, behind what is in `into`: by place, then
-    /// left before right gravity, then namespace, then id.
+    /// Puts the first `limit` marks that start from `from` to `to`, both included, behind what is
+    /// in `into`: by place, then left before right gravity, then namespace, then id.
     pub fn range(
         &self,
         from: Pos,
@@ -95,104 +136,120 @@ impl MarkSet {
         limit: usize,
         into: &mut Vec<Mark>,
     ) -> Result<(), AllocError>
-        ensures ok { OnOk result (into.new.items ≡ into.old.items ++ take limit (filter (starts_within from to) self.now.marks)) }
+        ensures ok { OnOk result (into.new.items ≡ into.old.items
+            ++ take limit (filter (starts_within from to) self.now.marks)) }
         ensures err { OnErr result (into.new.items ≡ into.old.items) }
     {
-        let found = within(&self.marks, from, to);
-        let count = limit.min(found.len());
-        into.extend_from_slice(&found[..count])
+        let held = into.len();
+        let result = list(&self.store, from, to, held, limit, into);
+        if result.is_err() {
+            into.truncate(held);
+        }
+        result
     }
 
-    /// Moves all marks after the extent `old` from `start` on was replaced by the extent `new`. Start and end of a mark
-    /// move each by its own gravity (help: api-extended-marks).
+    /// Moves all marks after the extent `old` from `start` on was replaced by the extent `new`.
+    /// Start and end of a mark move each by its own gravity (help: api-extended-marks).
     pub fn splice(&mut self, start: Pos, old: Extent, new: Extent)
         requires old_end { IsNarrow (further start old) }
         requires new_end { IsNarrow (further start new) }
         requires moved { All (MovesNarrowly start old new) self.old.marks }
         ensures marks { IsInOrder (map (moved_mark start old new) self.old.marks) self.new.marks }
-        ensures found { (ns id : ℕ) → mark_at self.new.marks ns id ≡ option_map (moved_mark start old new) (mark_at self.old.marks ns id) }
+        ensures found { (ns id : ℕ) → mark_at self.new.marks ns id
+            ≡ option_map (moved_mark start old new) (mark_at self.old.marks ns id) }
         ensures greatest { self.new.greatest ≡ self.old.greatest }
     {
-        move_all(&mut self.marks, start, old, new);
+        self.splice_from::<Brand>(start, old, new, Blank::new(1));
     }
 
-    /// One more than the greatest id that was ever set in this namespace, from 1. `None` where that greatest one is the
-    /// greatest `u32`.
+    /// `splice`, with a count of its steps: one step puts one start, one end or one chunk's base.
+    pub fn splice_counted<L: Ledger>(
+        &mut self,
+        start: Pos,
+        old: Extent,
+        new: Extent,
+        steps: &mut Steps<L>,
+    )
+        requires old_end { IsNarrow (further start old) }
+        requires new_end { IsNarrow (further start new) }
+        requires moved { All (MovesNarrowly start old new) self.old.marks }
+        ensures marks { IsInOrder (map (moved_mark start old new) self.old.marks) self.new.marks }
+        ensures found { (ns id : ℕ) → mark_at self.new.marks ns id
+            ≡ option_map (moved_mark start old new) (mark_at self.old.marks ns id) }
+        ensures greatest { self.new.greatest ≡ self.old.greatest }
+        ensures cost { steps.new ≤ steps.old + most_steps start old self.old.marks }
+    {
+        self.store
+            .splice_counted(start, old, new, &mut self.scratch, steps);
+        self.scratch.clear();
+    }
+
+    /// `splice` with a count that nobody reads.
+    fn splice_from<L: Ledger>(&mut self, start: Pos, old: Extent, new: Extent, blank: Blank)
+        requires old_end { IsNarrow (further start old) }
+        requires new_end { IsNarrow (further start new) }
+        requires moved { All (MovesNarrowly start old new) self.old.marks }
+        requires name { blank.name ≡ L.name }
+        requires parts { blank.parts ≡ L.parts }
+        requires some { 1 ≤ blank.parts }
+        ensures marks { IsInOrder (map (moved_mark start old new) self.old.marks) self.new.marks }
+        ensures found { (ns id : ℕ) → mark_at self.new.marks ns id
+            ≡ option_map (moved_mark start old new) (mark_at self.old.marks ns id) }
+        ensures greatest { self.new.greatest ≡ self.old.greatest }
+    {
+        let mut steps = Steps::<L>::new(blank);
+        self.splice_counted(start, old, new, &mut steps);
+    }
+
+    /// One more than the greatest id that was ever set in this namespace, from 1. `None` where that
+    /// greatest one is the greatest `u32`.
     pub fn next_id(&self, ns: u32) -> Option<u32>
-        ensures { SomeIff result (greatest_id self.now.greatest ns < 4294967295) (greatest_id self.now.greatest ns + 1) }
+        ensures { SomeIff result (greatest_id self.now.greatest ns < 4294967295)
+            (greatest_id self.now.greatest ns + 1) }
     {
         self.greatest.get(&ns).copied().unwrap_or(0).checked_add(1)
     }
 }
 
-/// Where the mark of this namespace and id stands among the marks.
-fn index_of(marks: &[Mark], ns: u32, id: u32) -> Option<usize>
-    ensures { result ≡ position (is_named ns id) marks.now }
+/// Room for the records of one more mark than there are, and for those of a chunk; `None` where no
+/// number says it.
+fn scratch_room(count: usize) -> Option<usize>
+    ensures { IfSome result (λ room. room ≡ 2 * (count + 1) + 64) }
 {
-    marks.iter().position(|mark| mark.is_named(ns, id))
+    count.checked_add(1)?.checked_mul(2)?.checked_add(64)
 }
 
-/// Takes the mark of this namespace and id out of the marks.
-fn take_out(marks: &mut Vec<Mark>, ns: u32, id: u32) -> Option<Mark>
-    requires { IsDistinct same_name marks.old.items }
-    ensures taken { result ≡ mark_at marks.old.items ns id }
-    ensures rest { marks.new.items ≡ without ns id marks.old.items }
-    ensures room { vec_capacity marks.new ≡ vec_capacity marks.old }
-    ensures len { vec_len marks.new ≤ vec_len marks.old }
+/// Makes sure that there are two spare chunks.
+fn stock(alloc: Global, spare: &mut Vec<Chunk>) -> Result<(), AllocError>
+    requires { ForEach IsSpare spare.old.items }
+    ensures ok { OnOk result (1 < vec_len spare.new) }
+    ensures spares { ForEach IsSpare spare.new.items }
 {
-    let at = index_of(marks, ns, id)?;
-    Some(marks.remove(at))
+    stock_one(alloc, spare)?;
+    stock_one(alloc, spare)
 }
 
-/// Puts a mark at its place in the order, where there is room for it.
-fn put_in(marks: &mut Vec<Mark>, mark: Mark)
-    requires in_order { IsSorted mark_order marks.old.items }
-    requires room { vec_len marks.old < vec_capacity marks.old }
-    ensures { IsInOrder (mark ∷ marks.old.items) marks.new.items }
+/// Makes one more spare chunk where there are fewer than two.
+fn stock_one(alloc: Global, spare: &mut Vec<Chunk>) -> Result<(), AllocError>
+    requires { ForEach IsSpare spare.old.items }
+    ensures ok { OnOk result (min 2 (vec_len spare.old + 1) ≤ vec_len spare.new) }
+    ensures spares { ForEach IsSpare spare.new.items }
 {
-    let at = marks.partition_point(|other| other.is_before(&mark));
-    let _ = marks.insert(at, mark);
-}
-
-/// The marks that start from `from` to `to`, both included.
-fn within(marks: &[Mark], from: Pos, to: Pos) -> &[Mark]
-    requires { IsSorted mark_order marks.now }
-    ensures { result.now ≡ filter (starts_within from to) marks.now }
-{
-    let first = marks.partition_point(|mark| mark.start.is_before(from));
-    let end = marks.partition_point(|mark| !to.is_before(mark.start));
-    &marks[first..end.max(first)]
-}
-
-/// Moves the marks after the extent `old` from `start` on was replaced by the extent `new`, and keeps them in order.
-fn move_all(marks: &mut Vec<Mark>, start: Pos, old: Extent, new: Extent)
-    requires old_end { IsNarrow (further start old) }
-    requires new_end { IsNarrow (further start new) }
-    requires moved { All (MovesNarrowly start old new) marks.old.items }
-    ensures { IsInOrder (map (moved_mark start old new) marks.old.items) marks.new.items }
-{
-    let marks = marks.as_mut_slice();
-    move_each(marks, start, old, new);
-    put_in_order(marks);
-}
-
-/// Moves each mark after the extent `old` from `start` on was replaced by the extent `new`.
-fn move_each(marks: &mut [Mark], start: Pos, old: Extent, new: Extent)
-    requires old_end { IsNarrow (further start old) }
-    requires new_end { IsNarrow (further start new) }
-    requires moved { All (MovesNarrowly start old new) marks.old }
-    ensures { marks.new ≡ map (moved_mark start old new) marks.old }
-{
-    for mark in marks.iter_mut() {
-        *mark = mark.moved(start, old, new);
+    if spare.len() < 2 {
+        spare.push(Chunk::new(alloc)?)?;
     }
+    Ok(())
 }
 
-/// Brings marks into their order, without taking memory: a splice keeps the order of places, so little is to be moved.
-fn put_in_order(marks: &mut [Mark])
-    ensures { IsInOrder marks.old marks.new }
+/// How many marks there are once one was set, in the place of the one that was found.
+fn count_with(count: usize, found: Option<Mark>) -> usize
+    requires { count < 18446744073709551615 }
+    ensures { result ≡ (if is_some found then count else count + 1) }
 {
-    marks.sort_unstable_by_key(|mark| mark.order_key());
+    match found {
+        Some(_) => count,
+        None => count + 1,
+    }
 }
 
 #[cfg(test)]

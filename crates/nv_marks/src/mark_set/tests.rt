@@ -1,5 +1,5 @@
 ghost use Rattle.nv_marks.specs.Bounds.{IsBelow, IsPosBelow, IsSpliceBelow};
-ghost use Rattle.std.specs.Prelude.{◌≡◌, ◌*◌, ◌^◌, ◌<◌, ◌≤◌, All, None, OnOk};
+ghost use Rattle.std.specs.Prelude.{◌≡◌, ◌*◌, ◌^◌, ◌<◌, ◌≤◌, All, IfOk, None, OnOk};
 
 use super::*;
 use crate::extmark::{Far, Paint};
@@ -281,5 +281,67 @@ fn ranges_include_both_ends(rt: HostRuntime) -> Result<(), Fail> {
         found.as_slice(),
         [(0, 9), (1, 3), (1, 2), (1, 1)].as_slice()
     );
+    Ok(())
+}
+
+/// A thousand marks without an end and with right gravity at column 0: one in each of the rows from
+/// 0, or all in row 500.
+fn thousand(alloc: Global, all_at_once: bool) -> Result<MarkSet, AllocError>
+    ensures { IfOk result (λ set. All (IsBelow 2000) set.marks) }
+{
+    let mut set = MarkSet::new(alloc)?;
+    for i in 0..1000u32 {
+        let row = if all_at_once { 500 } else { i };
+        put(&mut set, mark(i + 1, at(row, 0), true), 2000)?;
+    }
+    Ok(set)
+}
+
+/// Whether the marks listed are the thousand in the order of their ids, each one row further.
+fn are_further(listed: &[(u32, u32, u32)], all_at_once: bool) -> bool {
+    let mut id = 0u32;
+    for found in listed {
+        let row = if all_at_once { 501 } else { id.wrapping_add(1) };
+        id = id.wrapping_add(1);
+        if *found != (id, row, 0) {
+            return false;
+        }
+    }
+    id == 1000
+}
+
+#[test]
+fn thousand_marks_move(rt: HostRuntime) -> Result<(), Fail> {
+    // One line put before all of them, and then where all of them stand.
+    for (all_at_once, row) in [(false, 0), (true, 500)] {
+        let alloc = rt.alloc();
+        let mut set = thousand(alloc, all_at_once)?;
+        shift(&mut set, at(row, 0), by(0, 0), by(1, 0), 2000);
+        let found = listed(alloc, &set)?;
+        assert_eq!(rt; are_further(&found, all_at_once), true, "{row}");
+    }
+    Ok(())
+}
+
+#[test]
+fn marks_come_and_go(rt: HostRuntime) -> Result<(), Fail> {
+    // A thousand marks set, every second one set anew in the last row, and then all but three taken
+    // out.
+    let alloc = rt.alloc();
+    let mut set = thousand(alloc, false)?;
+    for i in 0..500u32 {
+        set.set(mark(2 * i + 1, at(999, i), false))?;
+    }
+    assert_eq!(rt; set.len(), 1000);
+    assert_eq!(rt; set.find(1, 999), Some(mark(999, at(999, 499), false)));
+    assert_eq!(rt; set.find(1, 998), Some(mark(998, at(997, 0), true)));
+    for id in 4..1001u32 {
+        let _ = set.remove(1, id);
+    }
+    assert_eq!(rt;
+        listed(alloc, &set)?.as_slice(),
+        [(2, 1, 0), (1, 999, 0), (3, 999, 1)].as_slice()
+    );
+    assert_eq!(rt; (set.len(), set.next_id(1)), (3, Some(1001)));
     Ok(())
 }

@@ -1,9 +1,10 @@
-use Rattle.std.proofs.Common.{sym, subst, List}
-use Rattle.nv_marks.specs.Sound.{IsSound}
-use Rattle.nv_marks.specs.declared.extmark.Mark.{Mark}
-use Rattle.nv_marks.proofs.SoundLemmas.{sound_none}
+use Rattle.std.specs.Prelude.{vec_len, vec_capacity}
+use Rattle.nv_marks.proofs.StoredLemmas.{stored_new, ready_new}
 use Rattle.nv_marks.proofs.mark_set.MarkSet.new.Goals as goal
 
 pub invariant_of-result : goal.invariant_of-result
-invariant_of-result c =
-    subst (λ (l : List Mark). IsSound l c.new-2.result.entries) (sym c.new.ensures.items) (sound_none c.new-2.result.entries)
+invariant_of-result c = (
+  stored_new c.new.result.chunks.items c.new-4.result.entries c.new.ensures,
+  ready_new c.new.result.chunks.items c.new-3.result.items (vec_len c.new-3.result) (vec_capacity c.new-3.result) c.new-2.result.items c.new.ensures
+      c.new-3.ensures.items c.new-3.ensures.len c.new-2.ensures.items,
+)

@@ -1,11 +1,40 @@
-use Rattle.std.proofs.Common.{sym, subst, List, not}
-use Rattle.nv_marks.specs.Marks.{is_named}
-use Rattle.nv_marks.specs.Sound.{IsSound}
-use Rattle.nv_marks.specs.declared.extmark.Mark.{Mark}
-use Rattle.nv_marks.proofs.SoundLemmas.{sound_without}
+use Rattle.std.proofs.Common.{◌≡◌, ◌∙◌, ap, sym, subst, arith}
+use Rattle.nv_marks.specs.Marks.{Marks, without}
+use Rattle.nv_marks.specs.inside.Records.{marks_among}
+use Rattle.nv_marks.specs.inside.Chunks.{spread_records}
+use Rattle.nv_marks.proofs.StoredLemmas.{ends_of_stored, stored_less, marks_left, count_less}
+use Rattle.nv_marks.proofs.PartsLemmas.{as_many_without}
 use Rattle.nv_marks.proofs.mark_set.MarkSet.remove.Goals as goal
 
+pub find_mark-requires-clause-ends : goal.find_mark-requires-clause-ends
+find_mark-requires-clause-ends c =
+    ends_of_stored c.self.inside.store.chunks.items c.self.inside.greatest.entries c.self.invariant.0
+
+pub returns-in_err-found-clause-marks : goal.returns-in_err-found-clause-marks
+returns-in_err-found-clause-marks c =
+    subst (λ (v : Marks). v.marks ≡ without c.args.ns c.args.id v.marks) c.self.view_is
+    (sym (as_many_without c.args.ns c.args.id (marks_among (spread_records c.self.inside.store.chunks.items)) (sym c.find_mark.ensures ∙ c.in_err-found.was)))
+
 pub invariant_of-self : goal.invariant_of-self
-invariant_of-self c =
-    subst (λ (l : List Mark). IsSound l c.self.inside.greatest.entries) (sym c.take_out.ensures.rest)
-    (sound_without (λ m. not (is_named c.args.ns c.args.id m)) c.self.inside.marks.items c.self.inside.greatest.entries c.self.invariant)
+invariant_of-self c = (
+  stored_less c.args.ns c.args.id c.self.inside.store.chunks.items c.take_found.new.store.chunks.items c.self.inside.greatest.entries c.self.invariant.0
+      c.take_found.ensures.laid c.take_found.ensures.rest,
+  record {
+    count = omega (
+      arith,
+      c.self.invariant.1.count,
+      count_less c.args.ns c.args.id c.self.inside.store.chunks.items c.take_found.new.store.chunks.items c.self.inside.greatest.entries c.self.invariant.0
+          c.take_found.ensures.laid c.take_found.ensures.rest c.in_ok-found.found (sym c.find_mark.ensures ∙ c.in_ok-found.was),
+    );
+    none = c.take_found.ensures.none;
+    empty = c.take_found.ensures.empty;
+    room = omega (arith, c.self.invariant.1.room, c.take_found.ensures.room);
+    spares = c.self.invariant.1.spares;
+  },
+)
+
+pub returns-clause-marks : goal.returns-clause-marks
+returns-clause-marks c =
+    marks_left c.args.ns c.args.id c.self.inside.store.chunks.items c.take_found.new.store.chunks.items c.self.inside.greatest.entries c.self.invariant.0
+    c.take_found.ensures.laid c.take_found.ensures.rest
+    ∙ ap (λ (v : Marks). without c.args.ns c.args.id v.marks) c.self.view_is

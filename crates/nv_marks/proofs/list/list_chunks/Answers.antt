@@ -1,0 +1,45 @@
+use Rattle.std.proofs.Common.{◌≡◌, ◌≤◌, ◌∙◌, ◌+◌, ◌++◌, ◌∷◌, [], ap, sym, subst, map, take, get_or, length, length-append, arith, List}
+use Rattle.nv_places.specs.declared.place.Pos.{Pos}
+use Rattle.nv_places.specs.Places.{IsNarrow}
+use Rattle.nv_marks.specs.declared.extmark.Mark.{Mark}
+use Rattle.nv_marks.specs.declared.record.Kept.{Kept}
+use Rattle.nv_marks.specs.declared.record.Record.{Record}
+use Rattle.nv_marks.specs.inside.Records.{ForEach}
+use Rattle.nv_marks.specs.inside.Chunks.{Piece, placed_record, records_of, spread_records}
+use Rattle.nv_marks.specs.inside.Stored.{IsEndKnown, extended_list, listed_marks}
+use Rattle.nv_marks.proofs.SpreadLemmas.{spread_at, spread_more}
+use Rattle.nv_marks.proofs.PartsLemmas.{list_more}
+use Rattle.nv_marks.proofs.list.list_chunks.Goals as goal
+
+-- the records of a chunk by its two parts
+by_parts : (p q : Piece) (base : Pos) (ks : List Kept) → p ≡ q → base ≡ p.base → ks ≡ p.kept → records_of q ≡ map (placed_record base) ks
+by_parts p q base ks is base_is ks_is =
+    sym (ap (λ (b : Pos). map (placed_record b) ks) base_is ∙ ap (λ (l : List Kept). map (placed_record p.base) l) ks_is ∙ ap records_of is)
+
+pub list_kept-requires-clause-narrow : goal.list_kept-requires-clause-narrow
+list_kept-requires-clause-narrow c =
+    subst (λ (l : List Record). ForEach (λ r. IsNarrow r.pos) l)
+    (by_parts c.chunk-item.result (get_or c.args.chunks.now c.loop-chunk.chunk-index c.chunk-item.result) c.base.result c.kept.result.now c.chunk-item.is c.base.ensures
+    c.kept.ensures)
+    (spread_at (λ r. IsNarrow r.pos) c.args.chunks.now c.loop-chunk.chunk-index c.chunk-item.result c.loop-chunk-test.true c.requires.narrow)
+
+pub list_kept-requires-clause-ends : goal.list_kept-requires-clause-ends
+list_kept-requires-clause-ends c =
+    subst (λ (l : List Record). ForEach (IsEndKnown (spread_records c.args.store.now.chunks.items)) l)
+    (by_parts c.chunk-item.result (get_or c.args.chunks.now c.loop-chunk.chunk-index c.chunk-item.result) c.base.result c.kept.result.now c.chunk-item.is c.base.ensures
+    c.kept.ensures)
+    (spread_at (IsEndKnown (spread_records c.args.store.now.chunks.items)) c.args.chunks.now c.loop-chunk.chunk-index c.chunk-item.result c.loop-chunk-test.true
+    c.requires.ends)
+
+pub loop-chunk-preserved : goal.loop-chunk-preserved
+loop-chunk-preserved c = (
+  list_more (c.args.range.held + c.args.range.limit) (spread_records c.args.store.now.chunks.items) c.args.range.from c.args.range.to c.args.into.now.items
+      c.loop-chunk.into.items c.list_kept.new.into.items (spread_records (take c.loop-chunk.chunk-index c.args.chunks.now)) (map (placed_record c.base.result) c.kept.result.now)
+      (spread_records (take (c.loop-chunk.chunk-index + 1) c.args.chunks.now)) c.loop-chunk.invariant.0 c.in_ok-list_kept.ensures.ok
+      (spread_more c.args.chunks.now c.loop-chunk.chunk-index c.chunk-item.result c.loop-chunk-test.true
+      ∙ ap (λ (l : List Record). spread_records (take c.loop-chunk.chunk-index c.args.chunks.now) ++ l)
+      (by_parts c.chunk-item.result (get_or c.args.chunks.now c.loop-chunk.chunk-index c.chunk-item.result) c.base.result c.kept.result.now c.chunk-item.is
+      c.base.ensures c.kept.ensures)),
+  c.list_kept.ensures.begun ∙ c.loop-chunk.invariant.1,
+  omega (arith, c.loop-chunk.invariant.2, c.list_kept.ensures.more),
+)

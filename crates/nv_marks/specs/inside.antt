@@ -1,0 +1,4 @@
+pub mod Records
+pub mod Chunks
+pub mod Stored
+pub mod Puts

@@ -1,0 +1,133 @@
+//! The marks that start within two places, in order.
+
+ghost use Rattle.nv_marks.specs.Order.{starts_within};
+ghost use Rattle.nv_marks.specs.inside.Chunks.{IsLaid, placed_record, records_of, spread_records};
+ghost use Rattle.nv_marks.specs.inside.Records.{ForEach, marks_among, same_key};
+ghost use Rattle.nv_marks.specs.inside.Stored.{IsEndKnown, extended_list, listed_marks};
+ghost use Rattle.nv_places.specs.Places.{IsNarrow};
+ghost use Rattle.std.specs.List.{IsDistinct};
+ghost use Rattle.std.specs.Prelude.{◌≡◌, ◌+◌, ◌-◌, ◌≤◌, ◌++◌, ◌∷◌, [], OnErr, OnOk, filter, length, map, take};
+
+use crate::chunk::Chunk;
+use crate::extmark::Mark;
+use crate::parts::mark_of;
+use crate::record::{Kept, Record};
+use crate::store::Store;
+use nv_places::Pos;
+use std::alloc::AllocError;
+
+/// Puts the marks that start from `from` to `to`, both included, behind what is in `into`, up to
+/// `limit` more than `held`.
+pub(crate) fn list(
+    store: &Store,
+    from: Pos,
+    to: Pos,
+    held: usize,
+    limit: usize,
+    into: &mut Vec<Mark>,
+) -> Result<(), AllocError>
+    requires laid { IsLaid store.now.chunks.items }
+    requires once { IsDistinct same_key (spread_records store.now.chunks.items) }
+    requires ends { ForEach (IsEndKnown (spread_records store.now.chunks.items))
+        (spread_records store.now.chunks.items) }
+    requires held { held ≡ length into.old.items }
+    ensures ok { OnOk result (into.new.items ≡ into.old.items
+        ++ take limit (filter (starts_within from to)
+        (marks_among (spread_records store.now.chunks.items)))) }
+    ensures begun { take held into.new.items ≡ into.old.items }
+{
+    let range = Range {
+        from,
+        to,
+        held,
+        limit,
+    };
+    list_chunks(store, store.within(from, to), range, into)
+}
+
+/// From which place up to which marks are listed, and how many behind those that are held.
+#[derive(Clone, Copy)]
+struct Range {
+    from: Pos,
+    to: Pos,
+    held: usize,
+    limit: usize,
+}
+
+/// Lists the marks that start in chunks.
+fn list_chunks(
+    store: &Store,
+    chunks: &[Chunk],
+    range: Range,
+    into: &mut Vec<Mark>,
+) -> Result<(), AllocError>
+    requires laid { IsLaid store.now.chunks.items }
+    requires once { IsDistinct same_key (spread_records store.now.chunks.items) }
+    requires narrow { ForEach (λ r. IsNarrow r.pos) (spread_records chunks.now) }
+    requires ends { ForEach (IsEndKnown (spread_records store.now.chunks.items))
+        (spread_records chunks.now) }
+    requires held { range.held ≤ length into.old.items }
+    ensures ok { OnOk result (into.new.items ≡ extended_list
+        (range.held + range.limit) into.old.items
+        (listed_marks (spread_records store.now.chunks.items) range.from range.to
+        (spread_records chunks.now))) }
+    ensures begun { take range.held into.new.items ≡ take range.held into.old.items }
+{
+    for chunk in chunks {
+        list_kept(store, chunk.base(), chunk.kept(), range, into)?;
+    }
+    Ok(())
+}
+
+/// Lists the marks that start in one chunk.
+fn list_kept(
+    store: &Store,
+    base: Pos,
+    kept: &[Kept],
+    range: Range,
+    into: &mut Vec<Mark>,
+) -> Result<(), AllocError>
+    requires laid { IsLaid store.now.chunks.items }
+    requires once { IsDistinct same_key (spread_records store.now.chunks.items) }
+    requires narrow { ForEach (λ r. IsNarrow r.pos) (map (placed_record base) kept.now) }
+    requires ends { ForEach (IsEndKnown (spread_records store.now.chunks.items))
+        (map (placed_record base) kept.now) }
+    requires held { range.held ≤ length into.old.items }
+    ensures ok { OnOk result (into.new.items ≡ extended_list
+        (range.held + range.limit) into.old.items
+        (listed_marks (spread_records store.now.chunks.items) range.from range.to
+        (map (placed_record base) kept.now))) }
+    ensures begun { take range.held into.new.items ≡ take range.held into.old.items }
+    ensures more { length into.old.items ≤ length into.new.items }
+{
+    for one in kept {
+        list_one(store, one.placed(base), range, into)?;
+    }
+    Ok(())
+}
+
+/// Lists the mark of a record, where it is a start within the range.
+fn list_one(
+    store: &Store,
+    one: Record,
+    range: Range,
+    into: &mut Vec<Mark>,
+) -> Result<(), AllocError>
+    requires laid { IsLaid store.now.chunks.items }
+    requires once { IsDistinct same_key (spread_records store.now.chunks.items) }
+    requires ends { IsEndKnown (spread_records store.now.chunks.items) one }
+    requires held { range.held ≤ length into.old.items }
+    ensures ok { OnOk result (into.new.items ≡ extended_list
+        (range.held + range.limit) into.old.items
+        (listed_marks (spread_records store.now.chunks.items) range.from range.to (one ∷ []))) }
+    ensures err { OnErr result (into.new.items ≡ into.old.items) }
+{
+    if one.info.is_end || one.pos.is_before(range.from) || range.to.is_before(one.pos) {
+        return Ok(());
+    }
+    if into.len() - range.held >= range.limit {
+        return Ok(());
+    }
+    into.push(mark_of(store, one))?;
+    Ok(())
+}

@@ -1,0 +1,221 @@
+//! Marks in a store of records: found, taken out, put in and listed.
+
+ghost use Rattle.nv_marks.specs.Marks.{mark_at};
+ghost use Rattle.nv_marks.specs.inside.Chunks.{IsLaid, IsSpare, spread_records};
+ghost use Rattle.nv_marks.specs.inside.Records.{ForEach, belongs_to, end_among, has_key, mark_among, marks_among, records_of_mark, records_of_marks, same_key, start_record, end_record};
+ghost use Rattle.nv_marks.specs.inside.Stored.{IsEndKnown};
+ghost use Rattle.nv_places.specs.Places.{IsNarrow};
+ghost use Rattle.std.specs.List.{IsDistinct};
+ghost use Rattle.std.specs.Prelude.{◌≡◌, ◌+◌, ◌≤◌, ◌<◌, ◌++◌, ◌∷◌, [], IsPermutation, None, false, filter, is_some, not, vec_capacity, vec_len};
+
+use crate::chunk::Chunk;
+use crate::extmark::{Far, Mark};
+use crate::record::{Info, Record};
+use crate::store::Store;
+
+/// The mark of a namespace and id.
+pub(crate) fn find_mark(store: &Store, ns: u32, id: u32) -> Option<Mark>
+    requires laid { IsLaid store.now.chunks.items }
+    requires once { IsDistinct same_key (spread_records store.now.chunks.items) }
+    requires ends { ForEach (IsEndKnown (spread_records store.now.chunks.items))
+        (spread_records store.now.chunks.items) }
+    ensures { result ≡ mark_at (marks_among (spread_records store.now.chunks.items)) ns id }
+{
+    let start = store.find(ns, id, false)?;
+    Some(mark_of(store, start))
+}
+
+/// The mark of a start.
+pub(crate) fn mark_of(store: &Store, start: Record) -> Mark
+    requires laid { IsLaid store.now.chunks.items }
+    requires once { IsDistinct same_key (spread_records store.now.chunks.items) }
+    requires end { start.info.has_end
+        ≡ is_some (end_among (spread_records store.now.chunks.items) start.info.ns start.info.id) }
+    ensures { result ≡ mark_among (spread_records store.now.chunks.items) start }
+{
+    Mark {
+        ns: start.info.ns,
+        id: start.info.id,
+        start: start.pos,
+        right: start.info.right,
+        stop: end_of(store, start),
+        paint: start.info.paint,
+        priority: start.info.priority,
+    }
+}
+
+/// The end of the mark of a start: mostly it stands near.
+fn end_of(store: &Store, start: Record) -> Option<Far>
+    requires laid { IsLaid store.now.chunks.items }
+    requires once { IsDistinct same_key (spread_records store.now.chunks.items) }
+    requires end { start.info.has_end
+        ≡ is_some (end_among (spread_records store.now.chunks.items) start.info.ns start.info.id) }
+    ensures { result
+        ≡ end_among (spread_records store.now.chunks.items) start.info.ns start.info.id }
+{
+    let Info {
+        ns,
+        id,
+        has_end,
+        ..
+    } = start.info;
+    if !has_end {
+        return None;
+    }
+    let end = store.find_from(start.pos, ns, id, true)?;
+    Some(Far {
+        pos: end.pos,
+        right: end.info.right,
+    })
+}
+
+/// Takes the start, or the end, of the mark of a namespace and id out.
+fn take_key(store: &mut Store, ns: u32, id: u32, end: bool, scratch: &mut Vec<Record>)
+    requires laid { IsLaid store.old.chunks.items }
+    requires once { IsDistinct same_key (spread_records store.old.chunks.items) }
+    requires none { scratch.old.items ≡ [] }
+    requires empty { vec_len scratch.old ≡ 0 }
+    requires room { 64 ≤ vec_capacity scratch.old }
+    ensures laid { IsLaid store.new.chunks.items }
+    ensures rest { IsPermutation (filter (λ r. not (has_key ns id end r))
+        (spread_records store.old.chunks.items)) (spread_records store.new.chunks.items) }
+    ensures none { scratch.new.items ≡ [] }
+    ensures empty { vec_len scratch.new ≡ 0 }
+    ensures room { vec_capacity scratch.new ≡ vec_capacity scratch.old }
+    ensures place { vec_capacity store.new.chunks ≡ vec_capacity store.old.chunks }
+    ensures places { vec_len store.new.chunks ≤ vec_len store.old.chunks }
+{
+    if let Some((at, place)) = store.locate(ns, id, end) {
+        let _ = store.take_out(at, place, scratch);
+    }
+}
+
+/// Takes the records of a mark out, its end only where it has one.
+pub(crate) fn take_mark(
+    store: &mut Store,
+    ns: u32,
+    id: u32,
+    has_end: bool,
+    scratch: &mut Vec<Record>,
+)
+    requires laid { IsLaid store.old.chunks.items }
+    requires once { IsDistinct same_key (spread_records store.old.chunks.items) }
+    requires end { has_end ≡ false
+        → end_among (spread_records store.old.chunks.items) ns id ≡ None }
+    requires none { scratch.old.items ≡ [] }
+    requires empty { vec_len scratch.old ≡ 0 }
+    requires room { 64 ≤ vec_capacity scratch.old }
+    ensures laid { IsLaid store.new.chunks.items }
+    ensures rest { IsPermutation (filter (λ r. not (belongs_to ns id r))
+        (spread_records store.old.chunks.items)) (spread_records store.new.chunks.items) }
+    ensures none { scratch.new.items ≡ [] }
+    ensures empty { vec_len scratch.new ≡ 0 }
+    ensures room { vec_capacity scratch.new ≡ vec_capacity scratch.old }
+    ensures place { vec_capacity store.new.chunks ≡ vec_capacity store.old.chunks }
+    ensures places { vec_len store.new.chunks ≤ vec_len store.old.chunks }
+{
+    take_key(store, ns, id, false, scratch);
+    if has_end {
+        take_key(store, ns, id, true, scratch);
+    }
+}
+
+/// Takes the records of a mark out that was found, and none where none was.
+pub(crate) fn take_found(
+    store: &mut Store,
+    found: Option<Mark>,
+    ns: u32,
+    id: u32,
+    scratch: &mut Vec<Record>,
+)
+    requires laid { IsLaid store.old.chunks.items }
+    requires once { IsDistinct same_key (spread_records store.old.chunks.items) }
+    requires all { IsPermutation (records_of_marks
+        (marks_among (spread_records store.old.chunks.items)))
+        (spread_records store.old.chunks.items) }
+    requires found { found ≡ mark_at (marks_among (spread_records store.old.chunks.items)) ns id }
+    requires none { scratch.old.items ≡ [] }
+    requires empty { vec_len scratch.old ≡ 0 }
+    requires room { 64 ≤ vec_capacity scratch.old }
+    ensures laid { IsLaid store.new.chunks.items }
+    ensures rest { IsPermutation (filter (λ r. not (belongs_to ns id r))
+        (spread_records store.old.chunks.items)) (spread_records store.new.chunks.items) }
+    ensures none { scratch.new.items ≡ [] }
+    ensures empty { vec_len scratch.new ≡ 0 }
+    ensures room { vec_capacity scratch.new ≡ vec_capacity scratch.old }
+    ensures place { vec_capacity store.new.chunks ≡ vec_capacity store.old.chunks }
+    ensures places { vec_len store.new.chunks ≤ vec_len store.old.chunks }
+{
+    if let Some(mark) = found {
+        take_mark(store, ns, id, mark.stop.is_some(), scratch);
+    }
+}
+
+/// Puts the records of a mark in, with two spare chunks.
+pub(crate) fn put_mark(
+    store: &mut Store,
+    mark: Mark,
+    spare: &mut Vec<Chunk>,
+    scratch: &mut Vec<Record>,
+)
+    requires laid { IsLaid store.old.chunks.items }
+    requires place { vec_len store.old.chunks + 1 < vec_capacity store.old.chunks }
+    requires spare { 1 < vec_len spare.old }
+    requires spares { ForEach IsSpare spare.old.items }
+    requires none { scratch.old.items ≡ [] }
+    requires empty { vec_len scratch.old ≡ 0 }
+    requires room { 65 ≤ vec_capacity scratch.old }
+    ensures laid { IsLaid store.new.chunks.items }
+    ensures same_records { IsPermutation
+        (records_of_mark mark ++ spread_records store.old.chunks.items)
+        (spread_records store.new.chunks.items) }
+    ensures none { scratch.new.items ≡ [] }
+    ensures empty { vec_len scratch.new ≡ 0 }
+    ensures room { vec_capacity scratch.new ≡ vec_capacity scratch.old }
+    ensures spares { ForEach IsSpare spare.new.items }
+{
+    let start = start_record(&mark);
+    match mark.stop {
+        Some(far) => {
+            store.insert(end_record(&mark, far), spare, scratch);
+            store.insert(start, spare, scratch);
+        }
+        None => store.insert(start, spare, scratch),
+    }
+}
+
+/// The start of a mark as a record.
+fn start_record(mark: &Mark) -> Record
+    ensures { result ≡ start_record mark.now }
+{
+    Record {
+        pos: mark.start,
+        info: Info {
+            ns: mark.ns,
+            id: mark.id,
+            right: mark.right,
+            is_end: false,
+            has_end: mark.stop.is_some(),
+            paint: mark.paint,
+            priority: mark.priority,
+        },
+    }
+}
+
+/// The end of a mark as a record.
+fn end_record(mark: &Mark, far: Far) -> Record
+    ensures { result ≡ end_record mark.now far }
+{
+    Record {
+        pos: far.pos,
+        info: Info {
+            ns: mark.ns,
+            id: mark.id,
+            right: far.right,
+            is_end: true,
+            has_end: false,
+            paint: None,
+            priority: 0,
+        },
+    }
+}

@@ -1,0 +1,130 @@
+//! A record: the start or the end of a mark, with its place or as a chunk keeps it.
+
+ghost use Rattle.nv_marks.specs.inside.Chunks.{kept_from, placed_record, reach};
+ghost use Rattle.nv_marks.specs.inside.Records.{MovesInRange, is_key, moved_record, precedes};
+ghost use Rattle.nv_places.specs.Places.{IsNarrow, further};
+ghost use Rattle.std.specs.Prelude.{◌≡◌};
+
+use crate::extmark::{Far, Mark, Paint};
+use nv_places::{Extent, Pos};
+
+/// What a splice leaves as it is in a record.
+#[derive(Clone, Copy, Debug, PartialEq, Eq)]
+pub(crate) struct Info {
+    pub ns: u32,
+    pub id: u32,
+    pub right: bool,
+    /// Whether this is the end of the mark, and not its start.
+    pub is_end: bool,
+    /// At a start: whether the mark has an end.
+    pub has_end: bool,
+    pub paint: Option<Paint>,
+    pub priority: u32,
+}
+
+/// A record with its place.
+#[derive(Clone, Copy, Debug, PartialEq, Eq)]
+pub(crate) struct Record {
+    pub pos: Pos,
+    pub info: Info,
+}
+
+/// A record as a chunk keeps it, with its distance from the chunk's base.
+#[derive(Clone, Copy, Debug, PartialEq, Eq)]
+pub(crate) struct Kept {
+    pub by: Extent,
+    pub info: Info,
+}
+
+impl Info {
+    /// Whether this is of the start, or of the end, of the mark of this namespace and id.
+    pub(crate) fn is_key(&self, ns: u32, id: u32, end: bool) -> bool
+        ensures { result ≡ is_key ns id end self.now }
+    {
+        let is_part = if end { self.is_end } else { !self.is_end };
+        is_part && self.ns == ns && self.id == id
+    }
+}
+
+impl Record {
+    /// What records are ordered by.
+    pub(crate) fn order_key(&self) -> (u32, u32, bool, u32, u32, bool)
+        ensures { result ≡ (
+          self.now.pos.row,
+          self.now.pos.col,
+          self.now.info.right,
+          self.now.info.ns,
+          self.now.info.id,
+          self.now.info.is_end,
+        ) }
+    {
+        let Info {
+            ns,
+            id,
+            right,
+            is_end,
+            ..
+        } = self.info;
+        (self.pos.row, self.pos.col, right, ns, id, is_end)
+    }
+
+    /// Whether this record stands before `other`.
+    pub(crate) fn is_before(&self, other: &Record) -> bool
+        ensures { result ≡ precedes self.now other.now }
+    {
+        self.order_key().cmp(&other.order_key()).is_lt()
+    }
+
+    /// This record after the extent `old` from `start` on was replaced by the extent `new`.
+    pub(crate) fn moved(self, start: Pos, old: Extent, new: Extent) -> Record
+        requires old_end { IsNarrow (further start old) }
+        requires new_end { IsNarrow (further start new) }
+        requires moved { MovesInRange start old new self }
+        ensures { result ≡ moved_record start old new self }
+    {
+        Record {
+            pos: self.pos.moved(self.info.right, start, old, new),
+            ..self
+        }
+    }
+
+    /// This record as a chunk keeps it that begins at `base`.
+    pub(crate) fn kept_from(self, base: Pos) -> Kept
+        ensures { result ≡ kept_from base self }
+    {
+        Kept {
+            by: distance(base, self.pos),
+            info: self.info,
+        }
+    }
+}
+
+impl Kept {
+    /// This record, kept by a chunk that begins at `base`, with its place.
+    pub(crate) fn placed(self, base: Pos) -> Record
+        requires { IsNarrow (further base self.by) }
+        ensures { result ≡ placed_record base self }
+    {
+        Record {
+            pos: base.further(self.by),
+            info: self.info,
+        }
+    }
+}
+
+/// How far a place lies behind a base.
+fn distance(base: Pos, pos: Pos) -> Extent
+    ensures { result ≡ reach base pos }
+{
+    if pos.row == base.row {
+        Extent {
+            rows: 0,
+            cols: pos.col.saturating_sub(base.col),
+        }
+    } else {
+        Extent {
+            rows: pos.row.saturating_sub(base.row),
+            cols: pos.col,
+        }
+    }
+}
