@@ -11,8 +11,9 @@ use Rattle.nv_undo.proofs.PathLemmas.{path_none, greater_back, greater_ahead, by
 use Rattle.nv_undo.proofs.NumberLemmas.{parent_within, some_numbered, numbered-old, numbered-new, parent-old, parent-new, last-pushed, child_named}
 use Rattle.nv_undo.proofs.StepLemmas.{push_tree}
 use Rattle.nv_undo.proofs.ListLemmas.{get_or-push_zero}
-use Rattle.nv_buffer.specs.Changes.{text_at, edits_of, origin, leg_edits, leg_back}
-use Rattle.nv_buffer.specs.Content.{Content, sealed, sealed_with, undo_edits, redo_edits, undo_to_edits}
+use Rattle.nv_buffer.specs.Changes.{text_at, edits_of, leg_edits}
+use Rattle.nv_undo.specs.Ways.{origin, leg_back}
+use Rattle.nv_buffer.specs.Content.{Content, after_seal, after_seal_of, undo_edits, redo_edits, undo_to_edits}
 use Rattle.nv_buffer.specs.declared.edit.Edit.{Edit}
 use Rattle.nv_buffer.proofs.WayBack.{length-inverses}
 
@@ -137,11 +138,11 @@ none_left : (edits : List Edit) → length edits ≡ 0 → edits ≡ []
 none_left [] is = refl
 none_left (edit ∷ edits) is = absurd (omega arith)
 
-sealed_same : (buffer : Content) → length buffer.unsealed ≡ 0 → sealed buffer ≡ buffer
-sealed_same buffer none = ap (sealed_with buffer) (none_left buffer.unsealed none)
+sealed_same : (buffer : Content) → length buffer.unsealed ≡ 0 → after_seal buffer ≡ buffer
+sealed_same buffer none = ap (after_seal_of buffer) (none_left buffer.unsealed none)
 
 sealed_more : (buffer : Content) (edits : List Edit) → (length edits ≡ 0 → ⊥)
-    → sealed_with buffer edits ≡ record buffer { undo = pushed edits buffer.undo; unsealed = [] }
+    → after_seal_of buffer edits ≡ record buffer { undo = pushed edits buffer.undo; unsealed = [] }
 sealed_more buffer [] some = absurd (some refl)
 sealed_more buffer (edit ∷ edits) some = refl
 
@@ -210,11 +211,11 @@ open_cost : (buffer : Content) (n : ℕ) → (length buffer.unsealed ≡ 0 → �
 open_cost buffer n some =
     ap (λ (b : Content). length (flat_map (leg_edits b.undo) (path b.undo b.undo.current n))) (sealed_more buffer buffer.unsealed some)
 
-open_last : (buffer : Content) → (length buffer.unsealed ≡ 0 → ⊥) → last (sealed buffer).undo ≡ suc (last buffer.undo)
+open_last : (buffer : Content) → (length buffer.unsealed ≡ 0 → ⊥) → last (after_seal buffer).undo ≡ suc (last buffer.undo)
 open_last buffer some =
     ap (λ (b : Content). last b.undo) (sealed_more buffer buffer.unsealed some) ∙ last-pushed buffer.unsealed buffer.undo
 
-pub cost_to_itself : (buffer : Content) (n : ℕ) → (length buffer.unsealed ≡ 0 → ⊥) → n ≤ last (sealed buffer).undo → last buffer.undo < n
+pub cost_to_itself : (buffer : Content) (n : ℕ) → (length buffer.unsealed ≡ 0 → ⊥) → n ≤ last (after_seal buffer).undo → last buffer.undo < n
     → length (undo_to_edits n buffer) ≡ 0
 cost_to_itself buffer n some within above =
     let same : n ≡ suc (last buffer.undo) = omega (arith, open_last buffer some) in

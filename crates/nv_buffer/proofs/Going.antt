@@ -3,14 +3,16 @@ use Rattle.std.proofs.Common.{◌≡◌, ℕ, ℤ, pos, suc, ◌+◌, ◌+ℤ◌
 use Rattle.std.proofs.lemmas.Int.{ints}
 use Rattle.std.proofs.lemmas.List.{append-nil, drop_more, drop_all}
 use Rattle.std.proofs.lemmas.Option.{get_or_from_slice_get, slice_get_within}
-use Rattle.nv_undo.specs.Tree.{Undo, last, numbered, parent_of, change_of, path, gone}
-use Rattle.nv_undo.specs.Ways.{Leads}
+use Rattle.nv_undo.specs.Tree.{Undo, last, numbered, parent_of, change_of, path, tree_after_leg}
+use Rattle.nv_undo.specs.Ways.{Leads, origin, IsNext}
 use Rattle.nv_undo.specs.declared.legs.Leg.{Leg}
 use Rattle.nv_undo.specs.declared.legs.Leg.TheVariants.{Back, Ahead}
 use Rattle.nv_undo.proofs.NumberLemmas.{some_numbered, some_parent, numbered_same, parent_within, parent_same}
-use Rattle.nv_buffer.specs.Changes.{applied, inverses, Fits, AllFit, text_at, edits_of, origin, leg_edits}
-use Rattle.nv_buffer.specs.Content.{Content, edited, told, told_from, event_fold, TellBytes, sealed, sealed_with, after_leg, undo_to_edits}
-use Rattle.nv_buffer.specs.Steps.{IsBuffer, IsNext}
+use Rattle.nv_buffer.specs.Changes.{lines_after, inverse_edits, Fits, AllFit, text_at, edits_of, leg_edits}
+use Rattle.nv_buffer.specs.Content.{Content, after_edit, event_at, events_from, event_fold, TellBytes, after_seal, after_seal_of, after_leg, undo_to_edits}
+use Rattle.nv_marks.specs.Marks.{Marks}
+use Rattle.nv_buffer.specs.Marks.{marks_after}
+use Rattle.nv_buffer.specs.Steps.{IsBuffer}
 use Rattle.nv_buffer.specs.declared.edit.Edit.{Edit}
 use Rattle.nv_buffer.specs.declared.buffer.Spliced.{Spliced}
 use Rattle.nv_buffer.proofs.WayBack.{fold-append, AllFit-append, taken_back, TakenBack}
@@ -18,56 +20,61 @@ use Rattle.nv_buffer.proofs.KeptTexts.{text_at-change, text_at-same}
 use Rattle.nv_buffer.proofs.Keeping.{gone_changes, leg_kept}
 
 -- ---- what is told of edits
-pub length-told_from : (tick : ℤ) (edits : List Edit) → length (told_from tick edits) ≡ length edits
+pub length-told_from : (tick : ℤ) (edits : List Edit) → length (events_from tick edits) ≡ length edits
 length-told_from tick [] = refl
 length-told_from tick (edit ∷ edits) = ap (λ n. suc n) (length-told_from (tick +ℤ pos 1) edits)
 
-pub fold-told_from : (text : List (List ℕ)) (tick : ℤ) (edits : List Edit) → fold event_fold text (told_from tick edits) ≡ fold applied text edits
+pub fold-told_from : (text : List (List ℕ)) (tick : ℤ) (edits : List Edit) → fold event_fold text (events_from tick edits) ≡ fold lines_after text edits
 fold-told_from text tick [] = refl
-fold-told_from text tick (edit ∷ edits) = fold-told_from (applied text edit) (tick +ℤ pos 1) edits
+fold-told_from text tick (edit ∷ edits) = fold-told_from (lines_after text edit) (tick +ℤ pos 1) edits
 
-pub told_from-tell : (text : List (List ℕ)) (tick : ℤ) (edits : List Edit) → AllFit text edits → TellBytes text (told_from tick edits)
+pub told_from-tell : (text : List (List ℕ)) (tick : ℤ) (edits : List Edit) → AllFit text edits → TellBytes text (events_from tick edits)
 told_from-tell text tick [] fit = tt
-told_from-tell text tick (edit ∷ edits) fit = (fit.0.bytes, told_from-tell (applied text edit) (tick +ℤ pos 1) edits fit.1)
+told_from-tell text tick (edit ∷ edits) fit = (fit.0.bytes, told_from-tell (lines_after text edit) (tick +ℤ pos 1) edits fit.1)
 
 tick_next : (tick : ℤ) (n : ℕ) → (tick +ℤ pos 1) +ℤ pos n ≡ tick +ℤ pos (suc n)
 tick_next tick n = omega (arith, ints)
 
 pub told_from-append : (tick : ℤ) (edits more : List Edit)
-    → told_from tick (edits ++ more) ≡ told_from tick edits ++ told_from (tick +ℤ pos (length edits)) more
-told_from-append tick [] more = ap (λ (t : ℤ). told_from t more) (none_more tick)
+    → events_from tick (edits ++ more) ≡ events_from tick edits ++ events_from (tick +ℤ pos (length edits)) more
+told_from-append tick [] more = ap (λ (t : ℤ). events_from t more) (none_more tick)
   where
     none_more : (tick : ℤ) → tick ≡ tick +ℤ pos 0
     none_more tick = omega (arith, ints)
 told_from-append tick (edit ∷ edits) more =
-    ap (λ (es : List Spliced). told (tick +ℤ pos 1) edit ∷ es) (
+    ap (λ (es : List Spliced). event_at (tick +ℤ pos 1) edit ∷ es) (
     told_from-append (tick +ℤ pos 1) edits more
-    ∙ ap (λ (t : ℤ). told_from (tick +ℤ pos 1) edits ++ told_from t more) (tick_next tick (length edits))
+    ∙ ap (λ (t : ℤ). events_from (tick +ℤ pos 1) edits ++ events_from t more) (tick_next tick (length edits))
     )
 
 -- ---- edits made one after another
 -- the fields of the buffer afterwards
-pub made-text : (buffer : Content) (edits : List Edit) → (fold edited buffer edits).text ≡ fold applied buffer.text edits
+pub made-text : (buffer : Content) (edits : List Edit) → (fold after_edit buffer edits).text ≡ fold lines_after buffer.text edits
 made-text buffer [] = refl
-made-text buffer (edit ∷ edits) = made-text (edited buffer edit) edits
+made-text buffer (edit ∷ edits) = made-text (after_edit buffer edit) edits
 
-pub made-tick : (buffer : Content) (edits : List Edit) → (fold edited buffer edits).tick ≡ buffer.tick +ℤ pos (length edits)
+pub made-tick : (buffer : Content) (edits : List Edit) → (fold after_edit buffer edits).tick ≡ buffer.tick +ℤ pos (length edits)
 made-tick buffer [] = none_more buffer.tick
   where
     none_more : (tick : ℤ) → tick ≡ tick +ℤ pos 0
     none_more tick = omega (arith, ints)
-made-tick buffer (edit ∷ edits) = made-tick (edited buffer edit) edits ∙ tick_next buffer.tick (length edits)
+made-tick buffer (edit ∷ edits) = made-tick (after_edit buffer edit) edits ∙ tick_next buffer.tick (length edits)
 
-pub made-undo : (buffer : Content) (edits : List Edit) → (fold edited buffer edits).undo ≡ buffer.undo
+pub made-undo : (buffer : Content) (edits : List Edit) → (fold after_edit buffer edits).undo ≡ buffer.undo
 made-undo buffer [] = refl
-made-undo buffer (edit ∷ edits) = made-undo (edited buffer edit) edits
+made-undo buffer (edit ∷ edits) = made-undo (after_edit buffer edit) edits
+
+pub made-marks : (buffer : Content) (edits : List Edit) → (fold after_edit buffer edits).marks ≡ fold marks_after buffer.marks edits
+made-marks buffer [] = refl
+made-marks buffer (edit ∷ edits) = made-marks (after_edit buffer edit) edits
 
 -- and all that edits leave as it was
-pub made-rest : (buffer : Content) (edits : List Edit) (text : List (List ℕ)) (tick : ℤ) (undo : Undo (List Edit)) (unsealed : List Edit)
-    → record (fold edited buffer edits) { text = text; tick = tick; modified = true; undo = undo; unsealed = unsealed }
-    ≡ record buffer { text = text; tick = tick; modified = true; undo = undo; unsealed = unsealed }
-made-rest buffer [] text tick undo unsealed = refl
-made-rest buffer (edit ∷ edits) text tick undo unsealed = made-rest (edited buffer edit) edits text tick undo unsealed
+pub made-rest : (buffer : Content) (edits : List Edit) (text : List (List ℕ)) (tick : ℤ) (marks : Marks) (undo : Undo (List Edit))
+    (unsealed : List Edit)
+    → record (fold after_edit buffer edits) { text = text; tick = tick; modified = true; marks = marks; undo = undo; unsealed = unsealed }
+    ≡ record buffer { text = text; tick = tick; modified = true; marks = marks; undo = undo; unsealed = unsealed }
+made-rest buffer [] text tick marks undo unsealed = refl
+made-rest buffer (edit ∷ edits) text tick marks undo unsealed = made-rest (after_edit buffer edit) edits text tick marks undo unsealed
 
 -- ---- a leg
 -- what stands at a number
@@ -81,7 +88,7 @@ edits_there undo n some within =
 -- the edits of a leg can be made of the text of the current number, and lead to that of the leg's number
 pub record Runs (undo : Undo (List Edit)) (leg : Leg) : Type 0 where
   pub fit : AllFit (text_at undo undo.current) (leg_edits undo leg)
-  pub leads : fold applied (text_at undo undo.current) (leg_edits undo leg) ≡ text_at undo (gone leg undo).current
+  pub leads : fold lines_after (text_at undo undo.current) (leg_edits undo leg) ≡ text_at undo (tree_after_leg leg undo).current
 
 back_runs : (text : List (List ℕ)) (tick : ℤ) (undo : Undo (List Edit)) (unsealed : List Edit) → IsBuffer text tick undo unsealed
     → 0 < undo.current → Runs undo (Back undo.current)
@@ -90,12 +97,12 @@ back_runs text tick undo unsealed is some =
     let edits : List Edit = edits_of undo n in
     let from : List (List ℕ) = text_at undo (origin undo n) in
     let there : change_of undo n ≡ Some edits = edits_there undo n some is.tree.within in
-    let here : text_at undo n ≡ fold applied from edits = text_at-change undo n edits is.tree there in
+    let here : text_at undo n ≡ fold lines_after from edits = text_at-change undo n edits is.tree there in
     let back : TakenBack from edits = taken_back from edits (is.texts (origin undo n)) (is.changes n edits there) in
     let number : origin undo n ≡ unwrap_or (parent_of undo n) n = same_origin undo n some is.tree.within in record {
-      fit = subst (λ (t : List (List ℕ)). AllFit t (inverses from edits)) (sym here) back.fit;
+      fit = subst (λ (t : List (List ℕ)). AllFit t (inverse_edits from edits)) (sym here) back.fit;
       leads =
-          ap (λ (t : List (List ℕ)). fold applied t (inverses from edits)) here ∙ back.text_is ∙ ap (text_at undo) number;
+          ap (λ (t : List (List ℕ)). fold lines_after t (inverse_edits from edits)) here ∙ back.text_is ∙ ap (text_at undo) number;
     }
   where
     same_origin : (undo : Undo (List Edit)) (n : ℕ) → 0 < n → n ≤ last undo → origin undo n ≡ unwrap_or (parent_of undo n) n
@@ -114,7 +121,7 @@ leg_runs text tick undo unsealed (Ahead n) is next =
     let there : change_of undo n ≡ Some edits = edits_there undo n within.0 within.1 in
     let number : origin undo n ≡ undo.current = ap (λ (o : Option ℕ). unwrap_or o 0) next in record {
       fit = subst (λ (k : ℕ). AllFit (text_at undo k) edits) number (is.changes n edits there);
-      leads = sym (text_at-change undo n edits is.tree there ∙ ap (λ (k : ℕ). fold applied (text_at undo k) edits) number);
+      leads = sym (text_at-change undo n edits is.tree there ∙ ap (λ (k : ℕ). fold lines_after (text_at undo k) edits) number);
     }
 
 -- the edits of a leg are the same in each tree with these changes
@@ -125,7 +132,7 @@ leg_edits-same undo other (Back n) same =
     let from : text_at undo (origin undo n) ≡ text_at other (origin other n) =
     ap (λ (o : Option (ℕ × List Edit)). text_at undo (unwrap_or (option_map (λ c. c.0) o) 0)) number
     ∙ text_at-same undo other (origin other n) same in
-    λ i. inverses (from i) (edits i)
+    λ i. inverse_edits (from i) (edits i)
 leg_edits-same undo other (Ahead n) same =
     ap (λ (o : Option (ℕ × List Edit)). unwrap_or (option_map (λ c. c.1) o) []) (numbered_same undo other same n)
 
@@ -136,30 +143,32 @@ way_edits-same undo other (leg ∷ legs) same = λ i. leg_edits-same undo other 
 
 -- the buffer once the edits of a leg were made and it is gone in the tree
 pub arrived-is : (buffer made now : Content) (leg : Leg) → buffer.unsealed ≡ [] → buffer.text ≡ text_at buffer.undo buffer.undo.current
-    → Runs buffer.undo leg → made ≡ fold edited buffer (leg_edits buffer.undo leg)
-    → now ≡ record made { modified = true; undo = gone leg made.undo; unsealed = [] } → now ≡ after_leg buffer leg
+    → Runs buffer.undo leg → made ≡ fold after_edit buffer (leg_edits buffer.undo leg)
+    → now ≡ record made { modified = true; undo = tree_after_leg leg made.undo; unsealed = [] } → now ≡ after_leg buffer leg
 arrived-is buffer made now leg sealed text_is runs made_is now_is =
     let edits : List Edit = leg_edits buffer.undo leg in
-    let text : made.text ≡ text_at (gone leg buffer.undo) (gone leg buffer.undo).current =
+    let text : made.text ≡ text_at (tree_after_leg leg buffer.undo) (tree_after_leg leg buffer.undo).current =
     ap (λ (b : Content). b.text) made_is
     ∙ made-text buffer edits
-    ∙ ap (λ (t : List (List ℕ)). fold applied t edits) text_is
+    ∙ ap (λ (t : List (List ℕ)). fold lines_after t edits) text_is
     ∙ runs.leads
-    ∙ sym (text_at-same (gone leg buffer.undo) buffer.undo (gone leg buffer.undo).current (gone_changes leg buffer.undo)) in
+    ∙ sym (text_at-same (tree_after_leg leg buffer.undo) buffer.undo (tree_after_leg leg buffer.undo).current (gone_changes leg buffer.undo)) in
     let tick : made.tick ≡ buffer.tick +ℤ pos (length edits) = ap (λ (b : Content). b.tick) made_is ∙ made-tick buffer edits in
     let undo : made.undo ≡ buffer.undo = ap (λ (b : Content). b.undo) made_is ∙ made-undo buffer edits in
+    let marks : made.marks ≡ fold marks_after buffer.marks edits = ap (λ (b : Content). b.marks) made_is ∙ made-marks buffer edits in
     now_is
-    ∙ (λ i. record made { text = text i; tick = tick i; modified = true; undo = gone leg (undo i); unsealed = sym sealed i })
+    ∙ (λ i. record made { text = text i; tick = tick i; modified = true; marks = marks i; undo = tree_after_leg leg (undo i); unsealed = sym sealed i })
     ∙ ap (λ (b : Content).
     record b {
-      text = text_at (gone leg buffer.undo) (gone leg buffer.undo).current;
+      text = text_at (tree_after_leg leg buffer.undo) (tree_after_leg leg buffer.undo).current;
       tick = buffer.tick +ℤ pos (length edits);
       modified = true;
-      undo = gone leg buffer.undo;
+      marks = fold marks_after buffer.marks edits;
+      undo = tree_after_leg leg buffer.undo;
       unsealed = buffer.unsealed;
     }) made_is
-    ∙ made-rest buffer edits (text_at (gone leg buffer.undo) (gone leg buffer.undo).current) (buffer.tick +ℤ pos (length edits))
-    (gone leg buffer.undo) buffer.unsealed
+    ∙ made-rest buffer edits (text_at (tree_after_leg leg buffer.undo) (tree_after_leg leg buffer.undo).current) (buffer.tick +ℤ pos (length edits))
+    (fold marks_after buffer.marks edits) (tree_after_leg leg buffer.undo) buffer.unsealed
 
 -- ---- a way
 -- what is known of a buffer whose edits are all in changes
@@ -178,19 +187,19 @@ IsBuffer-later text tick n undo unsealed is = record {
 }
 
 sealed_text : (buffer : Content) → IsSealed buffer → buffer.text ≡ text_at buffer.undo buffer.undo.current
-sealed_text buffer is = is.0.now ∙ ap (λ (es : List Edit). fold applied (text_at buffer.undo buffer.undo.current) es) is.1
+sealed_text buffer is = is.0.now ∙ ap (λ (es : List Edit). fold lines_after (text_at buffer.undo buffer.undo.current) es) is.1
 
 pub leg_sealed : (buffer : Content) (leg : Leg) → IsSealed buffer → IsNext buffer.undo leg → IsSealed (after_leg buffer leg)
 leg_sealed buffer leg is next =
-    let arrived : text_at (gone leg buffer.undo) (gone leg buffer.undo).current ≡ text_at buffer.undo (gone leg buffer.undo).current =
-    text_at-same (gone leg buffer.undo) buffer.undo (gone leg buffer.undo).current (gone_changes leg buffer.undo) in
-    let now : IsBuffer (text_at (gone leg buffer.undo) (gone leg buffer.undo).current) buffer.tick (gone leg buffer.undo) [] =
-    leg_kept buffer.text (text_at (gone leg buffer.undo) (gone leg buffer.undo).current) buffer.tick buffer.undo buffer.unsealed leg is.0 next arrived in
+    let arrived : text_at (tree_after_leg leg buffer.undo) (tree_after_leg leg buffer.undo).current ≡ text_at buffer.undo (tree_after_leg leg buffer.undo).current =
+    text_at-same (tree_after_leg leg buffer.undo) buffer.undo (tree_after_leg leg buffer.undo).current (gone_changes leg buffer.undo) in
+    let now : IsBuffer (text_at (tree_after_leg leg buffer.undo) (tree_after_leg leg buffer.undo).current) buffer.tick (tree_after_leg leg buffer.undo) [] =
+    leg_kept buffer.text (text_at (tree_after_leg leg buffer.undo) (tree_after_leg leg buffer.undo).current) buffer.tick buffer.undo buffer.unsealed leg is.0 next arrived in
     let later =
-    IsBuffer-later (text_at (gone leg buffer.undo) (gone leg buffer.undo).current) buffer.tick (length (leg_edits buffer.undo leg))
-    (gone leg buffer.undo) [] now in (
-      subst (λ (es : List Edit). IsBuffer (text_at (gone leg buffer.undo) (gone leg buffer.undo).current)
-          (buffer.tick +ℤ pos (length (leg_edits buffer.undo leg))) (gone leg buffer.undo) es) (sym is.1) later,
+    IsBuffer-later (text_at (tree_after_leg leg buffer.undo) (tree_after_leg leg buffer.undo).current) buffer.tick (length (leg_edits buffer.undo leg))
+    (tree_after_leg leg buffer.undo) [] now in (
+      subst (λ (es : List Edit). IsBuffer (text_at (tree_after_leg leg buffer.undo) (tree_after_leg leg buffer.undo).current)
+          (buffer.tick +ℤ pos (length (leg_edits buffer.undo leg))) (tree_after_leg leg buffer.undo) es) (sym is.1) later,
       is.1,
     )
 
@@ -205,19 +214,19 @@ leads_on undo other from to (Ahead n ∷ legs) same way =
 
 -- the first leg of a way, and the way from there
 pub first_leg : {E : Type 0} (undo : Undo E) (leg : Leg) (legs : List Leg) (to : ℕ) → Leads undo undo.current (leg ∷ legs) to
-    → IsNext undo leg × Leads (gone leg undo) (gone leg undo).current legs to
+    → IsNext undo leg × Leads (tree_after_leg leg undo) (tree_after_leg leg undo).current legs to
 first_leg undo (Back n) legs to way =
     let parent : parent_of undo undo.current ≡ Some way.0 = ap (parent_of undo) (sym way.1) ∙ way.2 in
-    let at : way.0 ≡ (gone (Back n) undo).current = sym (ap (λ (o : Option ℕ). unwrap_or o undo.current) parent) in (
+    let at : way.0 ≡ (tree_after_leg (Back n) undo).current = sym (ap (λ (o : Option ℕ). unwrap_or o undo.current) parent) in (
       (way.1, (parent_within undo n way.0 way.2).0),
-      subst (λ (k : ℕ). Leads (gone (Back n) undo) k legs to) at (leads_on undo (gone (Back n) undo) way.0 to legs refl way.3),
+      subst (λ (k : ℕ). Leads (tree_after_leg (Back n) undo) k legs to) at (leads_on undo (tree_after_leg (Back n) undo) way.0 to legs refl way.3),
     )
-first_leg undo (Ahead n) legs to way = (way.0, leads_on undo (gone (Ahead n) undo) n to legs refl way.1)
+first_leg undo (Ahead n) legs to way = (way.0, leads_on undo (tree_after_leg (Ahead n) undo) n to legs refl way.1)
 
 -- the edits of a way can be made of the text, and lead to the text at its end
 pub record WayRuns (buffer : Content) (legs : List Leg) (to : ℕ) : Type 0 where
   pub fit : AllFit buffer.text (flat_map (leg_edits buffer.undo) legs)
-  pub text : (fold after_leg buffer legs).text ≡ fold applied buffer.text (flat_map (leg_edits buffer.undo) legs)
+  pub text : (fold after_leg buffer legs).text ≡ fold lines_after buffer.text (flat_map (leg_edits buffer.undo) legs)
   pub tick : (fold after_leg buffer legs).tick ≡ buffer.tick +ℤ pos (length (flat_map (leg_edits buffer.undo) legs))
   pub number : (fold after_leg buffer legs).undo.current ≡ to
   pub sealed : IsSealed (fold after_leg buffer legs)
@@ -235,21 +244,21 @@ one_more_leg buffer leg legs to is next rest =
     let first : List Edit = leg_edits buffer.undo leg in
     let more : List Edit = flat_map (leg_edits buffer.undo) legs in
     let text : buffer.text ≡ text_at buffer.undo buffer.undo.current = sealed_text buffer is in
-    let leads : fold applied buffer.text first ≡ (after_leg buffer leg).text =
-    ap (λ (t : List (List ℕ)). fold applied t first) text
+    let leads : fold lines_after buffer.text first ≡ (after_leg buffer leg).text =
+    ap (λ (t : List (List ℕ)). fold lines_after t first) text
     ∙ runs.leads
-    ∙ sym (text_at-same (gone leg buffer.undo) buffer.undo (gone leg buffer.undo).current (gone_changes leg buffer.undo)) in
+    ∙ sym (text_at-same (tree_after_leg leg buffer.undo) buffer.undo (tree_after_leg leg buffer.undo).current (gone_changes leg buffer.undo)) in
     let same : flat_map (leg_edits (after_leg buffer leg).undo) legs ≡ more =
     way_edits-same (after_leg buffer leg).undo buffer.undo legs (gone_changes leg buffer.undo) in
-    let then : AllFit (fold applied buffer.text first) more =
+    let then : AllFit (fold lines_after buffer.text first) more =
     subst (λ (t : List (List ℕ)). AllFit t more) (sym leads)
     (subst (λ (es : List Edit). AllFit (after_leg buffer leg).text es) same rest.fit) in record {
       fit =
           AllFit-append buffer.text first more (subst (λ (t : List (List ℕ)). AllFit t first) (sym text) runs.fit) then;
       text =
           rest.text
-          ∙ (λ i. fold applied (sym leads i) (same i))
-          ∙ sym (fold-append applied buffer.text first more);
+          ∙ (λ i. fold lines_after (sym leads i) (same i))
+          ∙ sym (fold-append lines_after buffer.text first more);
       tick =
           rest.tick
           ∙ ap (λ (es : List Edit). (buffer.tick +ℤ pos (length first)) +ℤ pos (length es)) same
@@ -269,10 +278,10 @@ way_runs buffer (leg ∷ legs) to is way =
 -- how far the edits of a leg were made
 pub record Going (first : Content) (before : List Spliced) (edits : List Edit) (now : Content) (events : List Spliced) (place : ℕ) : Type 0 where
   pub undo : now.undo ≡ first.undo
-  pub made : fold edited now (drop place edits) ≡ fold edited first edits
+  pub made : fold after_edit now (drop place edits) ≡ fold after_edit first edits
   pub fit : AllFit now.text (drop place edits)
   pub tick : now.tick +ℤ pos (length (drop place edits)) ≡ first.tick +ℤ pos (length edits)
-  pub told : events ++ told_from now.tick (drop place edits) ≡ before ++ told_from first.tick edits
+  pub told : events ++ events_from now.tick (drop place edits) ≡ before ++ events_from first.tick edits
 
 pub going_first : (buffer : Content) (events : List Spliced) (leg : Leg) → IsSealed buffer → IsNext buffer.undo leg
     → Going buffer events (leg_edits buffer.undo leg) buffer events 0
@@ -305,19 +314,19 @@ going_tick first now before events edits place edit most going here within =
     omega (arith, ints)
 
 pub going_on : (first now next : Content) (before events more : List Spliced) (edits : List Edit) (place : ℕ) (edit : Edit) (event : Spliced)
-    → Going first before edits now events place → slice_get edits place ≡ Some edit → next ≡ edited now edit
-    → event ≡ told (now.tick +ℤ pos 1) edit → more ≡ events ++ event ∷ [] → Going first before edits next more (place + 1)
+    → Going first before edits now events place → slice_get edits place ≡ Some edit → next ≡ after_edit now edit
+    → event ≡ event_at (now.tick +ℤ pos 1) edit → more ≡ events ++ event ∷ [] → Going first before edits next more (place + 1)
 going_on first now next before events more edits place edit event going here next_is event_is more_is =
     let rest : List Edit = drop (place + 1) edits in
     let left : drop place edits ≡ edit ∷ rest = left_at edits place edit here in
-    let all : Going first before edits (edited now edit) (events ++ told (now.tick +ℤ pos 1) edit ∷ []) (place + 1) = record {
+    let all : Going first before edits (after_edit now edit) (events ++ event_at (now.tick +ℤ pos 1) edit ∷ []) (place + 1) = record {
       undo = going.undo;
-      made = sym (ap (λ (es : List Edit). fold edited now es) left) ∙ going.made;
+      made = sym (ap (λ (es : List Edit). fold after_edit now es) left) ∙ going.made;
       fit = (subst (λ (es : List Edit). AllFit now.text es) left going.fit).1;
       tick = tick_next now.tick (length rest) ∙ sym (ap (λ (es : List Edit). now.tick +ℤ pos (length es)) left) ∙ going.tick;
       told =
-          append_assoc events (told (now.tick +ℤ pos 1) edit ∷ []) (told_from (now.tick +ℤ pos 1) rest)
-          ∙ sym (ap (λ (es : List Edit). events ++ told_from now.tick es) left)
+          append_assoc events (event_at (now.tick +ℤ pos 1) edit ∷ []) (events_from (now.tick +ℤ pos 1) rest)
+          ∙ sym (ap (λ (es : List Edit). events ++ events_from now.tick es) left)
           ∙ going.told;
     } in
     rw (next_is, more_is, event_is) all
@@ -325,36 +334,36 @@ going_on first now next before events more edits place edit event going here nex
 -- all of the edits were made
 pub record Gone (first : Content) (before : List Spliced) (edits : List Edit) (now : Content) (events : List Spliced) : Type 0 where
   pub undo : now.undo ≡ first.undo
-  pub made : now ≡ fold edited first edits
-  pub told : events ≡ before ++ told_from first.tick edits
+  pub made : now ≡ fold after_edit first edits
+  pub told : events ≡ before ++ events_from first.tick edits
 
 pub going_last : (first now : Content) (before events : List Spliced) (edits : List Edit) (place : ℕ) → Going first before edits now events place
     → length edits ≤ place → Gone first before edits now events
 going_last first now before events edits place going end =
     let none : drop place edits ≡ [] = drop_all place edits end in record {
       undo = going.undo;
-      made = sym (ap (λ (es : List Edit). fold edited now es) none) ∙ going.made;
+      made = sym (ap (λ (es : List Edit). fold after_edit now es) none) ∙ going.made;
       told =
           sym (append-nil events)
-          ∙ sym (ap (λ (es : List Edit). events ++ told_from now.tick es) none)
+          ∙ sym (ap (λ (es : List Edit). events ++ events_from now.tick es) none)
           ∙ going.told;
     }
 
 -- so the text is that of the leg's number
 pub gone_text : (first now : Content) (before events : List Spliced) (leg : Leg) → IsSealed first → IsNext first.undo leg
-    → Gone first before (leg_edits first.undo leg) now events → now.text ≡ text_at now.undo (gone leg now.undo).current
+    → Gone first before (leg_edits first.undo leg) now events → now.text ≡ text_at now.undo (tree_after_leg leg now.undo).current
 gone_text first now before events leg is next all =
     let runs : Runs first.undo leg = leg_runs first.text first.tick first.undo first.unsealed leg is.0 next in
     ap (λ (b : Content). b.text) all.made
     ∙ made-text first (leg_edits first.undo leg)
-    ∙ ap (λ (t : List (List ℕ)). fold applied t (leg_edits first.undo leg)) (sealed_text first is)
+    ∙ ap (λ (t : List (List ℕ)). fold lines_after t (leg_edits first.undo leg)) (sealed_text first is)
     ∙ runs.leads
-    ∙ sym (ap (λ (u : Undo (List Edit)). text_at u (gone leg u).current) all.undo)
+    ∙ sym (ap (λ (u : Undo (List Edit)). text_at u (tree_after_leg leg u).current) all.undo)
 
 -- and the buffer is the one after the leg, once it is gone in the tree
 pub gone_state : (first made now : Content) (before events : List Spliced) (leg : Leg) → IsSealed first → IsNext first.undo leg
     → Gone first before (leg_edits first.undo leg) made events
-    → now ≡ record made { modified = true; undo = gone leg made.undo; unsealed = [] } → now ≡ after_leg first leg
+    → now ≡ record made { modified = true; undo = tree_after_leg leg made.undo; unsealed = [] } → now ≡ after_leg first leg
 gone_state first made now before events leg is next all now_is =
     arrived-is first made now leg is.1 (sealed_text first is) (leg_runs first.text first.tick first.undo first.unsealed leg is.0 next) all.made now_is
 
@@ -368,8 +377,8 @@ pub record Walking (first : Content) (legs : List Leg) (now : Content) (events :
       now.tick +ℤ pos (length (flat_map (leg_edits now.undo) (drop place legs)))
       ≡ first.tick +ℤ pos (length (flat_map (leg_edits first.undo) legs))
   pub told :
-      events ++ told_from now.tick (flat_map (leg_edits now.undo) (drop place legs))
-      ≡ told_from first.tick (flat_map (leg_edits first.undo) legs)
+      events ++ events_from now.tick (flat_map (leg_edits now.undo) (drop place legs))
+      ≡ events_from first.tick (flat_map (leg_edits first.undo) legs)
 
 pub walking_first : (buffer : Content) (legs : List Leg) (events : List Spliced) → events ≡ [] → IsSealed buffer
     → ((to : ℕ) × Leads buffer.undo buffer.undo.current legs to) → Walking buffer legs buffer events 0
@@ -404,7 +413,7 @@ walking_tick first now legs events place leg most walking here within =
 
 pub walking_on : (first now next : Content) (legs : List Leg) (events more : List Spliced) (place : ℕ) (leg : Leg)
     → Walking first legs now events place → slice_get legs place ≡ Some leg → next ≡ after_leg now leg
-    → more ≡ events ++ told_from now.tick (leg_edits now.undo leg) → Walking first legs next more (place + 1)
+    → more ≡ events ++ events_from now.tick (leg_edits now.undo leg) → Walking first legs next more (place + 1)
 walking_on first now next legs events more place leg walking here next_is more_is =
     let rest : List Leg = drop (place + 1) legs in
     let edits : List Edit = leg_edits now.undo leg in
@@ -415,7 +424,7 @@ walking_on first now next legs events more place leg walking here next_is more_i
     let same : flat_map (leg_edits (after_leg now leg).undo) rest ≡ left =
     way_edits-same (after_leg now leg).undo now.undo rest (gone_changes leg now.undo) in
     let all : flat_map (leg_edits now.undo) (drop place legs) ≡ edits ++ left = edits_left now.undo legs place leg here in
-    let on : Walking first legs (after_leg now leg) (events ++ told_from now.tick edits) (place + 1) = record {
+    let on : Walking first legs (after_leg now leg) (events ++ events_from now.tick edits) (place + 1) = record {
       gone = sym (ap (λ (ls : List Leg). fold after_leg now ls) parts) ∙ walking.gone;
       sealed = leg_sealed now leg walking.sealed then.0;
       way = (walking.way.0, then.1);
@@ -425,10 +434,10 @@ walking_on first now next legs events more place leg walking here next_is more_i
           ∙ sym (ap (λ (es : List Edit). now.tick +ℤ pos (length es)) all)
           ∙ walking.tick;
       told =
-          ap (λ (es : List Edit). (events ++ told_from now.tick edits) ++ told_from (now.tick +ℤ pos (length edits)) es) same
-          ∙ append_assoc events (told_from now.tick edits) (told_from (now.tick +ℤ pos (length edits)) left)
+          ap (λ (es : List Edit). (events ++ events_from now.tick edits) ++ events_from (now.tick +ℤ pos (length edits)) es) same
+          ∙ append_assoc events (events_from now.tick edits) (events_from (now.tick +ℤ pos (length edits)) left)
           ∙ ap (λ (ts : List Spliced). events ++ ts) (sym (told_from-append now.tick edits left))
-          ∙ sym (ap (λ (es : List Edit). events ++ told_from now.tick es) all)
+          ∙ sym (ap (λ (es : List Edit). events ++ events_from now.tick es) all)
           ∙ walking.told;
     } in
     rw (next_is, more_is) on
@@ -437,7 +446,7 @@ walking_on first now next legs events more place leg walking here next_is more_i
 pub record Walked (first : Content) (legs : List Leg) (now : Content) (events : List Spliced) : Type 0 where
   pub gone : now ≡ fold after_leg first legs
   pub sealed : IsSealed now
-  pub told : events ≡ told_from first.tick (flat_map (leg_edits first.undo) legs)
+  pub told : events ≡ events_from first.tick (flat_map (leg_edits first.undo) legs)
 
 pub walking_last : (first now : Content) (legs : List Leg) (events : List Spliced) (place : ℕ) → Walking first legs now events place
     → length legs ≤ place → Walked first legs now events
@@ -447,7 +456,7 @@ walking_last first now legs events place walking end =
       sealed = walking.sealed;
       told =
           sym (append-nil events)
-          ∙ sym (ap (λ (ls : List Leg). events ++ told_from now.tick (flat_map (leg_edits now.undo) ls)) none)
+          ∙ sym (ap (λ (ls : List Leg). events ++ events_from now.tick (flat_map (leg_edits now.undo) ls)) none)
           ∙ walking.told;
     }
 
@@ -495,17 +504,17 @@ pub way_to_child : {E : Type 0} (undo : Undo E) (n : ℕ) (legs : List Leg) → 
 way_to_child undo n legs is child = subst (λ (ls : List Leg). (to : ℕ) × Leads undo undo.current ls to) (sym is) (n, (child, refl))
 
 -- ---- from the buffer before it was sealed
-sealed_tick : (buffer : Content) (edits : List Edit) → (sealed_with buffer edits).tick ≡ buffer.tick
+sealed_tick : (buffer : Content) (edits : List Edit) → (after_seal_of buffer edits).tick ≡ buffer.tick
 sealed_tick buffer [] = refl
 sealed_tick buffer (edit ∷ edits) = refl
 
-pub undo_to_told : (old mid : Content) (n : ℕ) (slice legs : List Leg) → mid ≡ sealed old → slice ≡ legs
+pub undo_to_told : (old mid : Content) (n : ℕ) (slice legs : List Leg) → mid ≡ after_seal old → slice ≡ legs
     → legs ≡ path mid.undo mid.undo.current n
-    → told_from mid.tick (flat_map (leg_edits mid.undo) slice) ≡ told_from old.tick (undo_to_edits n old)
+    → events_from mid.tick (flat_map (leg_edits mid.undo) slice) ≡ events_from old.tick (undo_to_edits n old)
 undo_to_told old mid n slice legs mid_is slice_is legs_is =
-    ap (λ (ls : List Leg). told_from mid.tick (flat_map (leg_edits mid.undo) ls)) (slice_is ∙ legs_is)
-    ∙ ap (λ (b : Content). told_from b.tick (flat_map (leg_edits b.undo) (path b.undo b.undo.current n))) mid_is
-    ∙ ap (λ (t : ℤ). told_from t (undo_to_edits n old)) (sealed_tick old old.unsealed)
+    ap (λ (ls : List Leg). events_from mid.tick (flat_map (leg_edits mid.undo) ls)) (slice_is ∙ legs_is)
+    ∙ ap (λ (b : Content). events_from b.tick (flat_map (leg_edits b.undo) (path b.undo b.undo.current n))) mid_is
+    ∙ ap (λ (t : ℤ). events_from t (undo_to_edits n old)) (sealed_tick old old.unsealed)
 
 -- the text at the number that was come to
 pub text_at_number : {T E : Type 0} (result : Result T E) (buffer : Content) (n : ℕ) → OnOk result (buffer.text ≡ text_at buffer.undo buffer.undo.current)

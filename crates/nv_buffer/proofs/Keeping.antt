@@ -6,14 +6,16 @@ use Rattle.std.proofs.lemmas.List.{append-nil, length_push}
 use Rattle.std.proofs.lemmas.List.Concat.{flat_map-append}
 use Rattle.std.proofs.lemmas.List.Elements.{All-cons}
 use Rattle.std.proofs.lemmas.Option.{none-some, same_Some}
-use Rattle.nv_undo.specs.Tree.{Undo, IsTree, no_changes, last, numbered, change_of, pushed, gone}
+use Rattle.nv_undo.specs.Tree.{Undo, IsTree, no_changes, last, numbered, change_of, pushed, tree_after_leg}
 use Rattle.nv_undo.specs.declared.legs.Leg.{Leg}
 use Rattle.nv_undo.specs.declared.legs.Leg.TheVariants.{Back, Ahead}
 use Rattle.nv_undo.proofs.NumberLemmas.{numbered-old, numbered-new, within_numbered, last-pushed, numbered_same}
 use Rattle.nv_undo.proofs.StepLemmas.{stays_tree, push_tree, back_tree, child_tree}
-use Rattle.nv_buffer.specs.Splices.{IsNarrowLine}
-use Rattle.nv_buffer.specs.Changes.{applied, first_text, Fits, AllFit, text_at, origin}
-use Rattle.nv_buffer.specs.Steps.{IsBufferText, kept_count, IsBuffer, IsNext}
+use Rattle.nv_buffer.specs.Splices.{IsBufferText, IsNarrowLine}
+use Rattle.nv_places.specs.Flat.{IsLine}
+use Rattle.nv_buffer.specs.Changes.{lines_after, first_text, Fits, AllFit, text_at}
+use Rattle.nv_buffer.specs.Steps.{kept_count, IsBuffer}
+use Rattle.nv_undo.specs.Ways.{origin, IsNext}
 use Rattle.nv_buffer.specs.declared.edit.Edit.{Edit}
 use Rattle.nv_buffer.proofs.WayBack.{AllFit-push, AllFit-text, fold-append}
 use Rattle.nv_buffer.proofs.KeptTexts.{numbered-of, text_at-first, text_at-stays, text_at-pushed, text_at-past, text_at-same}
@@ -22,7 +24,14 @@ pub first_is_text : IsBufferText first_text
 first_is_text = record {
   some = omega arith;
   narrow = record { count = omega arith; columns = All-cons IsNarrowLine [] [] (omega arith) (search rules) };
+  lines = All-cons IsLine [] [] (search rules) (search rules);
 }
+
+-- the text of a buffer
+pub text_of_buffer : (text : List (List ℕ)) (tick : ℤ) (undo : Undo (List Edit)) (unsealed : List Edit) → IsBuffer text tick undo unsealed
+    → IsBufferText text
+text_of_buffer text tick undo unsealed is =
+    subst IsBufferText (sym is.now) (AllFit-text (text_at undo undo.current) unsealed (is.texts undo.current) is.since)
 
 -- ---- a new buffer
 pub new_buffer : IsBuffer first_text (pos 2) no_changes []
@@ -45,15 +54,15 @@ new_buffer = record {
 
 -- ---- an edit
 pub edit_kept : (text : List (List ℕ)) (tick : ℤ) (undo : Undo (List Edit)) (unsealed : List Edit) (edit : Edit)
-    → IsBuffer text tick undo unsealed → Fits text edit → IsBuffer (applied text edit) (tick +ℤ pos 1) undo (unsealed ++ edit ∷ [])
+    → IsBuffer text tick undo unsealed → Fits text edit → IsBuffer (lines_after text edit) (tick +ℤ pos 1) undo (unsealed ++ edit ∷ [])
 edit_kept text tick undo unsealed edit is fits = record {
   tree = is.tree;
   texts = is.texts;
   changes = is.changes;
   since = AllFit-push (text_at undo undo.current) text unsealed edit is.since is.now fits;
   now =
-      ap (λ (t : List (List ℕ)). applied t edit) is.now
-      ∙ sym (fold-append applied (text_at undo undo.current) unsealed (edit ∷ []));
+      ap (λ (t : List (List ℕ)). lines_after t edit) is.now
+      ∙ sym (fold-append lines_after (text_at undo undo.current) unsealed (edit ∷ []));
   counted =
       let count : kept_count undo (unsealed ++ edit ∷ []) ≡ kept_count undo unsealed + 1 = omega (arith, length_push unsealed edit) in
       let before : pos (2 + kept_count undo unsealed) ≤ℤ tick = is.counted in
@@ -122,7 +131,7 @@ seal_kept text tick undo unsealed is = record {
   counted = rw count is.counted;
 }
   where
-    now : IsBufferText (fold applied (text_at undo undo.current) unsealed)
+    now : IsBufferText (fold lines_after (text_at undo undo.current) unsealed)
     now = AllFit-text (text_at undo undo.current) unsealed (is.texts undo.current) is.since
 
     count : kept_count (pushed unsealed undo) [] ≡ kept_count undo unsealed
@@ -135,35 +144,35 @@ seal_kept text tick undo unsealed is = record {
         )
 
 -- ---- a leg in the tree
-pub gone_changes : {E : Type 0} (leg : Leg) (undo : Undo E) → (gone leg undo).changes ≡ undo.changes
+pub gone_changes : {E : Type 0} (leg : Leg) (undo : Undo E) → (tree_after_leg leg undo).changes ≡ undo.changes
 gone_changes (Back n) undo = refl
 gone_changes (Ahead n) undo = refl
 
-pub gone_tree : {E : Type 0} (leg : Leg) (undo : Undo E) → IsTree undo → IsNext undo leg → IsTree (gone leg undo)
+pub gone_tree : {E : Type 0} (leg : Leg) (undo : Undo E) → IsTree undo → IsNext undo leg → IsTree (tree_after_leg leg undo)
 gone_tree (Back n) undo tree next = back_tree undo tree
 gone_tree (Ahead n) undo tree next = child_tree n undo tree next
 
 pub leg_kept : (before text : List (List ℕ)) (tick : ℤ) (undo : Undo (List Edit)) (unsealed : List Edit) (leg : Leg)
-    → IsBuffer before tick undo unsealed → IsNext undo leg → text ≡ text_at undo (gone leg undo).current
-    → IsBuffer text tick (gone leg undo) []
+    → IsBuffer before tick undo unsealed → IsNext undo leg → text ≡ text_at undo (tree_after_leg leg undo).current
+    → IsBuffer text tick (tree_after_leg leg undo) []
 leg_kept before text tick undo unsealed leg is next arrived = record {
   tree = gone_tree leg undo is.tree next;
   texts = λ n. subst IsBufferText (sym (same n)) (is.texts n);
   changes = λ n edits found.
-      let number : numbered (gone leg undo) n ≡ numbered undo n = numbered_same (gone leg undo) undo (gone_changes leg undo) n in
+      let number : numbered (tree_after_leg leg undo) n ≡ numbered undo n = numbered_same (tree_after_leg leg undo) undo (gone_changes leg undo) n in
       let there : change_of undo n ≡ Some edits = sym (ap (option_map (λ c. c.1)) number) ∙ found in
-      let from : origin (gone leg undo) n ≡ origin undo n =
+      let from : origin (tree_after_leg leg undo) n ≡ origin undo n =
       ap (λ (o : Option (ℕ × List Edit)). unwrap_or (option_map (λ c. c.0) o) 0) number in
-      subst (λ (t : List (List ℕ)). AllFit t edits) (sym (same (origin (gone leg undo) n) ∙ ap (text_at undo) from))
+      subst (λ (t : List (List ℕ)). AllFit t edits) (sym (same (origin (tree_after_leg leg undo) n) ∙ ap (text_at undo) from))
       (is.changes n edits there);
   since = tt;
-  now = arrived ∙ sym (same (gone leg undo).current);
+  now = arrived ∙ sym (same (tree_after_leg leg undo).current);
   counted =
-      let changes : length (flat_map (λ (c : ℕ × List Edit). c.1) (gone leg undo).changes) ≡ length (flat_map (λ (c : ℕ × List Edit). c.1) undo.changes) =
+      let changes : length (flat_map (λ (c : ℕ × List Edit). c.1) (tree_after_leg leg undo).changes) ≡ length (flat_map (λ (c : ℕ × List Edit). c.1) undo.changes) =
       ap (λ (cs : List (ℕ × List Edit)). length (flat_map (λ (c : ℕ × List Edit). c.1) cs)) (gone_changes leg undo) in
       let before : pos (2 + kept_count undo unsealed) ≤ℤ tick = is.counted in
       omega (arith, ints);
 }
   where
-    same : (n : ℕ) → text_at (gone leg undo) n ≡ text_at undo n
-    same n = text_at-same (gone leg undo) undo n (gone_changes leg undo)
+    same : (n : ℕ) → text_at (tree_after_leg leg undo) n ≡ text_at undo n
+    same n = text_at-same (tree_after_leg leg undo) undo n (gone_changes leg undo)

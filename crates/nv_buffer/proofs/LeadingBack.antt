@@ -1,13 +1,17 @@
 -- That each step has the edit that takes it back, kept by an edit, by closing a change, and by a leg in the tree.
 use Rattle.std.proofs.Common.{◌≡◌, ℕ, ℤ, pos, zero, suc, ◌-◌, ◌<◌, ◌≤◌, List, [], ◌∷◌, ◌++◌, length, map, reverse, fold, Option, Some, option_map, unwrap_or, slice_get, Result, Ok, Err, IfOk, inl, inr, refl, sym, ap, subst, ◌∙◌, arith}
 use Rattle.std.proofs.lemmas.List.{length-map, map_push, get_or-reverse, length-reverse}
+use Rattle.std.proofs.lemmas.List.Elements.{All-nil}
+use Rattle.nv_marks.specs.Marks.{Marks}
+use Rattle.nv_buffer.specs.Marks.{IsMarkIn, AreMarksIn}
 use Rattle.std.proofs.lemmas.Option.{slice_get-map, slice_get-get_or, get_or_from_slice_get, none-some}
-use Rattle.nv_undo.specs.Tree.{Undo, IsTree, no_changes, last, numbered, change_of, pushed, gone}
+use Rattle.nv_undo.specs.Tree.{Undo, IsTree, no_changes, last, numbered, change_of, pushed, tree_after_leg}
 use Rattle.nv_undo.specs.declared.legs.Leg.{Leg}
 use Rattle.nv_undo.proofs.NumberLemmas.{numbered_same}
 use Rattle.nv_buffer.specs.Splices.{IsNarrowText}
-use Rattle.nv_buffer.specs.Changes.{applied, inverse, each_inverse, inverses, first_text, text_at, edits_of, origin}
-use Rattle.nv_buffer.specs.Steps.{edits_ahead, tree_ahead, IsBuffer, LeadBack, AllLeadBack, IsNext}
+use Rattle.nv_buffer.specs.Changes.{lines_after, inverse_edit, each_inverse, inverse_edits, first_text, text_at, edits_of}
+use Rattle.nv_buffer.specs.Steps.{edits_ahead, edit_back, tree_ahead, IsBuffer, LeadBack, AllLeadBack}
+use Rattle.nv_undo.specs.Ways.{origin, IsNext}
 use Rattle.nv_buffer.specs.declared.edit.Edit.{Edit}
 use Rattle.nv_buffer.specs.declared.edit.Step.{Step}
 use Rattle.nv_buffer.proofs.WayBack.{each_inverse-push}
@@ -16,15 +20,15 @@ use Rattle.nv_buffer.proofs.TreeAhead.{change_ahead, changed-ahead, parent-ahead
 use Rattle.nv_buffer.proofs.Keeping.{first_is_text, new_buffer, seal_kept, leg_kept, pushed_cases, origin_below, gone_changes}
 
 pub LeadBack-push : (text now : List (List ℕ)) (steps : List Step) (step : Step) → LeadBack text steps
-    → now ≡ fold applied text (edits_ahead steps) → step.back ≡ inverse now step.ahead → LeadBack text (steps ++ step ∷ [])
+    → now ≡ fold lines_after text (edits_ahead steps) → edit_back step ≡ inverse_edit now step.ahead → LeadBack text (steps ++ step ∷ [])
 LeadBack-push text now steps step lead is back =
-    map_push (λ (s : Step). s.back) steps step
-    ∙ (λ i. lead i ++ (back ∙ ap (λ (t : List (List ℕ)). inverse t step.ahead) is) i ∷ [])
+    map_push edit_back steps step
+    ∙ (λ i. lead i ++ (back ∙ ap (λ (t : List (List ℕ)). inverse_edit t step.ahead) is) i ∷ [])
     ∙ sym (each_inverse-push text (edits_ahead steps) step.ahead)
     ∙ sym (ap (each_inverse text) (map_push (λ (s : Step). s.ahead) steps step))
 
 pub edit_leads : (text : List (List ℕ)) (tree : Undo (List Step)) (steps : List Step) (step : Step) → AllLeadBack tree steps
-    → text ≡ fold applied (text_at (tree_ahead tree) tree.current) (edits_ahead steps) → step.back ≡ inverse text step.ahead
+    → text ≡ fold lines_after (text_at (tree_ahead tree) tree.current) (edits_ahead steps) → edit_back step ≡ inverse_edit text step.ahead
     → AllLeadBack tree (steps ++ step ∷ [])
 edit_leads text tree steps step lead is back = record {
   changes = lead.changes;
@@ -69,24 +73,24 @@ seal_leads tree steps is lead = record {
   since = refl;
 }
 
-pub leg_leads : (tree : Undo (List Step)) (steps : List Step) (leg : Leg) → AllLeadBack tree steps → AllLeadBack (gone leg tree) []
+pub leg_leads : (tree : Undo (List Step)) (steps : List Step) (leg : Leg) → AllLeadBack tree steps → AllLeadBack (tree_after_leg leg tree) []
 leg_leads tree steps leg lead = record {
   changes = λ n found at.
-      let number : numbered (gone leg tree) n ≡ numbered tree n = numbered_same (gone leg tree) tree (changes_stay leg) n in
+      let number : numbered (tree_after_leg leg tree) n ≡ numbered tree n = numbered_same (tree_after_leg leg tree) tree (changes_stay leg) n in
       let there : change_of tree n ≡ Some found = sym (ap (option_map (λ c. c.1)) number) ∙ at in
-      let from : origin (tree_ahead (gone leg tree)) n ≡ origin (tree_ahead tree) n =
-      origin-ahead (gone leg tree) n
+      let from : origin (tree_ahead (tree_after_leg leg tree)) n ≡ origin (tree_ahead tree) n =
+      origin-ahead (tree_after_leg leg tree) n
       ∙ ap (λ (o : Option (ℕ × List Step)). unwrap_or (option_map (λ c. c.0) o) 0) number
       ∙ sym (origin-ahead tree n) in
-      let same : text_at (tree_ahead (gone leg tree)) (origin (tree_ahead (gone leg tree)) n) ≡ text_at (tree_ahead tree) (origin (tree_ahead tree) n) =
-      ap (text_at (tree_ahead (gone leg tree))) from
-      ∙ text_at-same (tree_ahead (gone leg tree)) (tree_ahead tree) (origin (tree_ahead tree) n)
+      let same : text_at (tree_ahead (tree_after_leg leg tree)) (origin (tree_ahead (tree_after_leg leg tree)) n) ≡ text_at (tree_ahead tree) (origin (tree_ahead tree) n) =
+      ap (text_at (tree_ahead (tree_after_leg leg tree))) from
+      ∙ text_at-same (tree_ahead (tree_after_leg leg tree)) (tree_ahead tree) (origin (tree_ahead tree) n)
       (ap (λ (cs : List (ℕ × List Step)). map (λ (c : ℕ × List Step). (c.0, edits_ahead c.1)) cs) (changes_stay leg)) in
       subst (λ (t : List (List ℕ)). LeadBack t found) (sym same) (lead.changes n found there);
   since = refl;
 }
   where
-    changes_stay : (leg : Leg) → (gone leg tree).changes ≡ tree.changes
+    changes_stay : (leg : Leg) → (tree_after_leg leg tree).changes ≡ tree.changes
     changes_stay leg = gone_changes leg tree
 
 -- an element from the end of a list
@@ -98,30 +102,32 @@ slice_get-reverse {X} xs place x within here =
 
 -- the edits that take a change back, from the end of its steps
 pub back_found : (text : List (List ℕ)) (steps : List Step) (place : ℕ) (step : Step) → LeadBack text steps → place < length steps
-    → slice_get steps (length steps - 1 - place) ≡ Some step → slice_get (inverses text (edits_ahead steps)) place ≡ Some step.back
+    → slice_get steps (length steps - 1 - place) ≡ Some step → slice_get (inverse_edits text (edits_ahead steps)) place ≡ Some (edit_back step)
 back_found text steps place step lead within here =
-    let backs : List Edit = map (λ (s : Step). s.back) steps in
-    let count : length backs ≡ length steps = length-map steps (λ (s : Step). s.back) in
-    let at : slice_get backs (length steps - 1 - place) ≡ Some step.back =
-    slice_get-map (λ (s : Step). s.back) steps (length steps - 1 - place) ∙ ap (option_map (λ (s : Step). s.back)) here in
-    let there : slice_get backs (length backs - 1 - place) ≡ Some step.back = ap (λ (n : ℕ). slice_get backs (n - 1 - place)) count ∙ at in
+    let backs : List Edit = map edit_back steps in
+    let count : length backs ≡ length steps = length-map steps edit_back in
+    let at : slice_get backs (length steps - 1 - place) ≡ Some (edit_back step) =
+    slice_get-map edit_back steps (length steps - 1 - place) ∙ ap (option_map edit_back) here in
+    let there : slice_get backs (length backs - 1 - place) ≡ Some (edit_back step) = ap (λ (n : ℕ). slice_get backs (n - 1 - place)) count ∙ at in
     ap (λ (es : List Edit). slice_get (reverse es) place) (sym lead)
-    ∙ slice_get-reverse backs place step.back (omega arith) there
+    ∙ slice_get-reverse backs place (edit_back step) (omega arith) there
 
 pub ahead_found : (steps : List Step) (place : ℕ) (step : Step) → slice_get steps place ≡ Some step
     → slice_get (edits_ahead steps) place ≡ Some step.ahead
 ahead_found steps place step here = slice_get-map (λ (s : Step). s.ahead) steps place ∙ ap (option_map (λ (s : Step). s.ahead)) here
 
 -- ---- what is known of a new buffer
-pub record Begins (text : List (List ℕ)) (tree : Undo (List Step)) (steps : List Step) : Type 0 where
+pub record Begins (text : List (List ℕ)) (tree : Undo (List Step)) (steps : List Step) (marks : Marks) : Type 0 where
   pub narrow : IsNarrowText text
   pub buffer : IsBuffer text (pos 2) (tree_ahead tree) (edits_ahead steps)
   pub lead : AllLeadBack tree steps
+  pub places : AreMarksIn text marks
 
-pub begins : (text : List (List ℕ)) (tree : Undo (List Step)) (steps : List Step) → text ≡ first_text → tree ≡ no_changes → steps ≡ []
-    → Begins text tree steps
-begins text tree steps text_is tree_is steps_is =
-    rw (text_is, tree_is, steps_is) (record { narrow = first_is_text.narrow; buffer = new_buffer; lead = new_leads })
+pub begins : (text : List (List ℕ)) (tree : Undo (List Step)) (steps : List Step) (marks : Marks) → text ≡ first_text → tree ≡ no_changes
+    → steps ≡ [] → marks ≡ record { marks = []; greatest = [] } → Begins text tree steps marks
+begins text tree steps marks text_is tree_is steps_is marks_is =
+    rw (text_is, tree_is, steps_is, marks_is)
+    (record { narrow = first_is_text.narrow; buffer = new_buffer; lead = new_leads; places = All-nil (IsMarkIn first_text) })
 
 -- ---- an edit of a change, as it was copied
 edits_found : (undo : Undo (List Edit)) (tree : Undo (List Step)) (n : ℕ) (steps : List Step) → tree_ahead tree ≡ undo
@@ -141,12 +147,12 @@ ahead_copied (Err e) undo tree n place steps step undo_is there here same = same
 
 pub back_copied : {E : Type 0} (copied : Result Edit E) (undo : Undo (List Edit)) (tree : Undo (List Step)) (unsealed : List Step) (n place : ℕ)
     (steps : List Step) (step : Step) → tree_ahead tree ≡ undo → AllLeadBack tree unsealed → Some steps ≡ change_of tree n
-    → place < length (edits_of undo n) → slice_get steps (length steps - 1 - place) ≡ Some step → IfOk copied (λ copy. copy ≡ step.back)
-    → IfOk copied (λ edit. slice_get (inverses (text_at undo (origin undo n)) (edits_of undo n)) place ≡ Some edit)
+    → place < length (edits_of undo n) → slice_get steps (length steps - 1 - place) ≡ Some step → IfOk copied (λ copy. copy ≡ (edit_back step))
+    → IfOk copied (λ edit. slice_get (inverse_edits (text_at undo (origin undo n)) (edits_of undo n)) place ≡ Some edit)
 back_copied (Ok copy) undo tree unsealed n place steps step undo_is lead there within here same =
     let edits : edits_of undo n ≡ edits_ahead steps = edits_found undo tree n steps undo_is there in
     let count : length (edits_of undo n) ≡ length steps = ap length edits ∙ length-map steps (λ (s : Step). s.ahead) in
-    (λ i. slice_get (inverses (text_at (sym undo_is i) (origin (sym undo_is i) n)) (edits i)) place)
+    (λ i. slice_get (inverse_edits (text_at (sym undo_is i) (origin (sym undo_is i) n)) (edits i)) place)
     ∙ back_found (text_at (tree_ahead tree) (origin (tree_ahead tree) n)) steps place step (lead.changes n steps (sym there)) (omega arith) here
     ∙ ap (λ (e : Edit). Some e) (sym same)
 back_copied (Err e) undo tree unsealed n place steps step undo_is lead there within here same = same
@@ -170,7 +176,7 @@ sealed_stands text tick tree now unsealed change left is lead here change_is now
 
 pub leg_stands : (text : List (List ℕ)) (tick : ℤ) (tree now : Undo (List Step)) (unsealed left : List Step) (leg : Leg)
     → IsBuffer text tick (tree_ahead tree) (edits_ahead unsealed) → AllLeadBack tree unsealed → IsNext (tree_ahead tree) leg
-    → text ≡ text_at (tree_ahead tree) (gone leg (tree_ahead tree)).current → now ≡ gone leg tree → left ≡ [] → Stands text tick now left
+    → text ≡ text_at (tree_ahead tree) (tree_after_leg leg (tree_ahead tree)).current → now ≡ tree_after_leg leg tree → left ≡ [] → Stands text tick now left
 leg_stands text tick tree now unsealed left leg is lead next arrived now_is left_is = rw (now_is, left_is) (record {
   buffer =
       subst (λ (t : Undo (List Edit)). IsBuffer text tick t []) (sym (gone-ahead leg tree))

@@ -1,7 +1,10 @@
 pub mod Between
 pub mod Measures
+pub mod MarkOrders
 pub mod WayBack
+pub mod Placing
 pub mod Edits
+pub mod Reaches
 pub mod KeptTexts
 pub mod TreeAhead
 pub mod Keeping

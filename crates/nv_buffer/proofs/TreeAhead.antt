@@ -4,11 +4,12 @@ use Rattle.std.proofs.lemmas.List.{length-map, map_push}
 use Rattle.std.proofs.lemmas.Option.{slice_get-map}
 use Rattle.std.specs.Prelude.{slice_set}
 use Rattle.std.specs.Option.{option_map_or}
-use Rattle.nv_undo.specs.Tree.{Undo, tree_of, IsTree, last, numbered, parent_of, change_of, ancestors_within, ancestors, without, path, pushed, gone}
+use Rattle.nv_undo.specs.Tree.{Undo, tree_of, IsTree, last, numbered, parent_of, change_of, ancestors_within, ancestors, those_outside, path, pushed, tree_after_leg}
 use Rattle.nv_undo.specs.declared.legs.Leg.{Leg}
 use Rattle.nv_undo.specs.declared.legs.Leg.TheVariants.{Back, Ahead}
 use Rattle.nv_buffer.specs.Content.{Content}
-use Rattle.nv_buffer.specs.Steps.{edits_ahead, tree_ahead, IsNext}
+use Rattle.nv_buffer.specs.Steps.{edits_ahead, tree_ahead}
+use Rattle.nv_undo.specs.Ways.{IsNext}
 use Rattle.nv_buffer.specs.declared.edit.Edit.{Edit}
 use Rattle.nv_buffer.specs.declared.edit.Step.{Step}
 
@@ -59,7 +60,7 @@ pushed-ahead steps tree =
     tree_of (map_push change_ahead tree.changes (tree.current, steps) i) (suc (sym count i))
     (slice_set tree.entered tree.current (suc (sym count i)) ++ 0 ∷ [])
 
-pub gone-ahead : (leg : Leg) (tree : Undo (List Step)) → tree_ahead (gone leg tree) ≡ gone leg (tree_ahead tree)
+pub gone-ahead : (leg : Leg) (tree : Undo (List Step)) → tree_ahead (tree_after_leg leg tree) ≡ tree_after_leg leg (tree_ahead tree)
 gone-ahead (Back n) tree =
     ap (λ (o : Option ℕ). tree_of (map change_ahead tree.changes) (unwrap_or o tree.current) tree.entered) (sym (parent-ahead tree tree.current))
 gone-ahead (Ahead n) tree =
@@ -80,7 +81,7 @@ pub path-ahead : (tree : Undo (List Step)) (from to : ℕ) → path (tree_ahead 
 path-ahead tree from to =
     let a : ancestors (tree_ahead tree) from ≡ ancestors tree from = within-ahead from tree from in
     let b : ancestors (tree_ahead tree) to ≡ ancestors tree to = within-ahead to tree to in
-    λ i. map (λ n. Back n) (without (b i) (a i)) ++ map (λ n. Ahead n) (reverse (without (a i) (b i)))
+    λ i. map (λ n. Back n) (those_outside (b i) (a i)) ++ map (λ n. Ahead n) (reverse (those_outside (a i) (b i)))
 
 -- a leg that can be gone there can be gone here
 pub next-behind : (tree : Undo (List Step)) (leg : Leg) → IsNext (tree_ahead tree) leg → IsNext tree leg
@@ -89,11 +90,11 @@ next-behind tree (Ahead n) next = sym (parent-ahead tree n) ∙ next
 
 -- a buffer as it is seen once a leg is gone in its tree
 pub arrived_seen : (before now : Content) (tree moved : Undo (List Step)) (unsealed : List Step) (leg : Leg) → before ≡ now
-    → before.undo ≡ tree_ahead tree → moved ≡ gone leg tree → unsealed ≡ []
+    → before.undo ≡ tree_ahead tree → moved ≡ tree_after_leg leg tree → unsealed ≡ []
     → record before { modified = true; undo = tree_ahead moved; unsealed = edits_ahead unsealed }
-    ≡ record now { modified = true; undo = gone leg now.undo; unsealed = [] }
+    ≡ record now { modified = true; undo = tree_after_leg leg now.undo; unsealed = [] }
 arrived_seen before now tree moved unsealed leg same undo_is moved_is none =
-    let undo : tree_ahead moved ≡ gone leg before.undo =
-    ap tree_ahead moved_is ∙ gone-ahead leg tree ∙ ap (λ (u : Undo (List Edit)). gone leg u) (sym undo_is) in
+    let undo : tree_ahead moved ≡ tree_after_leg leg before.undo =
+    ap tree_ahead moved_is ∙ gone-ahead leg tree ∙ ap (λ (u : Undo (List Edit)). tree_after_leg leg u) (sym undo_is) in
     (λ i. record before { modified = true; undo = undo i; unsealed = edits_ahead (none i) })
-    ∙ ap (λ (b : Content). record b { modified = true; undo = gone leg b.undo; unsealed = [] }) same
+    ∙ ap (λ (b : Content). record b { modified = true; undo = tree_after_leg leg b.undo; unsealed = [] }) same

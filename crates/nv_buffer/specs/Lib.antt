@@ -1,4 +1,5 @@
 pub mod Splices
+pub mod Marks
 pub mod Changes
 pub mod Content
 pub mod Steps

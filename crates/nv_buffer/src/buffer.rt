@@ -1,47 +1,42 @@
 // A buffer.
 ghost use Rattle.std.specs.Prelude.{◌≡◌, ◌+◌, ◌-◌, ◌^◌, ◌<◌, ◌≤◌, ◌↔◌, ◌<ℤ◌, ◌+ℤ◌, pos, true, false, [], ◌∷◌, length, All, Some, slice_get, IsTrue, IsSome, IfSome, IfOk, OnOk, OnErr};
-ghost use Rattle.std.specs.List.{splice, join_with_byte};
-ghost use Rattle.nv_places.specs.Flat.{flat, row_start};
-ghost use Rattle.nv_places.specs.Places.{offset_of, is_before};
+ghost use Rattle.std.specs.List.{join_with_byte};
+ghost use Rattle.nv_places.specs.Flat.{flat, IsLine};
+ghost use Rattle.nv_places.specs.Places.{offset_of, is_before, further, IsNarrow};
 ghost use Rattle.nv_lines.specs.Text.{IsText};
-ghost use Rattle.nv_buffer.specs.Splices.{IsInLine, IsNarrowLine, IsNarrowText, lines_between};
-ghost use Rattle.nv_buffer.specs.Changes.{Replaces, Fits, inverses, text_at, origin, edits_of, leg_edits};
-ghost use Rattle.nv_buffer.specs.Content.{IsEdit, edited, edit_of, told, lines_told, text_told, sealed};
-ghost use Rattle.nv_buffer.specs.Steps.{IsBuffer, IsNext, kept_count};
-ghost use Rattle.nv_undo.specs.Tree.{no_changes, last, gone, parent_of, child_of, path};
-ghost use Rattle.nv_undo.specs.Ways.{Leads};
+ghost use Rattle.nv_marks.specs.Marks.{mark_at};
+ghost use Rattle.nv_marks.specs.Moves.{MovesNarrowly};
+ghost use Rattle.nv_buffer.specs.Splices.{IsBufferText, IsInLine, IsNarrowLine, IsNarrowText, lines_between};
+ghost use Rattle.nv_buffer.specs.Marks.{AreMarksIn, IsMarkIn, IsMarked, IsUnmarked, marks_after};
+ghost use Rattle.nv_buffer.specs.Changes.{rows_edit, text_edit, Fits, text_at, edits_of, leg_edits};
+ghost use Rattle.nv_buffer.specs.Content.{IsEdit, fresh_content, after_edit, event_at, rows_event, text_event, after_seal};
+ghost use Rattle.nv_buffer.specs.Steps.{IsBuffer, kept_count};
+ghost use Rattle.nv_undo.specs.Tree.{last, tree_after_leg, parent_of, child_of, path};
+ghost use Rattle.nv_undo.specs.Ways.{Leads, origin, IsNext};
+ghost use Rattle.nv_undo.specs.declared.legs.Leg.TheVariants.{Back};
 
-use crate::copying::{copied, rows};
 use crate::edit::{Change, Edit, Step};
 use crate::joining::{before, behind, is_one_empty, joined};
+use crate::reaching::{extent_between, flat_len_of, joined_reach, rows_reached};
 use nv_lines::{Line, LineList, Lines};
+use nv_marks::{Mark, MarkSet};
 use nv_places::Pos;
 use nv_undo::{Leg, UndoTree};
 use std::alloc::{AllocError, Global};
 use std::marker::Model;
 use std::mem;
 
-/// What a splice of a buffer's text has changed, in numbers of the buffer before it. Rows and offsets count from 0.
+/// An edit of a buffer's text as it is told, and the changedtick after it (help:
+/// nvim_buf_lines_event).
 #[derive(Drop)]
 pub struct Spliced {
-    /// The changedtick after the splice.
     pub tick: i64,
-    /// The first row that was replaced.
-    pub first: u32,
-    /// The row after the last one that was replaced.
-    pub last: u32,
-    /// The lines that now stand in place of these rows.
-    pub lines: LineList,
-    /// The offset in the flat text at which bytes were replaced.
-    pub at: u64,
-    /// How many bytes were removed there.
-    pub old: u64,
-    /// How many bytes were put there.
-    pub new: u64,
+    pub edit: Edit,
 }
 
-/// A buffer: its text, its changedtick, its name, its options and its handle, and its changes. The text has a line at
-/// least, and its rows and columns are numbers of 32 bits.
+/// A buffer: its text, its changedtick, its name, its options and its handle, its marks and its
+/// changes. The text has a line at least, and its rows and columns are numbers of 32 bits. Start
+/// and end of each mark are places of the text.
 #[derive(Drop)]
 pub struct Buffer {
     alloc: Global,
@@ -53,6 +48,7 @@ pub struct Buffer {
     modified: bool,
     listed: bool,
     tabstop: u32,
+    marks: MarkSet,
     tree: UndoTree<Change>,
     // The steps that were made since the last change was closed.
     unsealed: Vec<Step>,
@@ -62,32 +58,51 @@ impl Model for Buffer {
     ghost use Rattle.std.specs.Prelude.{◌≤◌};
     ghost use Rattle.nv_buffer.specs.Splices.{IsNarrowText};
     ghost use Rattle.nv_buffer.specs.Content.{Content};
+    ghost use Rattle.nv_buffer.specs.Marks.{AreMarksIn};
     ghost use Rattle.nv_buffer.specs.Steps.{tree_ahead, edits_ahead, IsBuffer, AllLeadBack};
 
     ghost Value = { Content };
 
-    ghost view = { λ b. record { handle = b.handle; text = b.text; tick = b.tick; name = b.name; modifiable = b.modifiable; modified = b.modified; listed = b.listed; tabstop = b.tabstop; undo = tree_ahead b.tree; unsealed = edits_ahead b.unsealed.items } };
+    ghost view = { λ b. record {
+      handle = b.handle;
+      text = b.text;
+      tick = b.tick;
+      name = b.name;
+      modifiable = b.modifiable;
+      modified = b.modified;
+      listed = b.listed;
+      tabstop = b.tabstop;
+      marks = b.marks;
+      undo = tree_ahead b.tree;
+      unsealed = edits_ahead b.unsealed.items;
+    } };
 
-    ghost invariant = { λ b. IsNarrowText b.text × (1 ≤ b.tabstop) × (b.tabstop ≤ 9999) × IsBuffer b.text b.tick (tree_ahead b.tree) (edits_ahead b.unsealed.items) × AllLeadBack b.tree b.unsealed.items };
+    ghost invariant = { λ b. IsNarrowText b.text × (1 ≤ b.tabstop) × (b.tabstop ≤ 9999)
+        × IsBuffer b.text b.tick (tree_ahead b.tree) (edits_ahead b.unsealed.items)
+        × AllLeadBack b.tree b.unsealed.items
+        × AreMarksIn b.text b.marks };
 }
 
 impl Buffer {
-    /// A buffer with one empty line, no name, changedtick 2, 'tabstop' 8, modifiable, not modified, listed and without
-    /// changes.
+    /// A buffer with one empty line, no name, changedtick 2, 'tabstop' 8, modifiable, not modified,
+    /// listed, without marks and without changes.
     pub fn new(alloc: Global, handle: i64) -> Result<Buffer, AllocError>
-        ensures { IfOk result (λ buffer. buffer ≡ record { handle = handle; text = [] ∷ []; tick = pos 2; name = []; modifiable = true; modified = false; listed = true; tabstop = 8; undo = no_changes; unsealed = [] }) }
+        ensures { IfOk result (λ buffer. buffer ≡ fresh_content handle true) }
     {
         let text = Lines::new(alloc)?;
+        let name = Line::new(alloc)?;
+        let marks = MarkSet::new(alloc)?;
         Ok(Buffer {
             alloc,
             handle,
             text,
             tick: 2,
-            name: Line::new(alloc),
+            name,
             modifiable: true,
             modified: false,
             listed: true,
             tabstop: 8,
+            marks,
             tree: UndoTree::new(alloc)?,
             unsealed: Vec::new(alloc),
         })
@@ -184,8 +199,38 @@ impl Buffer {
         self.tabstop = cells;
     }
 
-    /// Puts `new` in place of the rows from `from` up to before `to` (help: nvim_buf_set_lines()). `None` exactly where
-    /// no row is removed and no line put, and then nothing changes. Where memory is wanting nothing changes either.
+    /// The marks, in their order.
+    pub fn marks(&self) -> &MarkSet
+        ensures value { result.now ≡ self.now.marks }
+        ensures places { AreMarksIn self.now.text result.now }
+    {
+        &self.marks
+    }
+
+    /// Sets a mark anew as a whole, where none of its namespace and id is or where it stands
+    /// elsewhere (help: nvim_buf_set_extmark()). Where memory is wanting nothing changes.
+    pub fn set_mark(&mut self, mark: Mark) -> Result<(), AllocError>
+        requires places { IsMarkIn self.old.text mark }
+        ensures marks { OnOk result (IsMarked self.old.marks self.new.marks mark) }
+        ensures rest { self.new ≡ record self.old { marks = self.new.marks } }
+        ensures err { OnErr result (self.new ≡ self.old) }
+    {
+        self.marks.set(mark)
+    }
+
+    /// Removes the mark of a namespace and id, and answers it. `None` exactly where there is none,
+    /// and then nothing changes. Its id still counts for the next one.
+    pub fn remove_mark(&mut self, ns: u32, id: u32) -> Option<Mark>
+        ensures taken { result ≡ mark_at self.old.marks.marks ns id }
+        ensures marks { IsUnmarked self.old.marks self.new.marks ns id }
+        ensures rest { self.new ≡ record self.old { marks = self.new.marks } }
+    {
+        self.marks.remove(ns, id)
+    }
+
+    /// Puts `new` in place of the rows from `from` up to before `to` (help: nvim_buf_set_lines()).
+    /// `None` exactly where no row is removed and no line put, and then nothing changes. Where
+    /// memory is wanting nothing changes either.
     pub fn put_lines(
         &mut self,
         from: usize,
@@ -200,83 +245,54 @@ impl Buffer {
         requires tick { ¬ ((from ≡ to) × (new ≡ [])) → self.old.tick <ℤ i64.MAX }
         ensures some { IfOk result (λ spliced. IsSome spliced ↔ ¬ ((from ≡ to) × (new ≡ []))) }
         ensures none { IfOk result (λ spliced. spliced ≡ None → self.new ≡ self.old) }
-        ensures told { IfOk result (λ spliced. IfSome spliced (λ event. event ≡ lines_told self.old from to new)) }
-        ensures edit { IfOk result (λ spliced. IfSome spliced (IsEdit self.old self.new (flat new))) }
+        ensures told { IfOk result (λ spliced.
+            IfSome spliced (λ event. event ≡ rows_event self.old from to new)) }
+        ensures edit { IfOk result (λ spliced.
+            IfSome spliced (IsEdit self.old self.new (flat new))) }
         ensures err { OnErr result (self.new ≡ self.old) }
     {
         if from == to && new.is_empty() {
             return Ok(None);
         }
-        let at = self.text().offset(from);
-        let old = self.text().flat_len_between(from, to);
-        Ok(Some(self.put_rows(from, to, new, at, old)?))
+        let edit = self.rows_edit(from, to, new);
+        Ok(Some(self.put_edit(edit)?))
     }
 
-    // Puts `lines` in place of rows, where that replaces `old` bytes of the flat text at the offset `at`.
-    fn put_rows(
-        &mut self,
-        from: usize,
-        to: usize,
-        lines: LineList,
-        at: u64,
-        old: u64,
-    ) -> Result<Spliced, AllocError>
+    // Lines put in place of rows, as an edit.
+    fn rows_edit(&self, from: usize, to: usize, new: LineList) -> Edit
         requires order { from ≤ to }
-        requires within { to ≤ length self.old.text }
-        requires left { to < from + length lines + length self.old.text }
-        requires count { from + length lines + length self.old.text < to + 2 ^ 32 }
-        requires columns { All IsNarrowLine lines }
-        requires tick { self.old.tick <ℤ i64.MAX }
-        requires removed { old ≤ length (flat self.old.text) }
-        requires kept { length (flat self.old.text) ≤ length (flat (splice self.old.text from to lines)) + old }
-        requires bytes { Replaces (flat self.old.text) (flat (splice self.old.text from to lines)) at old (length (flat (splice self.old.text from to lines)) - (length (flat self.old.text) - old)) }
-        ensures ok { IfOk result (λ event. self.new ≡ edited self.old (edit_of event)) }
-        ensures told { IfOk result (λ event. event ≡ record { tick = self.old.tick +ℤ pos 1; first = from; last = to; lines = lines; at = at; old = old; new = length (flat (splice self.old.text from to lines)) - (length (flat self.old.text) - old) }) }
-        ensures err { OnErr result (self.new ≡ self.old) }
+        requires within { to ≤ length self.now.text }
+        requires columns { All IsNarrowLine new }
+        requires count { from + length new + length self.now.text < to + 2 ^ 32 }
+        ensures edit { result ≡ rows_edit self.now.text from to new }
+        ensures lines { All IsLine result.lines }
+        ensures text { IsBufferText self.now.text }
     {
-        let told = copied(self.alloc, &lines)?;
-        let put = copied(self.alloc, &lines)?;
-        let taken = rows(self.alloc, &self.text, from, to)?;
-        self.unsealed.reserve(1)?;
-        let kept = self.text.flat_len() - old;
-        self.text.replace(from, to, lines)?;
-        let new = self.text.flat_len() - kept;
-        self.tick += 1;
-        self.modified = true;
-        let first = from as u32;
-        let last = to as u32;
-        let ahead = Edit {
-            first,
-            last,
-            lines: put,
-            at,
-            old,
-            new,
-        };
-        let end = first + told.len() as u32;
-        let back = Edit {
-            first,
-            last: end,
-            lines: taken,
-            at,
-            old: new,
-            new: old,
-        };
-        self.unsealed.push_reserved(Step { ahead, back });
-        Ok(Spliced {
-            tick: self.tick,
-            first,
-            last,
-            lines: told,
-            at,
-            old,
-            new,
-        })
+        self.known();
+        let put = rows_reached(new.len());
+        let bytes = flat_len_of(&new);
+        Edit {
+            first: from as u32,
+            last: to as u32,
+            lines: new,
+            at: self.text.offset(from),
+            old: self.text.flat_len_between(from, to),
+            new: bytes,
+            start: Pos {
+                row: from as u32,
+                col: 0,
+            },
+            removed: rows_reached(to - from),
+            put,
+            rows: true,
+        }
     }
 
-    /// Puts `new` between two places, the second one exclusive (help: nvim_buf_set_text()): its first line joins what
-    /// stands before `start`, its last line what stands from `stop` on. `None` exactly where the two places are one and
-    /// `new` is one empty line, and then nothing changes. Where memory is wanting nothing changes either.
+    /// Puts `new` between two places, the second one exclusive (help: nvim_buf_set_text()): its
+    /// first line joins what stands before `start`, its last line what stands from `stop` on.
+    /// `None` exactly where the two places are one and
+    /// `new` is one empty line, and then nothing changes. Where memory is wanting nothing changes
+    /// either.
     pub fn put_text(
         &mut self,
         start: Pos,
@@ -290,20 +306,81 @@ impl Buffer {
         requires count { start.row + length new + length self.old.text < stop.row + 1 + 2 ^ 32 }
         requires columns { All IsNarrowLine (lines_between self.old.text start stop new) }
         requires tick { ¬ ((start ≡ stop) × (new ≡ [] ∷ [])) → self.old.tick <ℤ i64.MAX }
-        ensures some { IfOk result (λ spliced. IsSome spliced ↔ ¬ ((start ≡ stop) × (new ≡ [] ∷ []))) }
+        ensures some { IfOk result (λ spliced.
+            IsSome spliced ↔ ¬ ((start ≡ stop) × (new ≡ [] ∷ []))) }
         ensures none { IfOk result (λ spliced. spliced ≡ None → self.new ≡ self.old) }
-        ensures told { IfOk result (λ spliced. IfSome spliced (λ event. event ≡ text_told self.old start stop new)) }
-        ensures edit { IfOk result (λ spliced. IfSome spliced (IsEdit self.old self.new (join_with_byte 10 new))) }
+        ensures told { IfOk result (λ spliced.
+            IfSome spliced (λ event. event ≡ text_event self.old start stop new)) }
+        ensures edit { IfOk result (λ spliced.
+            IfSome spliced (IsEdit self.old self.new (join_with_byte 10 new))) }
         ensures err { OnErr result (self.new ≡ self.old) }
     {
         if start == stop && is_one_empty(&new) {
             return Ok(None);
         }
-        let at = self.offset_of(start);
-        let old = self.bytes_between(start, stop);
-        let lines = self.lines_between(start, stop, new)?;
-        let spliced = self.put_rows(start.row as usize, stop.row as usize + 1, lines, at, old)?;
+        let edit = self.text_edit(start, stop, new)?;
+        let spliced = self.put_edit(edit)?;
         Ok(Some(spliced))
+    }
+
+    // Lines put between two places, as an edit.
+    fn text_edit(&self, start: Pos, stop: Pos, new: LineList) -> Result<Edit, AllocError>
+        requires start_in { IsInLine self.now.text start }
+        requires stop_in { IsInLine self.now.text stop }
+        requires order { is_before stop start ≡ false }
+        requires some_line { 0 < length new }
+        requires count { start.row + length new + length self.now.text < stop.row + 1 + 2 ^ 32 }
+        requires columns { All IsNarrowLine (lines_between self.now.text start stop new) }
+        ensures edit { IfOk result (λ edit. edit ≡ text_edit self.now.text start stop new) }
+        ensures lines { IfOk result (λ edit. All IsLine edit.lines) }
+        ensures text { IsBufferText self.now.text }
+    {
+        self.known();
+        let put = joined_reach(&new);
+        let bytes = flat_len_of(&new) - 1;
+        let lines = self.lines_between(start, stop, new)?;
+        let _count = lines.len();
+        Ok(Edit {
+            first: start.row,
+            last: stop.row + 1,
+            lines,
+            at: self.offset_of(start),
+            old: self.bytes_between(start, stop),
+            new: bytes,
+            start,
+            removed: extent_between(start, stop),
+            put,
+            rows: false,
+        })
+    }
+
+    // Makes an edit that fits: in the text, the marks, and what is kept of it.
+    pub(crate) fn put_edit(&mut self, edit: Edit) -> Result<Spliced, AllocError>
+        requires fits { Fits self.old.text edit }
+        requires tick { self.old.tick <ℤ i64.MAX }
+        ensures ok { OnOk result (self.new ≡ after_edit self.old edit) }
+        ensures told { IfOk result (λ event. event ≡ event_at (self.old.tick +ℤ pos 1) edit) }
+        ensures err { OnErr result (self.new ≡ self.old) }
+    {
+        let told = edit.share()?;
+        let lines = edit.lines.share()?;
+        let end = edit.first + lines.len() as u32;
+        self.unsealed.reserve(1)?;
+        let taken = self
+            .text
+            .replace(edit.first as usize, edit.last as usize, lines)?;
+        move_marks(&mut self.marks, &edit);
+        self.tick += 1;
+        self.modified = true;
+        self.unsealed.push_reserved(Step {
+            ahead: edit,
+            end,
+            taken,
+        });
+        Ok(Spliced {
+            tick: self.tick,
+            edit: told,
+        })
     }
 
     // The offset of a place in the flat text.
@@ -344,11 +421,11 @@ impl Buffer {
         joined(self.alloc, front, new, back)
     }
 
-    /// Closes the edits that were made since this was last called as one change: where there are any they are the next
-    /// change, made at the current number, and that is current (help: undo-blocks). Where memory is wanting nothing
-    /// changes.
+    /// Closes the edits that were made since this was last called as one change: where there are
+    /// any they are the next change, made at the current number, and that is current (help:
+    /// undo-blocks). Where memory is wanting nothing changes.
     pub fn seal(&mut self) -> Result<(), AllocError>
-        ensures ok { OnOk result (self.new ≡ sealed self.old) }
+        ensures ok { OnOk result (self.new ≡ after_seal self.old) }
         ensures sealed { OnOk result (self.new.unsealed ≡ []) }
         ensures err { OnErr result (self.new ≡ self.old) }
     {
@@ -365,8 +442,8 @@ impl Buffer {
         }
     }
 
-    /// The number of the current change: the text is that of this number with the edits made since the last change was
-    /// closed. 0 is the text at first (help: undo-tree).
+    /// The number of the current change: the text is that of this number with the edits made since
+    /// the last change was closed. 0 is the text at first (help: undo-tree).
     pub fn undone(&self) -> u64
         ensures value { result ≡ self.now.undo.current }
         ensures within { result ≤ last self.now.undo }
@@ -374,7 +451,8 @@ impl Buffer {
         self.tree.current()
     }
 
-    /// The number of the last change. Changes are numbered from 1 in the order in which they were closed.
+    /// The number of the last change. Changes are numbered from 1 in the order in which they were
+    /// closed.
     pub fn changes(&self) -> u64
         ensures { result ≡ last self.now.undo }
     {
@@ -385,6 +463,7 @@ impl Buffer {
     pub(crate) fn known(&self)
         ensures buffer { IsBuffer self.now.text self.now.tick self.now.undo self.now.unsealed }
         ensures small { kept_count self.now.undo self.now.unsealed < 2 ^ 63 }
+        ensures text { IsBufferText self.now.text }
     {
         let _ = &self.tree;
         let _tick = self.tick();
@@ -412,7 +491,8 @@ impl Buffer {
     // The child last entered of the current number.
     pub(crate) fn child(&self) -> Option<u64>
         ensures number { result ≡ child_of self.now.undo self.now.undo.current }
-        ensures child { IfSome result (λ n. parent_of self.now.undo n ≡ Some self.now.undo.current) }
+        ensures child { IfSome result
+            (λ n. parent_of self.now.undo n ≡ Some self.now.undo.current) }
     {
         self.tree.child()
     }
@@ -420,7 +500,8 @@ impl Buffer {
     // The legs from the current number to another.
     pub(crate) fn legs_to(&self, n: u64) -> Result<Vec<Leg>, AllocError>
         requires { n ≤ last self.now.undo }
-        ensures path { IfOk result (λ legs. legs.items ≡ path self.now.undo self.now.undo.current n) }
+        ensures path { IfOk result (λ legs. legs.items
+            ≡ path self.now.undo self.now.undo.current n) }
         ensures way { IfOk result (λ legs. Leads self.now.undo self.now.undo.current legs.items n) }
     {
         match self.tree.path_to(self.alloc, n)? {
@@ -453,13 +534,11 @@ impl Buffer {
     // An edit that takes a change back, by its place from 0: that of the last step comes first.
     fn edit_back(&self, n: u64, place: usize) -> Result<Edit, AllocError>
         requires { place < length (edits_of self.now.undo n) }
-        ensures { IfOk result (λ edit. slice_get (inverses (text_at self.now.undo (origin self.now.undo n)) (edits_of self.now.undo n)) place ≡ Some edit) }
+        ensures { IfOk result (λ edit.
+            slice_get (leg_edits self.now.undo (Back n)) place ≡ Some edit) }
     {
         match self.tree.change(n) {
-            Some(change) => change
-                .step(change.len() - 1 - place)
-                .back
-                .copied(self.alloc),
+            Some(change) => change.step(change.len() - 1 - place).back(),
             None => unreachable!(),
         }
     }
@@ -470,27 +549,21 @@ impl Buffer {
         ensures { IfOk result (λ edit. slice_get (edits_of self.now.undo n) place ≡ Some edit) }
     {
         match self.tree.change(n) {
-            Some(change) => change.step(place).ahead.copied(self.alloc),
+            Some(change) => change.step(place).ahead.share(),
             None => unreachable!(),
         }
-    }
-
-    // Makes an edit that fits, as it is kept in a change.
-    pub(crate) fn put_edit(&mut self, edit: Edit) -> Result<Spliced, AllocError>
-        requires fits { Fits self.old.text edit }
-        requires tick { self.old.tick <ℤ i64.MAX }
-        ensures ok { OnOk result (self.new ≡ edited self.old edit) }
-        ensures told { IfOk result (λ event. event ≡ told (self.old.tick +ℤ pos 1) edit) }
-    {
-        let first = edit.first as usize;
-        self.put_rows(first, edit.last as usize, edit.lines, edit.at, edit.old)
     }
 
     // Goes a leg in the tree, once its edits are made.
     pub(crate) fn arrive(&mut self, leg: Leg)
         requires next { IsNext self.old.undo leg }
-        requires text { self.old.text ≡ text_at self.old.undo (gone leg self.old.undo).current }
-        ensures { self.new ≡ record self.old { modified = true; undo = gone leg self.old.undo; unsealed = [] } }
+        requires text { self.old.text
+            ≡ text_at self.old.undo (tree_after_leg leg self.old.undo).current }
+        ensures { self.new ≡ record self.old {
+          modified = true;
+          undo = tree_after_leg leg self.old.undo;
+          unsealed = [];
+        } }
     {
         go_leg(&mut self.tree, leg);
         self.modified = true;
@@ -501,7 +574,7 @@ impl Buffer {
 // Goes a leg in a tree.
 fn go_leg(tree: &mut UndoTree<Change>, leg: Leg)
     requires { IsNext tree.old leg }
-    ensures { tree.new ≡ gone leg tree.old }
+    ensures { tree.new ≡ tree_after_leg leg tree.old }
 {
     match leg {
         Leg::Back(_) => {
@@ -511,4 +584,15 @@ fn go_leg(tree: &mut UndoTree<Change>, leg: Leg)
             let _ = tree.ahead(n);
         }
     }
+}
+
+// Moves the marks by an edit.
+fn move_marks(marks: &mut MarkSet, by: &Edit)
+    requires old_end { IsNarrow (further by.now.start by.now.removed) }
+    requires new_end { IsNarrow (further by.now.start by.now.put) }
+    requires moved { All (MovesNarrowly by.now.start by.now.removed by.now.put) marks.old.marks }
+    ensures { marks.new ≡ marks_after marks.old by.now }
+{
+    let _count = marks.len();
+    marks.splice(by.start, by.removed, by.put);
 }

@@ -1,12 +1,14 @@
-// Edits as they are kept, each with the one that takes it back.
+// Edits as they are kept, each with the rows that it took.
 ghost use Rattle.std.specs.Prelude.{◌≡◌, ◌<◌, [], length, Some, IfOk, option_map, slice_get};
+ghost use Rattle.nv_buffer.specs.Steps.{edit_back};
 
-use crate::copying::copied;
 use nv_lines::LineList;
-use std::alloc::{AllocError, Global};
+use nv_places::{Extent, Pos};
+use std::alloc::AllocError;
 use std::marker::Model;
 
-/// One edit of a text, in numbers of the text before it. Rows and offsets count from 0.
+/// One edit of a text, in numbers of the text before it. Rows, columns and offsets count from 0.
+/// Text, marks, what is told of an edit and undo have it as one value.
 #[derive(Drop)]
 pub struct Edit {
     /// The first row that is replaced.
@@ -21,14 +23,23 @@ pub struct Edit {
     pub old: u64,
     /// How many bytes are put there.
     pub new: u64,
+    /// The place at which bytes are replaced.
+    pub start: Pos,
+    /// How far the bytes reach that are removed there.
+    pub removed: Extent,
+    /// How far the bytes reach that are put there.
+    pub put: Extent,
+    /// Whether whole rows are put (help: nvim_buf_set_lines()), and not text between two places
+    /// (help: nvim_buf_set_text()).
+    pub rows: bool,
 }
 
 impl Edit {
-    /// The same edit once more.
-    pub fn copied(&self, alloc: Global) -> Result<Edit, AllocError>
-        ensures { IfOk result (λ copy. copy ≡ self.now) }
+    /// The same edit, its lines shared.
+    pub fn share(&self) -> Result<Edit, AllocError>
+        ensures { IfOk result (λ edit. edit ≡ self.now) }
     {
-        let lines = copied(alloc, &self.lines)?;
+        let lines = self.lines.share()?;
         Ok(Edit {
             first: self.first,
             last: self.last,
@@ -36,15 +47,44 @@ impl Edit {
             at: self.at,
             old: self.old,
             new: self.new,
+            start: self.start,
+            removed: self.removed,
+            put: self.put,
+            rows: self.rows,
         })
     }
 }
 
-/// An edit, and the edit that takes it back.
+/// An edit, and what it takes to take it back.
 #[derive(Drop)]
 pub struct Step {
     pub ahead: Edit,
-    pub back: Edit,
+    /// The row after the last one that the edit put.
+    pub end: u32,
+    /// The rows that the edit took out of the text.
+    pub taken: LineList,
+}
+
+impl Step {
+    /// The edit that takes this one back.
+    pub(crate) fn back(&self) -> Result<Edit, AllocError>
+        ensures { IfOk result (λ edit. edit ≡ edit_back self.now) }
+    {
+        let edit = &self.ahead;
+        let lines = self.taken.share()?;
+        Ok(Edit {
+            first: edit.first,
+            last: self.end,
+            lines,
+            at: edit.at,
+            old: edit.new,
+            new: edit.old,
+            start: edit.start,
+            removed: edit.put,
+            put: edit.removed,
+            rows: edit.rows,
+        })
+    }
 }
 
 /// The steps of a change, in the order in which they were made.

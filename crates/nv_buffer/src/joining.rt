@@ -1,5 +1,6 @@
-// Lines that are put within a line: what stands before them joins the first, what stands behind them the last.
-ghost use Rattle.std.specs.Prelude.{◌≡◌, ◌<◌, ◌≤◌, ◌↔◌, [], ◌∷◌, length, take, drop, IsTrue, IfOk, OnOk};
+// Lines that are put within a line: what stands before them joins the first, what stands behind
+// them the last.
+ghost use Rattle.std.specs.Prelude.{◌≡◌, ◌<◌, ◌≤◌, ◌↔◌, [], ◌∷◌, ◌++◌, length, take, drop, IsTrue, IfOk, OnOk};
 ghost use Rattle.nv_places.specs.Flat.{IsLine, line_at};
 ghost use Rattle.nv_buffer.specs.Splices.{IsInLine, with_front, with_back};
 
@@ -41,28 +42,39 @@ pub fn behind(text: &Lines, place: Pos) -> &[u8]
     }
 }
 
+// A line with bytes before and behind it.
+fn line_between(alloc: Global, front: &[u8], line: &[u8], back: &[u8]) -> Result<Line, AllocError>
+    requires front { IsLine front.now }
+    requires line { IsLine line.now }
+    requires back { IsLine back.now }
+    ensures { IfOk result (λ whole. whole ≡ (front.now ++ line.now) ++ back.now) }
+{
+    let room = (front.len() + line.len()).saturating_add(back.len());
+    let mut bytes = Vec::with_capacity(alloc, room)?;
+    bytes.extend_from_slice(front)?;
+    bytes.extend_from_slice(line)?;
+    bytes.extend_from_slice(back)?;
+    Line::from_vec(bytes)
+}
+
 // Puts bytes before the first line.
 fn put_front(alloc: Global, front: &[u8], lines: &mut Vec<Line>) -> Result<(), AllocError>
     requires some { 0 < length lines.old.items }
     requires line { IsLine front.now }
     ensures { OnOk result (lines.new.items ≡ with_front front.now lines.old.items) }
 {
-    let mut bytes = front.to_vec(alloc)?;
-    bytes.extend_from_slice(lines[0].as_slice())?;
-    lines[0] = Line::from_vec(bytes);
+    lines[0] = line_between(alloc, front, lines[0].as_slice(), &[])?;
     Ok(())
 }
 
 // Puts bytes behind the last line.
-fn put_back(lines: &mut Vec<Line>, back: &[u8]) -> Result<(), AllocError>
+fn put_back(alloc: Global, lines: &mut Vec<Line>, back: &[u8]) -> Result<(), AllocError>
     requires some { 0 < length lines.old.items }
     requires line { IsLine back.now }
     ensures { OnOk result (lines.new.items ≡ with_back lines.old.items back.now) }
 {
     if let Some(last) = lines.pop() {
-        let mut bytes = last.into_vec();
-        bytes.extend_from_slice(back)?;
-        lines.push(Line::from_vec(bytes))?;
+        lines.push(line_between(alloc, &[], last.as_slice(), back)?)?;
     }
     Ok(())
 }
@@ -80,7 +92,11 @@ pub fn joined(
     ensures { IfOk result (λ list. list ≡ with_back (with_front front.now lines) back.now) }
 {
     let mut lines = lines.into_vec();
+    if lines.len() == 1 {
+        lines[0] = line_between(alloc, front, lines[0].as_slice(), back)?;
+        return Ok(LineList::from_vec(lines));
+    }
     put_front(alloc, front, &mut lines)?;
-    put_back(&mut lines, back)?;
+    put_back(alloc, &mut lines, back)?;
     Ok(LineList::from_vec(lines))
 }

@@ -1,17 +1,18 @@
-//! A buffer: its lines, its changedtick, its name and its options, the two ways to change its text, and its changes,
-//! which can be undone and made again.
+//! A buffer: its lines, its changedtick, its name and its options, the two ways to change its text,
+//! its marks, which each edit moves, and its changes, which can be undone and made again.
 //!
-//! Each edit of the text is a splice of its flat text, in which the byte 10 follows each line. It is told by the
-//! lines event (help: nvim_buf_lines_event) in rows of the buffer before, and by the bytes that it replaced. The edits
-//! between two calls of `seal` are one change, and the changes are a tree (help: undo-tree).
+//! Each edit of the text is a splice of its flat text, in which the byte 10 follows each line. It
+//! is told by the lines event (help: nvim_buf_lines_event) in rows of the buffer before, and by the
+//! bytes that it replaced. The edits between two calls of `seal` are one change, and the changes
+//! are a tree (help: undo-tree).
 #![tactic(auto)]
 
 mod buffer;
-mod copying;
 mod edit;
 mod fitting;
 mod joining;
 mod laws;
+mod reaching;
 mod undoing;
 
 pub use buffer::{Buffer, Spliced};
@@ -19,8 +20,11 @@ pub use edit::Edit;
 pub use fitting::{is_in_line, is_narrow};
 pub use laws::{change_laws, edit_laws};
 pub use nv_lines::{Line, LineList, Lines};
-pub use nv_places::Pos;
+pub use nv_marks::{Far, Mark, MarkSet, Paint};
+pub use nv_places::{Extent, Pos};
 
+#[cfg(test)]
+mod mark_tests;
 #[cfg(test)]
 mod tests;
 #[cfg(test)]

@@ -1,8 +1,8 @@
-//! Edits of a buffer, one after another, against tables written by hand from the documented effect of
-//! nvim_buf_set_lines(), nvim_buf_set_text() and nvim_buf_lines_event.
+//! Edits of a buffer, one after another, against tables written by hand from the documented effect
+//! of nvim_buf_set_lines(), nvim_buf_set_text() and nvim_buf_lines_event.
 
-use crate::copying::copied;
 use crate::{Buffer, Line, LineList, Pos, Spliced, is_in_line, is_narrow};
+use nv_lines::is_line;
 use std::alloc::{AllocError, Global};
 use std::mem;
 use std::test::Fail;
@@ -10,12 +10,15 @@ use std::test::Fail;
 // The lines of a flat text, each ended by the byte 10.
 pub(crate) fn list(alloc: Global, flat: &[u8]) -> Result<LineList, AllocError> {
     let mut list = LineList::new(alloc);
-    let mut line = Line::new(alloc);
+    let mut line = Vec::new(alloc);
     for byte in flat {
-        if *byte == 10 {
-            list.push(mem::replace(&mut line, Line::new(alloc)))?;
-        } else {
+        if *byte != 10 {
             line.push(*byte)?;
+            continue;
+        }
+        let done = mem::replace(&mut line, Vec::new(alloc));
+        if is_line(done.as_slice()) {
+            list.push(Line::from_vec(done)?)?;
         }
     }
     Ok(list)
@@ -76,7 +79,6 @@ pub(crate) fn put_lines(
 
 // Puts text, where the call's conditions hold.
 pub(crate) fn put_text(
-    alloc: Global,
     buffer: &mut Buffer,
     start: Pos,
     stop: Pos,
@@ -97,7 +99,7 @@ pub(crate) fn put_text(
     if new.len() > u32::MAX as usize - buffer.text().count() {
         return Ok(None);
     }
-    let lines = buffer.lines_between(start, stop, copied(alloc, &new)?)?;
+    let lines = buffer.lines_between(start, stop, new.share()?)?;
     if !is_narrow(&lines) {
         return Ok(None);
     }
@@ -111,7 +113,7 @@ pub(crate) fn put_text(
 fn was_told(
     alloc: Global,
     buffer: &Buffer,
-    event: Option<Spliced>,
+    event: Option<&Spliced>,
     rows: (u32, u32),
     lines: &[u8],
     bytes: (u64, u64, u64),
@@ -120,25 +122,25 @@ fn was_told(
     let Some(event) = event else {
         return Ok(false);
     };
+    let edit = &event.edit;
     if event.tick != buffer.tick() || !buffer.modified() {
         return Ok(false);
     }
-    if event.first != rows.0 || event.last != rows.1 {
+    if edit.first != rows.0 || edit.last != rows.1 {
         return Ok(false);
     }
-    if event.at != bytes.0 || event.old != bytes.1 || event.new != bytes.2 {
+    if edit.at != bytes.0 || edit.old != bytes.1 || edit.new != bytes.2 {
         return Ok(false);
     }
-    if flat(alloc, &event.lines)?.as_slice() != lines {
+    if flat(alloc, &edit.lines)?.as_slice() != lines {
         return Ok(false);
     }
     Ok(text(alloc, buffer)?.as_slice() == after)
 }
 
-// Each row: from, to, the new lines, the text afterwards, and the offset, the bytes removed and the bytes put.
-#[test]
-fn lines_are_put(rt: HostRuntime) -> Result<(), Fail> {
-    let mut buffer = Buffer::new(rt.alloc(), 1)?;
+// Each row: from, to, the new lines, the text afterwards, and the offset, the bytes removed and the
+// bytes put.
+fn rows_are_told(alloc: Global, buffer: &mut Buffer) -> Result<bool, AllocError> {
     let edits = [
         (
             0u32,
@@ -152,13 +154,19 @@ fn lines_are_put(rt: HostRuntime) -> Result<(), Fail> {
         (1, 2, b"\n\n", b"ab\n\n\nd\n", (3, 2, 2)),
         (0, 4, b"\n", b"\n", (0, 7, 1)),
     ];
+    let mut all = true;
     for (from, to, new, after, bytes) in edits {
-        let lines = list(rt.alloc(), new)?;
-        let event = put_lines(&mut buffer, from as usize, to as usize, lines)?;
-        assert!(rt; was_told(rt.alloc(), &buffer, event, (from, to), new, bytes, after)?);
+        let event = put_lines(buffer, from as usize, to as usize, list(alloc, new)?)?;
+        all &= was_told(alloc, buffer, event.as_ref(), (from, to), new, bytes, after)?;
     }
-    let nothing = put_lines(&mut buffer, 1, 1, LineList::new(rt.alloc()))?;
-    assert!(rt; nothing.is_none() && buffer.tick() == 7);
+    let nothing = put_lines(buffer, 1, 1, LineList::new(alloc))?;
+    Ok(all && nothing.is_none() && buffer.tick() == 7)
+}
+
+#[test]
+fn lines_are_put(rt: HostRuntime) -> Result<(), Fail> {
+    let mut buffer = Buffer::new(rt.alloc(), 1)?;
+    assert!(rt; rows_are_told(rt.alloc(), &mut buffer)?);
     Ok(())
 }
 
@@ -169,11 +177,10 @@ pub(crate) fn at(place: (u32, u32)) -> Pos {
     }
 }
 
-// Each row: two places, the rows of the event, the new lines, the text afterwards, the lines of the event, and the offset, the bytes
-// removed and the bytes put. The first row puts lines in an empty buffer, the last takes everything.
-#[test]
-fn text_is_put(rt: HostRuntime) -> Result<(), Fail> {
-    let mut buffer = Buffer::new(rt.alloc(), 1)?;
+// Each row: two places, the rows of the event, the new lines, the text afterwards, the lines of the
+// event, and the offset, the bytes removed and the bytes put. The first row puts lines in an empty
+// buffer, the last takes everything.
+fn texts_are_told(alloc: Global, buffer: &mut Buffer) -> Result<bool, AllocError> {
     let edits = [
         (
             (0u32, 0u32),
@@ -213,20 +220,19 @@ fn text_is_put(rt: HostRuntime) -> Result<(), Fail> {
         ),
         ((0, 0), (2, 0), (0, 3), b"\n", b"\n", b"\n", (0, 13, 0)),
     ];
+    let mut all = true;
     for (start, stop, rows, new, after, lines, bytes) in edits {
-        let new = list(rt.alloc(), new)?;
-        let event = put_text(rt.alloc(), &mut buffer, at(start), at(stop), new)?;
-        assert!(rt; was_told(rt.alloc(), &buffer, event, rows, lines, bytes, after)?);
+        let event = put_text(buffer, at(start), at(stop), list(alloc, new)?)?;
+        all &= was_told(alloc, buffer, event.as_ref(), rows, lines, bytes, after)?;
     }
-    let start = Pos { row: 0, col: 0 };
-    let nothing = put_text(
-        rt.alloc(),
-        &mut buffer,
-        start,
-        start,
-        list(rt.alloc(), b"\n")?,
-    )?;
-    assert!(rt; nothing.is_none() && buffer.tick() == 7);
+    let nothing = put_text(buffer, at((0, 0)), at((0, 0)), list(alloc, b"\n")?)?;
+    Ok(all && nothing.is_none() && buffer.tick() == 7)
+}
+
+#[test]
+fn text_is_put(rt: HostRuntime) -> Result<(), Fail> {
+    let mut buffer = Buffer::new(rt.alloc(), 1)?;
+    assert!(rt; texts_are_told(rt.alloc(), &mut buffer)?);
     Ok(())
 }
 

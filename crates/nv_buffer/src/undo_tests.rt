@@ -1,5 +1,5 @@
-//! Changes that are undone and made again, against tables written by hand from the documented effect of :undo, :redo and
-//! :undo N, and against texts kept beside.
+//! Changes that are undone and made again, against tables written by hand from the documented
+//! effect of :undo, :redo and :undo N, and against texts kept beside.
 
 ghost use Rattle.std.specs.Prelude.{◌↔◌, ◌+ℤ◌, ◌≤ℤ◌, pos, IsTrue};
 
@@ -16,7 +16,7 @@ fn has_room(tick: i64, count: u64) -> bool
 }
 
 // Undo, where the call's condition holds.
-fn undo(buffer: &mut Buffer) -> Result<Option<Vec<Spliced>>, AllocError> {
+pub(crate) fn undo(buffer: &mut Buffer) -> Result<Option<Vec<Spliced>>, AllocError> {
     if !has_room(buffer.tick(), buffer.cost_back()) {
         return Ok(None);
     }
@@ -24,7 +24,7 @@ fn undo(buffer: &mut Buffer) -> Result<Option<Vec<Spliced>>, AllocError> {
 }
 
 // Redo, where the call's condition holds.
-fn redo(buffer: &mut Buffer) -> Result<Option<Vec<Spliced>>, AllocError> {
+pub(crate) fn redo(buffer: &mut Buffer) -> Result<Option<Vec<Spliced>>, AllocError> {
     if !has_room(buffer.tick(), buffer.cost_ahead()) {
         return Ok(None);
     }
@@ -51,7 +51,8 @@ fn set(alloc: Global, buffer: &mut Buffer, lines: &[u8]) -> Result<bool, AllocEr
     Ok(put.is_some())
 }
 
-// Does what a command says: "undo", "redo", "undo N" with one digit, or else these lines in place of all.
+// Does what a command says: "undo", "redo", "undo N" with one digit, or else these lines in place
+// of all.
 fn was_done(alloc: Global, buffer: &mut Buffer, command: &[u8]) -> Result<bool, AllocError> {
     match command {
         b"undo" => Ok(undo(buffer)?.is_some()),
@@ -94,20 +95,28 @@ fn stands(
     Ok(text(alloc, buffer)?.as_slice() == lines)
 }
 
+// Whether all of them come out so, and then there is no third change.
+fn branches_stand(alloc: Global, buffer: &mut Buffer) -> Result<bool, AllocError> {
+    let mut all = true;
+    for (command, tick, current, after) in branches() {
+        all &= was_done(alloc, buffer, command)?;
+        all &= stands(alloc, buffer, *tick, *current, after)?;
+    }
+    let third = was_done(alloc, buffer, b"undo 3")?;
+    Ok(all && !third)
+}
+
 #[test]
 fn undo_branches(rt: HostRuntime) -> Result<(), Fail> {
     edit_laws();
     change_laws();
     let mut buffer = Buffer::new(rt.alloc(), 1)?;
-    for (command, tick, current, after) in branches() {
-        let done = was_done(rt.alloc(), &mut buffer, command)?;
-        assert!(rt; done && stands(rt.alloc(), &buffer, *tick, *current, after)?);
-    }
-    assert!(rt; !was_done(rt.alloc(), &mut buffer, b"undo 3")?);
+    assert!(rt; branches_stand(rt.alloc(), &mut buffer)?);
     Ok(())
 }
 
-// Whether a splice was told so: the tick, the rows, the lines, and the offset, the bytes removed and the bytes put.
+// Whether a splice was told so: the tick, the rows, the lines, and the offset, the bytes removed
+// and the bytes put.
 fn was_told(
     alloc: Global,
     event: Option<&Spliced>,
@@ -119,27 +128,22 @@ fn was_told(
     let Some(event) = event else {
         return Ok(false);
     };
-    if event.tick != tick || (event.first, event.last) != rows {
+    let edit = &event.edit;
+    if event.tick != tick || (edit.first, edit.last) != rows {
         return Ok(false);
     }
-    if (event.at, event.old, event.new) != bytes {
+    if (edit.at, edit.old, edit.new) != bytes {
         return Ok(false);
     }
-    Ok(flat(alloc, &event.lines)?.as_slice() == lines)
+    Ok(flat(alloc, &edit.lines)?.as_slice() == lines)
 }
 
-// A buffer with "hello" and "world" as its first change, and a second change of two edits: "ell" becomes "ipp", and the
-// second line goes.
+// A buffer with "hello" and "world" as its first change, and a second change of two edits: "ell"
+// becomes "ipp", and the second line goes.
 fn two_edits(alloc: Global) -> Result<Buffer, AllocError> {
     let mut buffer = Buffer::new(alloc, 1)?;
     let _ = set(alloc, &mut buffer, b"hello\nworld\n")?;
-    let _ = put_text(
-        alloc,
-        &mut buffer,
-        at((0, 1)),
-        at((0, 4)),
-        list(alloc, b"ipp\n")?,
-    )?;
+    let _ = put_text(&mut buffer, at((0, 1)), at((0, 4)), list(alloc, b"ipp\n")?)?;
     let _ = put_lines(&mut buffer, 1, 2, list(alloc, b"")?)?;
     Ok(buffer)
 }
@@ -170,7 +174,7 @@ fn ahead_is_told(alloc: Global, buffer: &mut Buffer) -> Result<bool, AllocError>
 
 // A line is broken, and undo joins it again, though its edit was not yet a change.
 fn open_is_told(alloc: Global, buffer: &mut Buffer) -> Result<bool, AllocError> {
-    let _ = put_text(alloc, buffer, at((0, 2)), at((0, 2)), list(alloc, b"\n\n")?)?;
+    let _ = put_text(buffer, at((0, 2)), at((0, 2)), list(alloc, b"\n\n")?)?;
     let broken = stands(alloc, buffer, 10, 2, b"hi\nppo\n")?;
     let Some(events) = undo(buffer)? else {
         return Ok(false);
@@ -179,12 +183,17 @@ fn open_is_told(alloc: Global, buffer: &mut Buffer) -> Result<bool, AllocError> 
     Ok(broken && joined && stands(alloc, buffer, 11, 2, b"hippo\n")?)
 }
 
+fn all_are_told(alloc: Global, buffer: &mut Buffer) -> Result<bool, AllocError> {
+    let back = back_is_told(alloc, buffer)?;
+    let ahead = ahead_is_told(alloc, buffer)?;
+    let open = open_is_told(alloc, buffer)?;
+    Ok(back && ahead && open)
+}
+
 #[test]
 fn splices_are_told(rt: HostRuntime) -> Result<(), Fail> {
     let mut buffer = two_edits(rt.alloc())?;
-    assert!(rt; back_is_told(rt.alloc(), &mut buffer)?);
-    assert!(rt; ahead_is_told(rt.alloc(), &mut buffer)?);
-    assert!(rt; open_is_told(rt.alloc(), &mut buffer)?);
+    assert!(rt; all_are_told(rt.alloc(), &mut buffer)?);
     Ok(())
 }
 
@@ -208,13 +217,7 @@ fn change(alloc: Global, buffer: &mut Buffer, chance: &mut u64) -> Result<(), Al
         _ => list(alloc, b"\n\n\n")?,
     };
     let _ = put_lines(buffer, row, row.saturating_add(1), new)?;
-    let _ = put_text(
-        alloc,
-        buffer,
-        at((0, 0)),
-        at((0, 0)),
-        list(alloc, b"p\n\n")?,
-    )?;
+    let _ = put_text(buffer, at((0, 0)), at((0, 0)), list(alloc, b"p\n\n")?)?;
     buffer.seal()
 }
 
@@ -236,20 +239,25 @@ fn is_kept(
 }
 
 // A hundred changes, each made at a number by chance, and then each number gone to by chance.
+fn all_are_kept(alloc: Global, buffer: &mut Buffer) -> Result<bool, AllocError> {
+    let mut texts: Vec<Vec<u8>> = Vec::new(alloc);
+    texts.push(text(alloc, buffer)?)?;
+    let mut chance = 7;
+    let mut all = true;
+    for _ in 0..100 {
+        all &= is_kept(alloc, buffer, texts.as_slice(), &mut chance)?;
+        change(alloc, buffer, &mut chance)?;
+        texts.push(text(alloc, buffer)?)?;
+    }
+    for _ in 0..200 {
+        all &= is_kept(alloc, buffer, texts.as_slice(), &mut chance)?;
+    }
+    Ok(all && buffer.changes() == 100)
+}
+
 #[test]
 fn a_hundred_changes_are_gone_to(rt: HostRuntime) -> Result<(), Fail> {
     let mut buffer = Buffer::new(rt.alloc(), 1)?;
-    let mut texts: Vec<Vec<u8>> = Vec::new(rt.alloc());
-    texts.push(text(rt.alloc(), &buffer)?)?;
-    let mut chance = 7;
-    for _ in 0..100 {
-        assert!(rt; is_kept(rt.alloc(), &mut buffer, texts.as_slice(), &mut chance)?);
-        change(rt.alloc(), &mut buffer, &mut chance)?;
-        texts.push(text(rt.alloc(), &buffer)?)?;
-    }
-    for _ in 0..200 {
-        assert!(rt; is_kept(rt.alloc(), &mut buffer, texts.as_slice(), &mut chance)?);
-    }
-    assert!(rt; buffer.changes() == 100);
+    assert!(rt; all_are_kept(rt.alloc(), &mut buffer)?);
     Ok(())
 }

@@ -1,26 +1,30 @@
 // Undo, redo, and undo to a number.
 ghost use Rattle.std.specs.Prelude.{◌≡◌, ℕ, ◌^◌, ◌<◌, ◌≤◌, ◌≤ℤ◌, ◌+ℤ◌, ◌++◌, pos, [], length, fold, flat_map, IfOk, OnOk};
 ghost use Rattle.nv_undo.specs.Tree.{IsTree, last};
-ghost use Rattle.nv_undo.specs.Ways.{Leads};
-ghost use Rattle.nv_buffer.specs.Changes.{text_at, leg_edits, legs_to};
-ghost use Rattle.nv_buffer.specs.Steps.{IsNext, kept_count};
-ghost use Rattle.nv_buffer.specs.Content.{TellBytes, event_fold, told_from, sealed, after_leg, after_undo, after_redo, after_undo_to, undo_edits, redo_edits, undo_to_edits};
+ghost use Rattle.nv_undo.specs.Ways.{Leads, legs_to, IsNext};
+ghost use Rattle.nv_buffer.specs.Changes.{text_at, leg_edits};
+ghost use Rattle.nv_buffer.specs.Steps.{kept_count};
+ghost use Rattle.nv_buffer.specs.Content.{TellBytes, event_fold, events_from, after_seal, after_leg, after_undo, after_redo, after_undo_to, undo_edits, redo_edits, undo_to_edits};
 
 use crate::buffer::{Buffer, Spliced};
 use nv_undo::Leg;
 use std::alloc::AllocError;
 
 impl Buffer {
-    /// Takes the current change back (help: :undo): first `seal`, and then the text is that of the change's parent. At 0
-    /// nothing more changes. The splices are those that take back the edits of the change, the last edit's first, each
-    /// with its own changedtick. After an `Err` some of this may have been done.
+    /// Takes the current change back (help: :undo): first `seal`, and then the text is that of the
+    /// change's parent. At 0 nothing more changes. The splices are those that take back the edits
+    /// of the change, the last edit's first, each with its own changedtick. After an `Err` some of
+    /// this may have been done.
     pub fn undo(&mut self) -> Result<Vec<Spliced>, AllocError>
         requires tick { (self.old.tick +ℤ pos (length (undo_edits self.old))) ≤ℤ i64.MAX }
         ensures state { OnOk result (self.new ≡ after_undo self.old) }
         ensures text { OnOk result (self.new.text ≡ text_at self.new.undo self.new.undo.current) }
-        ensures told { IfOk result (λ events. events.items ≡ told_from self.old.tick (undo_edits self.old)) }
-        ensures tick { IfOk result (λ events. self.new.tick ≡ self.old.tick +ℤ pos (length events.items)) }
-        ensures lines { IfOk result (λ events. self.new.text ≡ fold event_fold self.old.text events.items) }
+        ensures told { IfOk result (λ events. events.items
+            ≡ events_from self.old.tick (undo_edits self.old)) }
+        ensures tick { IfOk result (λ events. self.new.tick
+            ≡ self.old.tick +ℤ pos (length events.items)) }
+        ensures lines { IfOk result (λ events. self.new.text
+            ≡ fold event_fold self.old.text events.items) }
         ensures bytes { IfOk result (λ events. TellBytes self.old.text events.items) }
     {
         self.seal()?;
@@ -30,16 +34,20 @@ impl Buffer {
         }
     }
 
-    /// Makes the child last entered of the current change again (help: :redo): first `seal`, and then the text is that
-    /// of this child. Where there is none nothing more changes. The splices are the edits of the change in their order,
-    /// each with its own changedtick. After an `Err` some of this may have been done.
+    /// Makes the child last entered of the current change again (help: :redo): first `seal`, and
+    /// then the text is that of this child. Where there is none nothing more changes. The splices
+    /// are the edits of the change in their order, each with its own changedtick. After an `Err`
+    /// some of this may have been done.
     pub fn redo(&mut self) -> Result<Vec<Spliced>, AllocError>
         requires tick { (self.old.tick +ℤ pos (length (redo_edits self.old))) ≤ℤ i64.MAX }
         ensures state { OnOk result (self.new ≡ after_redo self.old) }
         ensures text { OnOk result (self.new.text ≡ text_at self.new.undo self.new.undo.current) }
-        ensures told { IfOk result (λ events. events.items ≡ told_from self.old.tick (redo_edits self.old)) }
-        ensures tick { IfOk result (λ events. self.new.tick ≡ self.old.tick +ℤ pos (length events.items)) }
-        ensures lines { IfOk result (λ events. self.new.text ≡ fold event_fold self.old.text events.items) }
+        ensures told { IfOk result (λ events. events.items
+            ≡ events_from self.old.tick (redo_edits self.old)) }
+        ensures tick { IfOk result (λ events. self.new.tick
+            ≡ self.old.tick +ℤ pos (length events.items)) }
+        ensures lines { IfOk result (λ events. self.new.text
+            ≡ fold event_fold self.old.text events.items) }
         ensures bytes { IfOk result (λ events. TellBytes self.old.text events.items) }
     {
         self.seal()?;
@@ -49,17 +57,21 @@ impl Buffer {
         }
     }
 
-    /// Goes to the change `n`, or to the text at first where it is 0 (help: :undo): first `seal`, and then back to the
-    /// nearest common ancestor and ahead to `n`, as by `undo` and `redo`. After an `Err` some of this may have been done.
+    /// Goes to the change `n`, or to the text at first where it is 0 (help: :undo): first `seal`,
+    /// and then back to the nearest common ancestor and ahead to `n`, as by `undo` and `redo`.
+    /// After an `Err` some of this may have been done.
     pub fn undo_to(&mut self, n: u64) -> Result<Vec<Spliced>, AllocError>
-        requires within { n ≤ last (sealed self.old).undo }
+        requires within { n ≤ last (after_seal self.old).undo }
         requires tick { (self.old.tick +ℤ pos (length (undo_to_edits n self.old))) ≤ℤ i64.MAX }
         ensures state { OnOk result (self.new ≡ after_undo_to n self.old) }
         ensures number { OnOk result (self.new.undo.current ≡ n) }
         ensures text { OnOk result (self.new.text ≡ text_at self.new.undo n) }
-        ensures told { IfOk result (λ events. events.items ≡ told_from self.old.tick (undo_to_edits n self.old)) }
-        ensures tick { IfOk result (λ events. self.new.tick ≡ self.old.tick +ℤ pos (length events.items)) }
-        ensures lines { IfOk result (λ events. self.new.text ≡ fold event_fold self.old.text events.items) }
+        ensures told { IfOk result (λ events. events.items
+            ≡ events_from self.old.tick (undo_to_edits n self.old)) }
+        ensures tick { IfOk result (λ events. self.new.tick
+            ≡ self.old.tick +ℤ pos (length events.items)) }
+        ensures lines { IfOk result (λ events. self.new.text
+            ≡ fold event_fold self.old.text events.items) }
         ensures bytes { IfOk result (λ events. TellBytes self.old.text events.items) }
     {
         self.seal()?;
@@ -71,13 +83,18 @@ impl Buffer {
     fn walk(&mut self, legs: &[Leg]) -> Result<Vec<Spliced>, AllocError>
         requires sealed { self.old.unsealed ≡ [] }
         requires way { (to : ℕ) × Leads self.old.undo self.old.undo.current legs.now to }
-        requires tick { (self.old.tick +ℤ pos (length (flat_map (leg_edits self.old.undo) legs.now))) ≤ℤ i64.MAX }
+        requires tick { (self.old.tick +ℤ pos
+            (length (flat_map (leg_edits self.old.undo) legs.now))) ≤ℤ i64.MAX }
         ensures state { OnOk result (self.new ≡ fold after_leg self.old legs.now) }
-        ensures number { (to : ℕ) → Leads self.old.undo self.old.undo.current legs.now to → OnOk result (self.new.undo.current ≡ to) }
-        ensures told { IfOk result (λ events. events.items ≡ told_from self.old.tick (flat_map (leg_edits self.old.undo) legs.now)) }
+        ensures number { (to : ℕ) → Leads self.old.undo self.old.undo.current legs.now to
+            → OnOk result (self.new.undo.current ≡ to) }
+        ensures told { IfOk result (λ events. events.items
+            ≡ events_from self.old.tick (flat_map (leg_edits self.old.undo) legs.now)) }
         ensures text { OnOk result (self.new.text ≡ text_at self.new.undo self.new.undo.current) }
-        ensures tick { IfOk result (λ events. self.new.tick ≡ self.old.tick +ℤ pos (length events.items)) }
-        ensures lines { IfOk result (λ events. self.new.text ≡ fold event_fold self.old.text events.items) }
+        ensures tick { IfOk result (λ events. self.new.tick
+            ≡ self.old.tick +ℤ pos (length events.items)) }
+        ensures lines { IfOk result (λ events. self.new.text
+            ≡ fold event_fold self.old.text events.items) }
         ensures bytes { IfOk result (λ events. TellBytes self.old.text events.items) }
     {
         self.known();
@@ -88,14 +105,16 @@ impl Buffer {
         Ok(events)
     }
 
-    // Goes a leg: makes its edits one after another, and then goes on in the tree. While they are made they stand among
-    // the edits since the last change, so that the buffer is one at each moment.
+    // Goes a leg: makes its edits one after another, and then goes on in the tree. While they are
+    // made they stand among the edits since the last change, so that the buffer is one at each
+    // moment.
     fn go(&mut self, leg: Leg, events: &mut Vec<Spliced>) -> Result<(), AllocError>
         requires sealed { self.old.unsealed ≡ [] }
         requires next { IsNext self.old.undo leg }
         requires tick { (self.old.tick +ℤ pos (length (leg_edits self.old.undo leg))) ≤ℤ i64.MAX }
         ensures state { OnOk result (self.new ≡ after_leg self.old leg) }
-        ensures told { OnOk result (events.new.items ≡ events.old.items ++ told_from self.old.tick (leg_edits self.old.undo leg)) }
+        ensures told { OnOk result (events.new.items
+            ≡ events.old.items ++ events_from self.old.tick (leg_edits self.old.undo leg)) }
     {
         self.known();
         for place in 0..self.leg_len(leg) {
@@ -145,7 +164,7 @@ impl Buffer {
 
     /// How many splices `undo_to` would make.
     pub fn cost_to(&self, n: u64) -> u64
-        requires { n ≤ last (sealed self.now).undo }
+        requires { n ≤ last (after_seal self.now).undo }
         ensures { result ≡ length (undo_to_edits n self.now) }
     {
         self.known();
@@ -159,8 +178,8 @@ impl Buffer {
         unsealed as u64 + self.way_len(n)
     }
 
-    // How many edits the way from the current number to another has. The greater of two numbers isn't an ancestor of the
-    // other, so its change is left, or entered last.
+    // How many edits the way from the current number to another has. The greater of two numbers
+    // isn't an ancestor of the other, so its change is left, or entered last.
     fn way_len(&self, n: u64) -> u64
         requires within { n ≤ last self.now.undo }
         requires tree { IsTree self.now.undo }

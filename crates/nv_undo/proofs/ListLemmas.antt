@@ -2,7 +2,7 @@
 use Rattle.std.proofs.Common.{◌≡◌, ◌<◌, List, [], ◌∷◌, ◌++◌, ℕ, zero, suc, refl, ap, sym, ◌∙◌, subst, length, get_or, reverse, arith, Bool, true, false, not, cond, eqb, ◌||◌, inl, inr, Some, slice_get}
 use Rattle.std.proofs.lemmas.Bool.{eq-eqb, eqb-true, or_left, or_right, or_parts, or_from, cases_Bool}
 use Rattle.std.proofs.lemmas.List.{reverse-append}
-use Rattle.nv_undo.specs.Tree.{has, without}
+use Rattle.nv_undo.specs.Tree.{has, those_outside}
 
 module _ {X : Type 0} where
   pub slice_get_some : (xs : List X) (i : ℕ) → i < length xs → (x : X) × (slice_get xs i ≡ Some x)
@@ -66,17 +66,17 @@ has-reverse_true (n ∷ ns) k inside =
 
 -- ---- those that aren't among others
 -- none is left of those that all are
-pub without_all : (ns ms : List ℕ) → ((k : ℕ) → has ms k ≡ true → has ns k ≡ true) → without ns ms ≡ []
+pub without_all : (ns ms : List ℕ) → ((k : ℕ) → has ms k ≡ true → has ns k ≡ true) → those_outside ns ms ≡ []
 without_all ns [] inside = refl
 without_all ns (m ∷ ms) inside =
     rw (inside m (has_first m ms)) (without_all ns ms (λ k here. inside k (has_later m ms k here)))
 
 -- lists with the same of these numbers leave the same of them
-pub without_same : (ns ns' ms : List ℕ) → ((k : ℕ) → has ms k ≡ true → has ns k ≡ has ns' k) → without ns ms ≡ without ns' ms
+pub without_same : (ns ns' ms : List ℕ) → ((k : ℕ) → has ms k ≡ true → has ns k ≡ has ns' k) → those_outside ns ms ≡ those_outside ns' ms
 without_same ns ns' [] same = refl
 without_same ns ns' (m ∷ ms) same =
     let first : has ns m ≡ has ns' m = same m (has_first m ms) in
-    let rest : without ns ms ≡ without ns' ms = without_same ns ns' ms (λ k here. same k (has_later m ms k here)) in
+    let rest : those_outside ns ms ≡ those_outside ns' ms = without_same ns ns' ms (λ k here. same k (has_later m ms k here)) in
     λ i. cond (not (first i)) (m ∷ rest i) (rest i)
 
 -- what both of two lists say of a number, each of them says
@@ -85,40 +85,40 @@ either true ms ns k b first second = second
 either false ms ns k b first second = first
 
 -- a number that isn't there isn't left
-pub without_outside : (ns ms : List ℕ) (k : ℕ) → has ms k ≡ false → has (without ns ms) k ≡ false
+pub without_outside : (ns ms : List ℕ) (k : ℕ) → has ms k ≡ false → has (those_outside ns ms) k ≡ false
 without_outside ns [] k outside = refl
 without_outside ns (m ∷ ms) k outside =
     let parts = or_parts (eqb m k) (has ms k) outside in
-    let rest : has (without ns ms) k ≡ false = without_outside ns ms k parts.1 in
-    either (has ns m) (m ∷ without ns ms) (without ns ms) k false (or_from (eqb m k) (has (without ns ms) k) parts.0 rest) rest
+    let rest : has (those_outside ns ms) k ≡ false = without_outside ns ms k parts.1 in
+    either (has ns m) (m ∷ those_outside ns ms) (those_outside ns ms) k false (or_from (eqb m k) (has (those_outside ns ms) k) parts.0 rest) rest
 
 -- a number that is among the others isn't left
-pub without_inside : (ns ms : List ℕ) (k : ℕ) → has ns k ≡ true → has (without ns ms) k ≡ false
+pub without_inside : (ns ms : List ℕ) (k : ℕ) → has ns k ≡ true → has (those_outside ns ms) k ≡ false
 without_inside ns [] k inside = refl
 without_inside ns (m ∷ ms) k inside =
-    let rest : has (without ns ms) k ≡ false = without_inside ns ms k inside in
+    let rest : has (those_outside ns ms) k ≡ false = without_inside ns ms k inside in
     elim (cases_Bool (eqb m k)) [
       | inl same ↦ (
           let there : has ns m ≡ true = subst (λ n. has ns n ≡ true) (sym (eqb-true m k same)) inside in
-          ap (λ c. has (cond (not c) (m ∷ without ns ms) (without ns ms)) k) there ∙ rest
+          ap (λ c. has (cond (not c) (m ∷ those_outside ns ms) (those_outside ns ms)) k) there ∙ rest
           )
       | inr other ↦
-          either (has ns m) (m ∷ without ns ms) (without ns ms) k false (or_from (eqb m k) (has (without ns ms) k) other rest) rest
+          either (has ns m) (m ∷ those_outside ns ms) (those_outside ns ms) k false (or_from (eqb m k) (has (those_outside ns ms) k) other rest) rest
     ]
 
 -- a number that isn't among the others is left
-pub without_kept : (ns ms : List ℕ) (k : ℕ) → has ns k ≡ false → has ms k ≡ true → has (without ns ms) k ≡ true
+pub without_kept : (ns ms : List ℕ) (k : ℕ) → has ns k ≡ false → has ms k ≡ true → has (those_outside ns ms) k ≡ true
 without_kept ns [] k outside here = absurd cc
 without_kept ns (m ∷ ms) k outside here =
     elim (cases_Bool (eqb m k)) [
       | inl same ↦ (
           let there : has ns m ≡ false = subst (λ n. has ns n ≡ false) (sym (eqb-true m k same)) outside in
-          ap (λ c. has (cond (not c) (m ∷ without ns ms) (without ns ms)) k) there
-          ∙ or_left (eqb m k) (has (without ns ms) k) same
+          ap (λ c. has (cond (not c) (m ∷ those_outside ns ms) (those_outside ns ms)) k) there
+          ∙ or_left (eqb m k) (has (those_outside ns ms) k) same
           )
       | inr other ↦ (
           let behind : has ms k ≡ true = subst (λ b. (b || has ms k) ≡ true) other here in
-          let rest : has (without ns ms) k ≡ true = without_kept ns ms k outside behind in
-          either (has ns m) (m ∷ without ns ms) (without ns ms) k true (or_right (eqb m k) (has (without ns ms) k) rest) rest
+          let rest : has (those_outside ns ms) k ≡ true = without_kept ns ms k outside behind in
+          either (has ns m) (m ∷ those_outside ns ms) (those_outside ns ms) k true (or_right (eqb m k) (has (those_outside ns ms) k) rest) rest
           )
     ]

@@ -6,14 +6,14 @@ use Rattle.std.proofs.lemmas.Option.{none-some}
 use Rattle.std.specs.Option.{option_map_or}
 use Rattle.nv_undo.specs.declared.legs.Leg.{Leg}
 use Rattle.nv_undo.specs.declared.legs.Leg.TheVariants.{Back, Ahead}
-use Rattle.nv_undo.specs.Tree.{Undo, IsTree, last, parent_of, ancestors_within, ancestors, has, without, path}
+use Rattle.nv_undo.specs.Tree.{Undo, IsTree, last, parent_of, ancestors_within, ancestors, has, those_outside, path}
 use Rattle.nv_undo.proofs.ListLemmas.{has_first, without_all, without_same}
 use Rattle.nv_undo.proofs.NumberLemmas.{some_parent}
 
 -- ---- paths between lists of ancestors
 -- the path between numbers with these ancestors
 abbrev pub legs_between : List ℕ → List ℕ → List Leg
-legs_between from to = map Back (without to from) ++ map Ahead (reverse (without from to))
+legs_between from to = map Back (those_outside to from) ++ map Ahead (reverse (those_outside from to))
 
 -- a number that isn't among those of a list is another than each of them
 outside_differs : (ns : List ℕ) (n k : ℕ) → has ns n ≡ false → has ns k ≡ true → eqb n k ≡ false
@@ -21,12 +21,12 @@ outside_differs ns n k outside inside =
     ne_eqb n k (λ same. let there : has ns n ≡ true = subst (λ m. has ns m ≡ true) (sym same) inside in absurd cc)
 
 -- a number that isn't there changes nothing of what is left
-without_cons : (n : ℕ) (ns ms : List ℕ) → has ms n ≡ false → without (n ∷ ns) ms ≡ without ns ms
+without_cons : (n : ℕ) (ns ms : List ℕ) → has ms n ≡ false → those_outside (n ∷ ns) ms ≡ those_outside ns ms
 without_cons n ns ms outside =
     without_same (n ∷ ns) ns ms (λ k inside. ap (λ b. b || has ns k) (outside_differs ms n k outside inside))
 
-keeps_first : (n : ℕ) (ns ms : List ℕ) → has ns n ≡ false → without ns (n ∷ ms) ≡ n ∷ without ns ms
-keeps_first n ns ms outside = ap (λ b. cond (not b) (n ∷ without ns ms) (without ns ms)) outside
+keeps_first : (n : ℕ) (ns ms : List ℕ) → has ns n ≡ false → those_outside ns (n ∷ ms) ≡ n ∷ those_outside ns ms
+keeps_first n ns ms outside = ap (λ b. cond (not b) (n ∷ those_outside ns ms) (those_outside ns ms)) outside
 
 legs_back : (n : ℕ) (from to : List ℕ) → has to n ≡ false → legs_between (n ∷ from) to ≡ Back n ∷ legs_between from to
 legs_back n from to outside = λ i.
@@ -34,15 +34,15 @@ legs_back n from to outside = λ i.
 
 legs_ahead : (n : ℕ) (from to : List ℕ) → has from n ≡ false → legs_between from (n ∷ to) ≡ legs_between from to ++ Ahead n ∷ []
 legs_ahead n from to outside =
-    let turned : reverse (without from (n ∷ to)) ≡ reverse (without from to) ++ n ∷ [] =
-    ap reverse (keeps_first n from to outside) ∙ reverse-append (n ∷ []) (without from to) in
+    let turned : reverse (those_outside from (n ∷ to)) ≡ reverse (those_outside from to) ++ n ∷ [] =
+    ap reverse (keeps_first n from to outside) ∙ reverse-append (n ∷ []) (those_outside from to) in
     (λ i. map Back (without_cons n to from outside i) ++ map Ahead (turned i))
-    ∙ (ap (λ legs. map Back (without to from) ++ legs) (map-append Ahead (reverse (without from to)) (n ∷ []))
-    ∙ sym (append_assoc (map Back (without to from)) (map Ahead (reverse (without from to))) (Ahead n ∷ [])))
+    ∙ (ap (λ legs. map Back (those_outside to from) ++ legs) (map-append Ahead (reverse (those_outside from to)) (n ∷ []))
+    ∙ sym (append_assoc (map Back (those_outside to from)) (map Ahead (reverse (those_outside from to))) (Ahead n ∷ [])))
 
 legs_none : (ns : List ℕ) → legs_between ns ns ≡ []
 legs_none ns =
-    let nothing : without ns ns ≡ [] = without_all ns ns (λ k inside. inside) in
+    let nothing : those_outside ns ns ≡ [] = without_all ns ns (λ k inside. inside) in
     λ i. map Back (nothing i) ++ map Ahead (reverse (nothing i))
 
 module _ {E : Type 0} where

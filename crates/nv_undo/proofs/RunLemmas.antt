@@ -3,7 +3,7 @@ use Rattle.std.proofs.Common.{◌≡◌, ◌≤◌, List, [], ◌∷◌, ◌++�
 use Rattle.std.proofs.lemmas.Bool.{eqb-true, eqb-false}
 use Rattle.std.specs.Option.{option_map_or, option_or}
 use Rattle.nv_undo.specs.Tree.{Undo, IsTree, no_changes, last, numbered, parent_of, child_of, pushed, gone_back, entered_child}
-use Rattle.nv_undo.specs.Runs.{Step, is_child, after, after_all, entered_by, entered_in, last_of}
+use Rattle.nv_undo.specs.Runs.{Step, is_child, after_step, after_steps, entered_by, entered_in, last_of}
 use Rattle.nv_undo.specs.Runs.Step.{makes, undoes, redoes, enters}
 use Rattle.nv_undo.specs.Laws.{EntersOnly, RunsStay, NothingIsLost, LastIsLast}
 use Rattle.nv_undo.proofs.NumberLemmas.{numbered-old, numbered_same, last-pushed, push_enters, child_enters}
@@ -34,7 +34,7 @@ module _ {E : Type 0} where
       by_case None is child = absurd cc
       by_case (Some p) is child = is ∙ ap Some (eqb-true p t.current child)
 
-  step_tree : (step : Step E) (t : Undo E) → IsTree t → IsTree (after step t)
+  step_tree : (step : Step E) (t : Undo E) → IsTree t → IsTree (after_step step t)
   step_tree (makes e) t tree = push_tree e t tree
   step_tree undoes t tree = back_tree t tree
   step_tree redoes t tree = ahead_tree t tree
@@ -45,7 +45,7 @@ module _ {E : Type 0} where
       by_case false is = tree
 
   -- the changes are kept, and one may come behind them
-  step_keeps : (step : Step E) (t : Undo E) (n : ℕ) → n ≤ last t → (n ≤ last (after step t)) × (numbered (after step t) n ≡ numbered t n)
+  step_keeps : (step : Step E) (t : Undo E) (n : ℕ) → n ≤ last t → (n ≤ last (after_step step t)) × (numbered (after_step step t) n ≡ numbered t n)
   step_keeps (makes e) t n within = (omega (arith, last-pushed e t), numbered-old e t n within)
   step_keeps undoes t n within = (within, numbered_same (gone_back t) t refl n)
   step_keeps redoes t n within = by_case (child_of t t.current)
@@ -69,7 +69,7 @@ module _ {E : Type 0} where
       by_case false is = only.others n (λ same. eqb-false m n is (sym same))
 
   step_enters : (step : Step E) (t : Undo E) (n : ℕ) → IsTree t
-      → child_of (after step t) n ≡ option_or (last_of (entered_by step t) n) (child_of t n)
+      → child_of (after_step step t) n ≡ option_or (last_of (entered_by step t) n) (child_of t n)
   step_enters (makes e) t n tree = enters_last t (pushed e t) t.current (suc (last t)) n (push_enters e t tree)
   step_enters undoes t n tree = refl
   step_enters redoes t n tree = by_case (child_of t t.current) refl
@@ -91,24 +91,24 @@ module _ {E : Type 0} where
   -- ---- runs
   pub runs_stay : RunsStay E
   runs_stay [] t tree = tree
-  runs_stay (step ∷ steps) t tree = runs_stay steps (after step t) (step_tree step t tree)
+  runs_stay (step ∷ steps) t tree = runs_stay steps (after_step step t) (step_tree step t tree)
 
   pub nothing_is_lost : NothingIsLost E
   nothing_is_lost [] t n tree within = refl
   nothing_is_lost (step ∷ steps) t n tree within =
       let kept = step_keeps step t n within in
-      nothing_is_lost steps (after step t) n (step_tree step t tree) kept.0 ∙ kept.1
+      nothing_is_lost steps (after_step step t) n (step_tree step t tree) kept.0 ∙ kept.1
 
   run_enters : (steps : List (Step E)) (t : Undo E) (n : ℕ) → IsTree t
-      → child_of (after_all steps t) n ≡ option_or (last_of (entered_in steps t) n) (child_of t n)
+      → child_of (after_steps steps t) n ≡ option_or (last_of (entered_in steps t) n) (child_of t n)
   run_enters [] t n tree = refl
   run_enters (step ∷ steps) t n tree =
-      let later : Option ℕ = last_of (entered_in steps (after step t)) n in
+      let later : Option ℕ = last_of (entered_in steps (after_step step t)) n in
       let first : Option ℕ = last_of (entered_by step t) n in
-      run_enters steps (after step t) n (step_tree step t tree)
+      run_enters steps (after_step step t) n (step_tree step t tree)
       ∙ (ap (λ o. option_or later o) (step_enters step t n tree)
       ∙ (sym (option_or_assoc later first (child_of t n))
-      ∙ ap (λ o. option_or o (child_of t n)) (sym (last_of-append (entered_by step t) (entered_in steps (after step t)) n))))
+      ∙ ap (λ o. option_or o (child_of t n)) (sym (last_of-append (entered_by step t) (entered_in steps (after_step step t)) n))))
 
   pub last_is_last : LastIsLast E
   last_is_last steps n =

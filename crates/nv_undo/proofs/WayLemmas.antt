@@ -5,8 +5,8 @@ use Rattle.std.proofs.lemmas.List.{length_push}
 use Rattle.std.specs.Prelude.{unwrap_or}
 use Rattle.nv_undo.specs.declared.legs.Leg.{Leg}
 use Rattle.nv_undo.specs.declared.legs.Leg.TheVariants.{Back, Ahead}
-use Rattle.nv_undo.specs.Tree.{Undo, IsTree, parent_of, ancestors, has, without, path, gone_back, entered_child}
-use Rattle.nv_undo.specs.Ways.{Leads, leaves, enters, IsDirect, depth}
+use Rattle.nv_undo.specs.Tree.{Undo, IsTree, parent_of, ancestors, has, those_outside, path, gone_back, entered_child}
+use Rattle.nv_undo.specs.Ways.{Leads, leaves, enters, IsDirect, tree_depth}
 use Rattle.nv_undo.specs.Laws.{PathLeads, PathIsDirect, PathIsOnly, PathIsShort, WaysArrive, PathArrives}
 use Rattle.nv_undo.proofs.ListLemmas.{has-reverse, has-reverse_true, without_outside, without_inside, without_kept}
 use Rattle.nv_undo.proofs.NumberLemmas.{parent_same, parent_within}
@@ -62,10 +62,10 @@ direct_rest_ahead k legs direct j left = by_case (eqb k j) (direct j left)
 module _ {E : Type 0} where
   -- the path leaves what is an ancestor of the first end alone, and enters what is one of the second end alone
   path_leaves : (t : Undo E) (from to k : ℕ)
-      → leaves k (path t from to) ≡ has (without (ancestors t to) (ancestors t from)) k
+      → leaves k (path t from to) ≡ has (those_outside (ancestors t to) (ancestors t from)) k
   path_leaves t from to k =
-      let left = without (ancestors t to) (ancestors t from) in
-      let entered = reverse (without (ancestors t from) (ancestors t to)) in
+      let left = those_outside (ancestors t to) (ancestors t from) in
+      let entered = reverse (those_outside (ancestors t from) (ancestors t to)) in
       leaves-append k (map Back left) (map Ahead entered)
       ∙ ((λ i. leaves-Back k left i || leaves-Ahead k entered i) ∙ or_false (has left k))
     where
@@ -74,10 +74,10 @@ module _ {E : Type 0} where
       or_false false = refl
 
   path_enters : (t : Undo E) (from to k : ℕ)
-      → enters k (path t from to) ≡ has (reverse (without (ancestors t from) (ancestors t to))) k
+      → enters k (path t from to) ≡ has (reverse (those_outside (ancestors t from) (ancestors t to))) k
   path_enters t from to k =
-      let left = without (ancestors t to) (ancestors t from) in
-      let entered = reverse (without (ancestors t from) (ancestors t to)) in
+      let left = those_outside (ancestors t to) (ancestors t from) in
+      let entered = reverse (those_outside (ancestors t from) (ancestors t to)) in
       enters-append k (map Back left) (map Ahead entered) ∙ (λ i. enters-Back k left i || enters-Ahead k entered i)
 
   pub path_direct : PathIsDirect E
@@ -85,7 +85,7 @@ module _ {E : Type 0} where
       elim (cases_Bool (has (ancestors t from) k)) [
         | inl of_from ↦
             path_enters t from to k
-            ∙ has-reverse (without (ancestors t from) (ancestors t to)) k (without_inside (ancestors t from) (ancestors t to) k of_from)
+            ∙ has-reverse (those_outside (ancestors t from) (ancestors t to)) k (without_inside (ancestors t from) (ancestors t to) k of_from)
         | inr other ↦ (
             let not_left : leaves k (path t from to) ≡ false =
             path_leaves t from to k ∙ without_outside (ancestors t to) (ancestors t from) k other in
@@ -112,7 +112,7 @@ module _ {E : Type 0} where
       from to from_in to_in
 
   -- ---- its length
-  depth_step : (t : Undo E) (n p : ℕ) → IsTree t → parent_of t n ≡ Some p → depth t n ≡ suc (depth t p)
+  depth_step : (t : Undo E) (n p : ℕ) → IsTree t → parent_of t n ≡ Some p → tree_depth t n ≡ suc (tree_depth t p)
   depth_step t n p tree is =
       let long : length (ancestors t p) ≡ suc (pred (length (ancestors t p))) =
       (let first = ancestors_first t p in
@@ -121,16 +121,16 @@ module _ {E : Type 0} where
 
   pub path_short : PathIsShort E
   path_short t from to tree from_in to_in =
-      by_greater t tree (λ a b. length (path t a b) ≤ depth t a + depth t b)
+      by_greater t tree (λ a b. length (path t a b) ≤ tree_depth t a + tree_depth t b)
       (λ n. let nothing : length (path t n n) ≡ 0 = ap length (path_none t n) in omega arith)
       (λ n p b is lower rest.
       let long : length (path t n b) ≡ suc (length (path t p b)) = ap length (greater_back t n p b tree is lower) in
-      let deep : depth t n ≡ suc (depth t p) = depth_step t n p tree is in
+      let deep : tree_depth t n ≡ suc (tree_depth t p) = depth_step t n p tree is in
       omega arith)
       (λ a n p is lower rest.
       let long : length (path t a n) ≡ length (path t a p) + 1 =
       ap length (greater_ahead t a n p tree is lower) ∙ length_push (path t a p) (Ahead n) in
-      let deep : depth t n ≡ suc (depth t p) = depth_step t n p tree is in
+      let deep : tree_depth t n ≡ suc (tree_depth t p) = depth_step t n p tree is in
       omega arith)
       from to from_in to_in
 
@@ -181,11 +181,11 @@ module _ {E : Type 0} where
       subst (λ (n : ℕ). Back k ∷ legs ≡ path t n to) way.1 (
       elim (cases_Bool (has (ancestors t to) k)) [
         | inl above ↦ (
-            let kept : has (without (ancestors t way.0) (ancestors t to)) k ≡ true =
+            let kept : has (those_outside (ancestors t way.0) (ancestors t to)) k ≡ true =
             without_kept (ancestors t way.0) (ancestors t to) k (ancestors_below t way.0 k tree (tree.below k way.0 way.2)) above in
             let entered : enters k legs ≡ true =
             ap (enters k) rest
-            ∙ (path_enters t way.0 to k ∙ has-reverse_true (without (ancestors t way.0) (ancestors t to)) k kept) in
+            ∙ (path_enters t way.0 to k ∙ has-reverse_true (those_outside (ancestors t way.0) (ancestors t to)) k kept) in
             let not_entered : enters k legs ≡ false = direct k (or_left (eqb k k) (leaves k legs) (eq-eqb k k refl)) in
             absurd cc
             )

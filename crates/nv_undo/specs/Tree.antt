@@ -20,18 +20,20 @@ abbrev pub has : List ℕ → ℕ → Bool
 has numbers n = list_any (λ k. k == n) numbers
 
 -- those of the second list that aren't in the first
-abbrev pub without : List ℕ → List ℕ → List ℕ
-without numbers others = filter (λ n. not (has numbers n)) others
+abbrev pub those_outside : List ℕ → List ℕ → List ℕ
+those_outside numbers others = filter (λ n. not (has numbers n)) others
 
 module _ {E : Type 0} where
   -- the tree of these changes, at this number, with these children last entered
   abbrev pub tree_of : List (ℕ × E) → ℕ → List ℕ → Undo E
-  tree_of changes current entered = record { changes = changes; current = current; entered = entered }
+  tree_of changes current entered =
+      record { changes = changes; current = current; entered = entered }
 
   -- as data, a tree is the three of them
   abbrev pub undo_code : Coded E → Coded (Undo E)
   undo_code c =
-      code_by (List (ℕ × E) × (ℕ × List ℕ)) (coded× (coded_list (coded× coded_ℕ c)) (coded× coded_ℕ (coded_list coded_ℕ)))
+      code_by (List (ℕ × E) × (ℕ × List ℕ))
+      (coded× (coded_list (coded× coded_ℕ c)) (coded× coded_ℕ (coded_list coded_ℕ)))
       (λ t. (t.changes, (t.current, t.entered))) (λ p. tree_of p.0 p.1.0 p.1.1) (λ _. refl)
 
   -- the text at first, with no change
@@ -59,21 +61,24 @@ module _ {E : Type 0} where
   abbrev pub child_of : Undo E → ℕ → Option ℕ
   child_of t n = if slice_index t.entered n == 0 then None else Some (slice_index t.entered n)
 
-  -- after a change is made: it gets the next number, is a child of the number that the text was at, is the child last entered
-  -- there, and the text is at it
+  -- after a change is made: it gets the next number, is a child of the number that the text was at,
+  -- is the child last entered there, and the text is at it
   abbrev pub pushed : E → Undo E → Undo E
   pushed change t =
-      tree_of (t.changes ++ (t.current, change) ∷ []) (suc (last t)) (slice_set t.entered t.current (suc (last t)) ++ 0 ∷ [])
+      tree_of (t.changes ++ (t.current, change) ∷ []) (suc (last t))
+      (slice_set t.entered t.current (suc (last t)) ++ 0 ∷ [])
 
   -- after one step back: the text is at the parent, and stays where it is at 0 (help: undo)
   abbrev pub gone_back : Undo E → Undo E
   gone_back t = tree_of t.changes (unwrap_or (parent_of t t.current) t.current) t.entered
 
-  -- after the change k is entered: the text is at it, and it is the child last entered of its parent
+  -- after the change k is entered: the text is at it, and it is the child last entered of its
+  -- parent
   abbrev pub entered_child : ℕ → Undo E → Undo E
   entered_child k t = tree_of t.changes k (slice_set t.entered (unwrap_or (parent_of t k) 0) k)
 
-  -- after one step ahead: the child last entered is entered, and the text stays where there is none (help: redo)
+  -- after one step ahead: the child last entered is entered, and the text stays where there is none
+  -- (help: redo)
   abbrev pub gone_ahead : Undo E → Undo E
   gone_ahead t = option_map_or (λ k. entered_child k t) (child_of t t.current) t
 
@@ -90,23 +95,26 @@ module _ {E : Type 0} where
   ancestors_within zero t n = n ∷ []
   ancestors_within (suc steps) t n = n ∷ option_map_or (ancestors_within steps t) (parent_of t n) []
 
-  -- a number, its parent, and so on down to 0: each parent is below its child, so n steps come there
+  -- a number, its parent, and so on down to 0: each parent is below its child, so n steps come
+  -- there
   abbrev pub ancestors : Undo E → ℕ → List ℕ
   ancestors t n = ancestors_within n t n
 
-  -- the way from one number to another by the nearest common ancestor: the ancestors of the one that aren't of the other are
-  -- left from the first number on, and then those of the other that aren't of the one are entered, up to the last number
-  -- (help: :undo N)
+  -- the way from one number to another by the nearest common ancestor: the ancestors of the one
+  -- that aren't of the other are left from the first number on, and then those of the other that
+  -- aren't of the one are entered, up to the last number (help: :undo N)
   abbrev pub path : Undo E → ℕ → ℕ → List Leg
   path t from to =
-      map Back (without (ancestors t to) (ancestors t from)) ++ map Ahead (reverse (without (ancestors t from) (ancestors t to)))
+      map Back (those_outside (ancestors t to) (ancestors t from))
+      ++ map Ahead (reverse (those_outside (ancestors t from) (ancestors t to)))
 
-  -- after a leg: `Back` leaves the number that the text is at for its parent, `Ahead` enters a child
-  abbrev pub gone : Leg → Undo E → Undo E
-  gone (Back k) t = gone_back t
-  gone (Ahead k) t = entered_child k t
+  -- after a leg: `Back` leaves the number that the text is at for its parent, `Ahead` enters a
+  -- child
+  abbrev pub tree_after_leg : Leg → Undo E → Undo E
+  tree_after_leg (Back k) t = gone_back t
+  tree_after_leg (Ahead k) t = entered_child k t
 
   -- after the legs, one after another
-  abbrev pub gone_by : List Leg → Undo E → Undo E
-  gone_by [] t = t
-  gone_by (leg ∷ legs) t = gone_by legs (gone leg t)
+  abbrev pub tree_after_legs : List Leg → Undo E → Undo E
+  tree_after_legs [] t = t
+  tree_after_legs (leg ∷ legs) t = tree_after_legs legs (tree_after_leg leg t)

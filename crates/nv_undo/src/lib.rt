@@ -1,4 +1,5 @@
-//! The changes of a text as a tree: what was undone is kept, and each change can be reached again (help: undo-tree).
+//! The changes of a text as a tree: what was undone is kept, and each change can be reached again
+//! (help: undo-tree).
 #![tactic(auto)]
 
 mod laws;

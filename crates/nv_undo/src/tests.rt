@@ -1,4 +1,5 @@
-//! Trees of changes, gone through against tables written by hand and against a plain list of what was entered.
+//! Trees of changes, gone through against tables written by hand and against a plain list of what
+//! was entered.
 
 use crate::{Leg, UndoTree, path_laws, run_laws, tree_laws};
 use std::alloc::{AllocError, Global};
@@ -12,9 +13,10 @@ fn add<E: Drop>(tree: &mut UndoTree<E>, change: E) -> Result<u64, AllocError> {
     }
 }
 
-// The example of the help page on the undo tree: in "one two three" (0) the first byte is deleted three times, which gives
-// "ne two three" (1), "e two three" (2) and " two three" (3). That is undone, and the first byte of the second word is deleted
-// three times: "one wo three" (4), "one o three" (5) and "one  three" (6). A change is the texts before and after it.
+// The example of the help page on the undo tree: in "one two three" (0) the first byte is deleted
+// three times, which gives "ne two three" (1), "e two three" (2) and " two three" (3). That is
+// undone, and the first byte of the second word is deleted three times: "one wo three" (4), "one o
+// three" (5) and "one  three" (6). A change is the texts before and after it.
 fn example(alloc: Global) -> Result<UndoTree<(u8, u8)>, AllocError> {
     let mut tree = UndoTree::new(alloc)?;
     for change in [(0, 1), (1, 2), (2, 3)] {
@@ -29,8 +31,8 @@ fn example(alloc: Global) -> Result<UndoTree<(u8, u8)>, AllocError> {
     Ok(tree)
 }
 
-// Goes to a number with the text where the tree is, and answers the text there. Nothing where a leg can't be gone or its
-// change doesn't fit the text.
+// Goes to a number with the text where the tree is, and answers the text there. Nothing where a leg
+// can't be gone or its change doesn't fit the text.
 fn go(
     alloc: Global,
     tree: &mut UndoTree<(u8, u8)>,

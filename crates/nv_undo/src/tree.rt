@@ -9,8 +9,9 @@ use crate::legs::Leg;
 use std::alloc::{AllocError, Global};
 use std::marker::Model;
 
-/// The changes of a text, numbered from 1 in the order in which they were made, and the number that the text is at. 0 is the
-/// text at first. A change is a child of the number that the text was at when it was made (help: undo-tree).
+/// The changes of a text, numbered from 1 in the order in which they were made, and the number that
+/// the text is at. 0 is the text at first. A change is a child of the number that the text was at
+/// when it was made (help: undo-tree).
 #[derive(Drop)]
 pub struct UndoTree<E> {
     // Each change with the number of its parent; that of number n stands at n - 1.
@@ -65,8 +66,9 @@ impl<E> UndoTree<E> {
         self.changes.len() as u64
     }
 
-    /// Adds a change that leads from the number that the text is at to a new one, answers the new number, and the text is at
-    /// it. Where memory is wanting nothing changes, and the change comes back.
+    /// Adds a change that leads from the number that the text is at to a new one, answers the new
+    /// number, and the text is at it. Where memory is wanting nothing changes, and the change comes
+    /// back.
     pub fn push(&mut self, change: E) -> Result<u64, (E, AllocError)>
         ensures number { IfOk result (λ n. n ≡ suc (last self.old)) }
         ensures ok { OnOk result (self.new ≡ pushed change self.old) }
@@ -84,10 +86,12 @@ impl<E> UndoTree<E> {
         Ok(number)
     }
 
-    /// Leaves the change that the text is at for its parent, and lends it. `None` exactly at 0, and then nothing changes.
+    /// Leaves the change that the text is at for its parent, and lends it. `None` exactly at 0, and
+    /// then nothing changes.
     pub fn back(&mut self) -> Option<&E>
         // Once the change that is lent is let go.
-        ensures* after { sem 𝓛 (Rests (the_row E.row) self.entry (λ new. new ≡ gone_back self.old)) }
+        ensures* after { sem 𝓛 (Rests (the_row E.row) self.entry
+            (λ new. new ≡ gone_back self.old)) }
         ensures change { option_copied result ≡ change_of self.old self.old.current }
         ensures start { IsNone result ↔ (self.old.current ≡ 0) }
     {
@@ -96,12 +100,14 @@ impl<E> UndoTree<E> {
         self.change(left)
     }
 
-    /// Enters the child last entered of the number that the text is at, and lends its change. `None` exactly where that number
-    /// has no child, and then nothing changes.
+    /// Enters the child last entered of the number that the text is at, and lends its change.
+    /// `None` exactly where that number has no child, and then nothing changes.
     pub fn forward(&mut self) -> Option<&E>
         // Once the change that is lent is let go.
-        ensures* after { sem 𝓛 (Rests (the_row E.row) self.entry (λ new. new ≡ gone_ahead self.old)) }
-        ensures change { option_copied result ≡ option_and_then (change_of self.old) (child_of self.old self.old.current) }
+        ensures* after { sem 𝓛 (Rests (the_row E.row) self.entry
+            (λ new. new ≡ gone_ahead self.old)) }
+        ensures change { option_copied result
+            ≡ option_and_then (change_of self.old) (child_of self.old self.old.current) }
         ensures child { IsSome result ↔ IsSome (child_of self.old self.old.current) }
     {
         let child = self.child()?;
@@ -109,11 +115,12 @@ impl<E> UndoTree<E> {
         self.change(child)
     }
 
-    /// Enters the change `n`, a child of the number that the text is at, and lends it. `None` exactly where `n` isn't a child
-    /// of that number, and then nothing changes.
+    /// Enters the change `n`, a child of the number that the text is at, and lends it. `None`
+    /// exactly where `n` isn't a child of that number, and then nothing changes.
     pub fn ahead(&mut self, n: u64) -> Option<&E>
         // Once the change that is lent is let go.
-        ensures* after { sem 𝓛 (Rests (the_row E.row) self.entry (λ new. MatchOption result (new ≡ self.old) (λ _. new ≡ entered_child n self.old))) }
+        ensures* after { sem 𝓛 (Rests (the_row E.row) self.entry
+            (λ new. MatchOption result (new ≡ self.old) (λ _. new ≡ entered_child n self.old))) }
         ensures change { IfSome result (λ change. change_of self.old n ≡ Some change.now) }
         ensures child { IsSome result ↔ (parent_of self.old n ≡ Some self.old.current) }
     {
@@ -124,7 +131,8 @@ impl<E> UndoTree<E> {
         self.change(n)
     }
 
-    /// The child last entered of the number that the text is at. `None` exactly where that number has no child.
+    /// The child last entered of the number that the text is at. `None` exactly where that number
+    /// has no child.
     pub fn child(&self) -> Option<u64>
         ensures number { result ≡ child_of self.now self.now.current }
         ensures child { IfSome result (λ k. parent_of self.now k ≡ Some self.now.current) }
@@ -150,11 +158,12 @@ impl<E> UndoTree<E> {
         Some(&self.node(n)?.1)
     }
 
-    /// The way from the number that the text is at to `n`, by their nearest common ancestor. `None` exactly where `n` is above
-    /// the last number.
+    /// The way from the number that the text is at to `n`, by their nearest common ancestor. `None`
+    /// exactly where `n` is above the last number.
     pub fn path_to(&self, alloc: Global, n: u64) -> Result<Option<Vec<Leg>>, AllocError>
         ensures { IfOk result (λ found.
-            MatchOption found (last self.now < n) (λ legs. (n ≤ last self.now) × (legs.items ≡ path self.now self.now.current n))) }
+            MatchOption found (last self.now < n)
+            (λ legs. (n ≤ last self.now) × (legs.items ≡ path self.now self.now.current n))) }
     {
         if n > self.last() {
             return Ok(None);
@@ -204,7 +213,8 @@ impl<E> UndoTree<E> {
         self.current = child;
     }
 
-    // The way from one number to another. The greater of the two isn't an ancestor of the other, so it is left, or entered last.
+    // The way from one number to another. The greater of the two isn't an ancestor of the other, so
+    // it is left, or entered last.
     fn path_between(&self, alloc: Global, from: u64, to: u64) -> Result<Vec<Leg>, AllocError>
         requires from { from ≤ last self.now }
         requires to { to ≤ last self.now }

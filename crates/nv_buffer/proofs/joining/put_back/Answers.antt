@@ -4,6 +4,6 @@ use Rattle.nv_buffer.proofs.joining.put_back.Goals as goal
 
 pub returns-in_ok-push : goal.returns-in_ok-push
 returns-in_ok-push c =
-    let bytes = c.from_vec.ensures ∙ c.in_ok-extend_from_slice.ensures.items ∙ ap (λ (t : List ℕ). t ++ c.args.back.now) c.into_vec-bytes.ensures.value in
-    back_put c.args.lines.now.items c.pop.new.self.items c.push.new.self.items c.in-Some.last c.from_vec.result c.args.back.now
+    let bytes = c.in_ok-line_between.ensures ∙ ap (λ (t : List ℕ). t ++ c.args.back.now) c.as_slice.ensures.value in
+    back_put c.args.lines.now.items c.pop.new.self.items c.push.new.self.items c.in-Some.last c.in_ok-line_between.field-0 c.args.back.now
     c.in-Some.ensures.items bytes c.in_ok-push.ensures.items

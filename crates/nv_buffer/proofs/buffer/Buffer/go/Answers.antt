@@ -1,7 +1,7 @@
 use Rattle.std.proofs.Common.{List, slice_get, length, ap, sym, subst, ◌∙◌, arith}
 use Rattle.nv_undo.specs.Tree.{Undo}
 use Rattle.nv_buffer.specs.Changes.{leg_edits}
-use Rattle.nv_buffer.specs.Steps.{IsNext}
+use Rattle.nv_undo.specs.Ways.{IsNext}
 use Rattle.nv_buffer.specs.declared.edit.Edit.{Edit}
 use Rattle.nv_buffer.proofs.Going.{going_first, going_fits, going_tick, going_on, going_last, gone_text, gone_state}
 use Rattle.nv_buffer.proofs.buffer.Buffer.go.Goals as goal

@@ -1,6 +1,7 @@
 use Rattle.std.proofs.Common.{◌∙◌, length, ap, sym}
 use Rattle.nv_undo.specs.declared.legs.Leg.{Leg}
-use Rattle.nv_buffer.specs.Changes.{leg_edits, text_at, origin, edits_of}
+use Rattle.nv_buffer.specs.Changes.{leg_edits, text_at, edits_of}
+use Rattle.nv_undo.specs.Ways.{origin}
 use Rattle.nv_buffer.proofs.WayBack.{length-inverses}
 use Rattle.nv_buffer.proofs.buffer.Buffer.leg_len.Goals as goal
 

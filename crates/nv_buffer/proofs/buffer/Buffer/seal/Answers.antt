@@ -10,4 +10,4 @@ invariant_of-self c =
     let made =
     sealed_stands c.self.inside.text c.self.inside.tick c.self.inside.tree c.push.new.self c.self.inside.unsealed.items c.from_vec.result
     c.replace-steps.new.dest.items c.self.invariant.3 c.self.invariant.4 (tree-behind c.self.inside.tree c.self.invariant.3.tree) steps c.in-Ok.ensures.ok none in
-    (c.self.invariant.0, c.self.invariant.1, c.self.invariant.2, made.buffer, made.lead)
+    (c.self.invariant.0, c.self.invariant.1, c.self.invariant.2, made.buffer, made.lead, c.self.invariant.5)
