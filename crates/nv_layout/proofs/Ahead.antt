@@ -2,8 +2,8 @@
 use Rattle.std.proofs.Common.{◌≡◌, ℕ, suc, ◌+◌, ◌-◌, ◌≤◌, ◌<◌, Bool, true, false, not, nat_lt, List, ◌∷◌, ◌++◌, length, filter, if◌then◌else◌, refl, ap, sym, subst, arith}
 use Rattle.std.specs.Int.{div_ceil}
 use Rattle.std.proofs.lemmas.Bool.Decides.{nat_tests}
-use Rattle.nv_layout.specs.Content.{Shape, group, Shapes, one}
-use Rattle.nv_layout.specs.Division.{Child, wishes, is_modest, need, within, wishes_granted, even_shares, first, behind, in_order}
+use Rattle.nv_layout.specs.Content.{Shape, group, Shapes, more_shapes}
+use Rattle.nv_layout.specs.Division.{Child, wishes, is_modest, need, within, wishes_granted, even_shares, first, behind, sizes_in_order}
 use Rattle.nv_layout.specs.Least.{least, least_sum, least_max, gap, NoneEmpty}
 use Rattle.nv_layout.specs.Sizing.{rooms_of, wish_size, share_size, next_size, behind_wish, behind_share, rooms_behind, CanTake}
 use Rattle.nv_layout.specs.Places.{extent, part, beyond, rects, rects_along, IsRoomy, IsOnScreen}
@@ -25,7 +25,7 @@ pub record IsReady (r : Rooms) (cs : List Child) : Type 0 where
 
 -- the sizes that rooms give to children
 abbrev pub sizes_by : Rooms → List Child → List ℕ
-sizes_by r cs = in_order cs (wishes_granted r.other_need r.wish_room (filter wishes cs)) (even_shares r.share_room (filter is_modest cs))
+sizes_by r cs = sizes_in_order cs (wishes_granted r.other_need r.wish_room (filter wishes cs)) (even_shares r.share_room (filter is_modest cs))
 
 pub ready_start : (room : ℕ) (cs : List Child) → need cs ≤ room → IsReady (rooms_of room cs) cs
 ready_start room cs h = record {
@@ -95,16 +95,16 @@ less_need room all least rest e = ap (λ n. room - n) (omega arith)
 sizes_next_where : (b : Bool) (r : Rooms) (c : Child) (cs : List Child) → IsReadyWhere b r c cs →
     (if b
     then (first (wishes_granted r.other_need r.wish_room (if b then (c ∷ filter wishes cs) else filter wishes cs))
-    ∷ in_order cs (behind (wishes_granted r.other_need r.wish_room (if b then (c ∷ filter wishes cs) else filter wishes cs))) (even_shares r.share_room (if not b then (c ∷ filter is_modest cs) else filter is_modest cs)))
+    ∷ sizes_in_order cs (behind (wishes_granted r.other_need r.wish_room (if b then (c ∷ filter wishes cs) else filter wishes cs))) (even_shares r.share_room (if not b then (c ∷ filter is_modest cs) else filter is_modest cs)))
     else (first (even_shares r.share_room (if not b then (c ∷ filter is_modest cs) else filter is_modest cs))
-    ∷ in_order cs (wishes_granted r.other_need r.wish_room (if b then (c ∷ filter wishes cs) else filter wishes cs)) (behind (even_shares r.share_room (if not b then (c ∷ filter is_modest cs) else filter is_modest cs)))))
+    ∷ sizes_in_order cs (wishes_granted r.other_need r.wish_room (if b then (c ∷ filter wishes cs) else filter wishes cs)) (behind (even_shares r.share_room (if not b then (c ∷ filter is_modest cs) else filter is_modest cs)))))
     ≡ (if b then wish_size r c else share_size r c) ∷ sizes_by (if b then behind_wish r c else behind_share r c) cs
 sizes_next_where true r c cs h =
-    ap (λ n. n ∷ in_order cs (wishes_granted r.other_need (r.wish_room - n) (filter wishes cs)) (even_shares r.share_room (filter is_modest cs)))
+    ap (λ n. n ∷ sizes_in_order cs (wishes_granted r.other_need (r.wish_room - n) (filter wishes cs)) (even_shares r.share_room (filter is_modest cs)))
     (same_within c.least c.least (r.wish_room - (r.other_need + need (filter wishes cs))) (r.wish_room - ((r.other_need + r.wish_need) - c.least)) c.wish c.wish refl
     (less_need r.wish_room (r.other_need + r.wish_need) c.least (r.other_need + need (filter wishes cs)) (omega (arith, h.wish_need))) refl)
 sizes_next_where false r c cs h =
-    ap (λ n. n ∷ in_order cs (wishes_granted r.other_need r.wish_room (filter wishes cs)) (even_shares (r.share_room - n) (filter is_modest cs)))
+    ap (λ n. n ∷ sizes_in_order cs (wishes_granted r.other_need r.wish_room (filter wishes cs)) (even_shares (r.share_room - n) (filter is_modest cs)))
     (same_within c.least c.least (r.share_room - need (filter is_modest cs)) (r.share_room - (r.share_need - c.least)) (div_ceil r.share_room (suc (length (filter is_modest cs)))) (div_ceil r.share_room r.sharers) refl
     (less_need r.share_room r.share_need c.least (need (filter is_modest cs)) h.share_need)
     (ap (div_ceil r.share_room) (sym h.sharers)))
@@ -156,12 +156,12 @@ pub record Next (a : Axis) (t : Shape) (ts : Shapes) (c : Child) (cs : List Chil
   pub on_screen : IsOnScreen (part a (next_size r c) rest)
   pub within_rest : next_size r c + gap a ts ≤ extent a rest
   pub ahead : Ahead a ts cs (rooms_behind r c) (beyond a (next_size r c + gap a ts) rest)
-  pub placed : rects_along a (one t ts) (sizes_by r (c ∷ cs)) rest ≡ rects t (part a (next_size r c) rest) ++ rects_along a ts (sizes_by (rooms_behind r c) cs) (beyond a (next_size r c + gap a ts) rest)
+  pub placed : rects_along a (more_shapes t ts) (sizes_by r (c ∷ cs)) rest ≡ rects t (part a (next_size r c) rest) ++ rects_along a ts (sizes_by (rooms_behind r c) cs) (beyond a (next_size r c + gap a ts) rest)
 
 module _ (a : Axis) (t : Shape) (ts : Shapes) (c : Child) (cs : List Child) (r : Rooms) (rest : Rect) where
-  pub next_ahead : Ahead a (one t ts) (c ∷ cs) r rest → Next a t ts c cs r rest
+  pub next_ahead : Ahead a (more_shapes t ts) (c ∷ cs) r rest → Next a t ts c cs r rest
   next_ahead h =
-      let fill : Fill a (one t ts) (next_size r c ∷ sizes_by (rooms_behind r c) cs) rest = subst (λ ms. Fill a (one t ts) ms rest) (sizes_next r c cs h.ready) h.fill in
+      let fill : Fill a (more_shapes t ts) (next_size r c ∷ sizes_by (rooms_behind r c) cs) rest = subst (λ ms. Fill a (more_shapes t ts) ms rest) (sizes_next r c cs h.ready) h.fill in
       let all = fill_all a t ts (next_size r c ∷ sizes_by (rooms_behind r c) cs) rest fill in
       record {
         taken = can_take r c cs h.ready;
@@ -177,5 +177,5 @@ module _ (a : Axis) (t : Shape) (ts : Shapes) (c : Child) (cs : List Child) (r :
           cross = omega (arith, h.cross, extent-beyond a (next_size r c + gap a ts) rest);
           on_screen = on_screen-beyond a (next_size r c + gap a ts) rest (omega (arith, all)) h.on_screen;
         };
-        placed = ap (λ ms. rects_along a (one t ts) ms rest) (sizes_next r c cs h.ready);
+        placed = ap (λ ms. rects_along a (more_shapes t ts) ms rest) (sizes_next r c cs h.ready);
       }

@@ -4,7 +4,7 @@ use Rattle.std.specs.List.{All, AllPairs}
 use Rattle.std.proofs.lemmas.List.Elements.{All-nil, All-cons, All-append}
 use Rattle.std.proofs.lemmas.List.Kept.{AllPairs-cons}
 use Rattle.std.proofs.lemmas.Bool.Decides.{nat_tests}
-use Rattle.nv_layout.specs.Content.{Shape, leaf, group, Shapes, no_more, one}
+use Rattle.nv_layout.specs.Content.{Shape, leaf, group, Shapes, no_shapes, more_shapes}
 use Rattle.nv_layout.specs.Division.{first, behind}
 use Rattle.nv_layout.specs.Least.{least_max, gap, NoneEmpty}
 use Rattle.nv_layout.specs.Places.{extent, part, beyond, rects, rects_along, child_sizes, IsRoomy}
@@ -30,15 +30,15 @@ mutual
   large (group Down ts) area whole roomy = large_down ts (child_sizes Down ts area) area (fill_group Down ts area whole roomy.high) roomy.wide
 
   large_across : (ts : Shapes) (sizes : List ℕ) (area : Rect) → Fill Across ts sizes area → least_max Down ts ≤ area.height → All IsLarge (areas (rects_along Across ts sizes area))
-  large_across no_more sizes area fill cross = All-nil IsLarge
-  large_across (one t ts) sizes area fill cross =
+  large_across no_shapes sizes area fill cross = All-nil IsLarge
+  large_across (more_shapes t ts) sizes area fill cross =
       all_areas IsLarge (rects t (part Across (first sizes) area)) (rects_along Across ts (behind sizes) (beyond Across (first sizes + gap Across ts) area))
       (large t (part Across (first sizes) area) fill.each.0 (record { wide = fill_first Across t ts sizes area fill; high = omega arith }))
       (large_across ts (behind sizes) (beyond Across (first sizes + gap Across ts) area) (fill_behind Across t ts sizes area fill) (omega arith))
 
   large_down : (ts : Shapes) (sizes : List ℕ) (area : Rect) → Fill Down ts sizes area → least_max Across ts ≤ area.width → All IsLarge (areas (rects_along Down ts sizes area))
-  large_down no_more sizes area fill cross = All-nil IsLarge
-  large_down (one t ts) sizes area fill cross =
+  large_down no_shapes sizes area fill cross = All-nil IsLarge
+  large_down (more_shapes t ts) sizes area fill cross =
       all_areas IsLarge (rects t (part Down (first sizes) area)) (rects_along Down ts (behind sizes) (beyond Down (first sizes + gap Down ts) area))
       (large t (part Down (first sizes) area) fill.each.0 (record { wide = omega arith; high = fill_first Down t ts sizes area fill }))
       (large_down ts (behind sizes) (beyond Down (first sizes + gap Down ts) area) (fill_behind Down t ts sizes area fill) (omega arith))
@@ -71,8 +71,8 @@ mutual
   lie (group Down ts) area whole roomy = lie_down ts (child_sizes Down ts area) area (fill_group Down ts area whole roomy.high) roomy.wide
 
   lie_across : (ts : Shapes) (sizes : List ℕ) (area : Rect) → Fill Across ts sizes area → least_max Down ts ≤ area.height → All (LiesIn area) (areas (rects_along Across ts sizes area))
-  lie_across no_more sizes area fill cross = All-nil (LiesIn area)
-  lie_across (one t ts) sizes area fill cross =
+  lie_across no_shapes sizes area fill cross = All-nil (LiesIn area)
+  lie_across (more_shapes t ts) sizes area fill cross =
       let here = part Across (first sizes) area in
       let next = beyond Across (first sizes + gap Across ts) area in
       all_areas (LiesIn area) (rects t here) (rects_along Across ts (behind sizes) next)
@@ -82,8 +82,8 @@ mutual
       (lie_across ts (behind sizes) (beyond Across (first sizes + gap Across ts) area) (fill_behind Across t ts sizes area fill) (omega arith)))
 
   lie_down : (ts : Shapes) (sizes : List ℕ) (area : Rect) → Fill Down ts sizes area → least_max Across ts ≤ area.width → All (LiesIn area) (areas (rects_along Down ts sizes area))
-  lie_down no_more sizes area fill cross = All-nil (LiesIn area)
-  lie_down (one t ts) sizes area fill cross =
+  lie_down no_shapes sizes area fill cross = All-nil (LiesIn area)
+  lie_down (more_shapes t ts) sizes area fill cross =
       let here = part Down (first sizes) area in
       let next = beyond Down (first sizes + gap Down ts) area in
       all_areas (LiesIn area) (rects t here) (rects_along Down ts (behind sizes) next)

@@ -1,22 +1,22 @@
 -- Children by their places, and the ones behind a place.
 use Rattle.std.proofs.Common.{◌≡◌, ◌≢◌, ℕ, zero, suc, ◌+◌, ◌≤◌, ◌<◌, Bool, true, false, not, List, [], ◌∷◌, length, drop, get_or, filter, if◌then◌else◌, refl, ap, sym, ◌∙◌, arith, add-one, drop-cons}
 use Rattle.std.proofs.lemmas.Bool.Decides.{nat_tests}
-use Rattle.nv_layout.specs.Content.{content, contents}
-use Rattle.nv_layout.specs.Division.{Child, wishes, is_modest, without_last_wish, counted_where, need}
+use Rattle.nv_layout.specs.Content.{shape_of, shapes_of}
+use Rattle.nv_layout.specs.Division.{Child, wishes, is_modest, without_last_wish, counted_children_where, need}
 use Rattle.nv_layout.specs.Least.{least, wish, child, child_list}
 use Rattle.nv_layout.specs.Sizing.{child_at}
 use Rattle.nv_layout.specs.declared.nodes.Axis.{Axis}
 use Rattle.nv_layout.specs.declared.nodes.Tree.{Tree}
 use Rattle.nv_layout.proofs.Divisions.{need_parts, need-counted_more}
 
-pub length-contents : (a : Axis) (ts : List Tree) → length (child_list a (contents ts)) ≡ length ts
-length-contents a [] = refl
-length-contents a (t ∷ ts) = omega (arith, length-contents a ts)
+pub length-shapes_of : (a : Axis) (ts : List Tree) → length (child_list a (shapes_of ts)) ≡ length ts
+length-shapes_of a [] = refl
+length-shapes_of a (t ∷ ts) = omega (arith, length-shapes_of a ts)
 
-pub child_at-contents : (a : Axis) (ts : List Tree) (i : ℕ) (d : Tree) → i < length ts → child_at (child_list a (contents ts)) i ≡ child a (content (get_or ts i d))
-child_at-contents a [] i d h = absurd (omega arith)
-child_at-contents a (t ∷ ts) zero d h = refl
-child_at-contents a (t ∷ ts) (suc i) d h = child_at-contents a ts i d (omega arith)
+pub child_at-shapes_of : (a : Axis) (ts : List Tree) (i : ℕ) (d : Tree) → i < length ts → child_at (child_list a (shapes_of ts)) i ≡ child a (shape_of (get_or ts i d))
+child_at-shapes_of a [] i d h = absurd (omega arith)
+child_at-shapes_of a (t ∷ ts) zero d h = refl
+child_at-shapes_of a (t ∷ ts) (suc i) d h = child_at-shapes_of a ts i d (omega arith)
 
 -- the last wish, where it isn't counted
 pub length-without_last_wish : (cs : List Child) → length (without_last_wish cs) ≡ length cs
@@ -44,25 +44,25 @@ same_least (c ∷ []) (suc i) = refl
 same_least (c ∷ (d ∷ cs)) zero = refl
 same_least (c ∷ (d ∷ cs)) (suc i) = same_least (d ∷ cs) i
 
-pub length-counted : (all : Bool) (cs : List Child) → length (counted_where all cs) ≡ length cs
-length-counted true cs = length-without_last_wish cs
-length-counted false cs = refl
+pub length-counted_children : (all : Bool) (cs : List Child) → length (counted_children_where all cs) ≡ length cs
+length-counted_children true cs = length-without_last_wish cs
+length-counted_children false cs = refl
 
-pub counted_last : (all : Bool) (cs : List Child) (i : ℕ) → all ≡ true → i + 1 ≡ length cs → (child_at (counted_where all cs) i).wish ≡ 0
+pub counted_last : (all : Bool) (cs : List Child) (i : ℕ) → all ≡ true → i + 1 ≡ length cs → (child_at (counted_children_where all cs) i).wish ≡ 0
 counted_last true cs i e f = last_wish cs i f
 counted_last false cs i e f = cc
 
-pub counted_before : (all : Bool) (cs : List Child) (i : ℕ) → i + 1 < length cs → child_at (counted_where all cs) i ≡ child_at cs i
+pub counted_before : (all : Bool) (cs : List Child) (i : ℕ) → i + 1 < length cs → child_at (counted_children_where all cs) i ≡ child_at cs i
 counted_before true cs i h = other_wish cs i h
 counted_before false cs i h = refl
 
-pub counted_all : (all : Bool) (cs : List Child) (i : ℕ) → all ≡ false → child_at (counted_where all cs) i ≡ child_at cs i
+pub counted_all : (all : Bool) (cs : List Child) (i : ℕ) → all ≡ false → child_at (counted_children_where all cs) i ≡ child_at cs i
 counted_all true cs i e = cc
 counted_all false cs i e = refl
 
-pub least-counted : (all : Bool) (cs : List Child) (i : ℕ) → (child_at (counted_where all cs) i).least ≡ (child_at cs i).least
-least-counted true cs i = same_least cs i
-least-counted false cs i = refl
+pub least-counted_children : (all : Bool) (cs : List Child) (i : ℕ) → (child_at (counted_children_where all cs) i).least ≡ (child_at cs i).least
+least-counted_children true cs i = same_least cs i
+least-counted_children false cs i = refl
 
 -- the children from one on
 pub drop-child : (cs : List Child) (i : ℕ) → i < length cs → drop i cs ≡ child_at cs i ∷ drop (i + 1) cs
@@ -88,25 +88,25 @@ modest_skip cs i h k = ap (filter is_modest) (drop-child cs i h) ∙ ap (λ b. i
 
 -- a child of a list of trees, as it counts
 module _ (a : Axis) (ts : List Tree) (all : Bool) (i : ℕ) (t : Tree) (h : i < length ts) (is : t ≡ get_or ts i t) where
-  pub child_within : i < length (counted_where all (child_list a (contents ts)))
-  child_within = omega (arith, length-counted all (child_list a (contents ts)), length-contents a ts)
+  pub child_within : i < length (counted_children_where all (child_list a (shapes_of ts)))
+  child_within = omega (arith, length-counted_children all (child_list a (shapes_of ts)), length-shapes_of a ts)
 
-  child_is : child_at (child_list a (contents ts)) i ≡ child a (content t)
-  child_is = child_at-contents a ts i t h ∙ ap (λ u. child a (content u)) (sym is)
+  child_is : child_at (child_list a (shapes_of ts)) i ≡ child a (shape_of t)
+  child_is = child_at-shapes_of a ts i t h ∙ ap (λ u. child a (shape_of u)) (sym is)
 
-  pub least_of_child : least a (content t) ≡ (child_at (counted_where all (child_list a (contents ts))) i).least
-  least_of_child = sym (least-counted all (child_list a (contents ts)) i ∙ ap (λ c. c.least) child_is)
+  pub least_of_child : least a (shape_of t) ≡ (child_at (counted_children_where all (child_list a (shapes_of ts))) i).least
+  least_of_child = sym (least-counted_children all (child_list a (shapes_of ts)) i ∙ ap (λ c. c.least) child_is)
 
-  pub wish_of_any : all ≡ false → wish a (content t) ≡ (child_at (counted_where all (child_list a (contents ts))) i).wish
-  wish_of_any e = sym (ap (λ c. c.wish) (counted_all all (child_list a (contents ts)) i e ∙ child_is))
+  pub wish_of_any : all ≡ false → wish a (shape_of t) ≡ (child_at (counted_children_where all (child_list a (shapes_of ts))) i).wish
+  wish_of_any e = sym (ap (λ c. c.wish) (counted_all all (child_list a (shapes_of ts)) i e ∙ child_is))
 
-  pub wish_of_earlier : i + 1 ≢ length ts → wish a (content t) ≡ (child_at (counted_where all (child_list a (contents ts))) i).wish
+  pub wish_of_earlier : i + 1 ≢ length ts → wish a (shape_of t) ≡ (child_at (counted_children_where all (child_list a (shapes_of ts))) i).wish
   wish_of_earlier k =
-      let before : i + 1 < length (child_list a (contents ts)) = omega (arith, length-contents a ts) in
-      sym (ap (λ c. c.wish) (counted_before all (child_list a (contents ts)) i before ∙ child_is))
+      let before : i + 1 < length (child_list a (shapes_of ts)) = omega (arith, length-shapes_of a ts) in
+      sym (ap (λ c. c.wish) (counted_before all (child_list a (shapes_of ts)) i before ∙ child_is))
 
-pub wish_of_last : (a : Axis) (ts : List Tree) (all : Bool) (i : ℕ) → all ≡ true → i + 1 ≡ length ts → 0 ≡ (child_at (counted_where all (child_list a (contents ts))) i).wish
-wish_of_last a ts all i e f = sym (counted_last all (child_list a (contents ts)) i e (f ∙ sym (length-contents a ts)))
+pub wish_of_last : (a : Axis) (ts : List Tree) (all : Bool) (i : ℕ) → all ≡ true → i + 1 ≡ length ts → 0 ≡ (child_at (counted_children_where all (child_list a (shapes_of ts))) i).wish
+wish_of_last a ts all i e f = sym (counted_last all (child_list a (shapes_of ts)) i e (f ∙ sym (length-shapes_of a ts)))
 
 -- what the children from one on need
 module _ (cs : List Child) (i : ℕ) (h : i < length cs) where
@@ -128,8 +128,8 @@ module _ (cs : List Child) (i : ℕ) (h : i < length cs) where
   pub count_past_wish : 0 < (child_at cs i).wish → length (filter is_modest (drop i cs)) ≡ length (filter is_modest (drop (i + 1) cs))
   count_past_wish k = ap length (modest_skip cs i h k)
 
-pub need-counted_where : (all : Bool) (cs : List Child) → need (counted_where all cs) ≡ need cs
-need-counted_where all cs = need-counted_more cs all
+pub need-counted_children_where : (all : Bool) (cs : List Child) → need (counted_children_where all cs) ≡ need cs
+need-counted_children_where all cs = need-counted_more cs all
 
 pub filter-most : (p : Child → Bool) (cs : List Child) → length (filter p cs) ≤ length cs
 filter-most p [] = omega arith
@@ -146,13 +146,13 @@ least_in_need (c ∷ cs) (suc i) h = omega (arith, least_in_need cs i (omega ari
 
 -- a child's least size is a part of what all need, which is at most the room
 module _ (a : Axis) (ts : List Tree) (all : Bool) (i : ℕ) (t : Tree) (h : i < length ts) (is : t ≡ get_or ts i t) where
-  pub least_within : least a (content t) ≤ need (child_list a (contents ts))
+  pub least_within : least a (shape_of t) ≤ need (child_list a (shapes_of ts))
   least_within = omega (
     arith,
     least_of_child a ts all i t h is,
-    least_in_need (counted_where all (child_list a (contents ts))) i (child_within a ts all i t h is),
-    need-counted_where all (child_list a (contents ts)),
+    least_in_need (counted_children_where all (child_list a (shapes_of ts))) i (child_within a ts all i t h is),
+    need-counted_children_where all (child_list a (shapes_of ts)),
   )
 
-pub needs_in_all : (all : Bool) (cs : List Child) → (need (filter wishes (counted_where all cs)) + need (filter is_modest (counted_where all cs)) ≡ need cs) × (length (filter is_modest (counted_where all cs)) ≤ length cs)
-needs_in_all all cs = (need_parts (counted_where all cs) ∙ need-counted_where all cs, omega (arith, filter-most is_modest (counted_where all cs), length-counted all cs))
+pub needs_in_all : (all : Bool) (cs : List Child) → (need (filter wishes (counted_children_where all cs)) + need (filter is_modest (counted_children_where all cs)) ≡ need cs) × (length (filter is_modest (counted_children_where all cs)) ≤ length cs)
+needs_in_all all cs = (need_parts (counted_children_where all cs) ∙ need-counted_children_where all cs, omega (arith, filter-most is_modest (counted_children_where all cs), length-counted_children all cs))

@@ -2,7 +2,7 @@
 use Rattle.std.proofs.Common.{◌≡◌, ℕ, suc, ◌+◌, ◌-◌, ◌≤◌, Bool, true, false, not, ◌&&◌, List, [], ◌∷◌, length, filter, if◌then◌else◌, refl, ap, arith}
 use Rattle.std.specs.Int.{div_ceil}
 use Rattle.std.specs.List.{list_all}
-use Rattle.nv_layout.specs.Division.{Child, wishes, is_modest, without_last_wish, counted, need, total, within, wishes_granted, even_shares, first, behind, in_order, sizes, division}
+use Rattle.nv_layout.specs.Division.{Child, wishes, is_modest, without_last_wish, counted_children, need, total, within, wishes_granted, even_shares, first, behind, sizes_in_order, sizes, division}
 use Rattle.nv_layout.specs.Shares.{Suffices, DivisionIsWhole}
 
 -- a size within bounds lies between them
@@ -60,11 +60,11 @@ suffices_behind c cs [] h = absurd h
 suffices_behind c cs (n ∷ ns) h = h.1
 
 module _ (c : Child) (cs : List Child) (granted shared : List ℕ) where
-  in_order_suffices_more : (b : Bool) → ((g s : List ℕ) → Suffices (filter wishes cs) g → Suffices (filter is_modest cs) s → Suffices cs (in_order cs g s)) → Suffices (if b then (c ∷ filter wishes cs) else filter wishes cs) granted → Suffices (if not b then (c ∷ filter is_modest cs) else filter is_modest cs) shared → Suffices (c ∷ cs) (if b then (first granted ∷ in_order cs (behind granted) shared) else (first shared ∷ in_order cs granted (behind shared)))
+  in_order_suffices_more : (b : Bool) → ((g s : List ℕ) → Suffices (filter wishes cs) g → Suffices (filter is_modest cs) s → Suffices cs (sizes_in_order cs g s)) → Suffices (if b then (c ∷ filter wishes cs) else filter wishes cs) granted → Suffices (if not b then (c ∷ filter is_modest cs) else filter is_modest cs) shared → Suffices (c ∷ cs) (if b then (first granted ∷ sizes_in_order cs (behind granted) shared) else (first shared ∷ sizes_in_order cs granted (behind shared)))
   in_order_suffices_more true inner h k = (suffices_first c (filter wishes cs) granted h, inner (behind granted) shared (suffices_behind c (filter wishes cs) granted h) k)
   in_order_suffices_more false inner h k = (suffices_first c (filter is_modest cs) shared k, inner granted (behind shared) h (suffices_behind c (filter is_modest cs) shared k))
 
-in_order_suffices : (cs : List Child) (granted shared : List ℕ) → Suffices (filter wishes cs) granted → Suffices (filter is_modest cs) shared → Suffices cs (in_order cs granted shared)
+in_order_suffices : (cs : List Child) (granted shared : List ℕ) → Suffices (filter wishes cs) granted → Suffices (filter is_modest cs) shared → Suffices cs (sizes_in_order cs granted shared)
 in_order_suffices [] granted shared h k = tt
 in_order_suffices (c ∷ cs) granted shared h k = in_order_suffices_more c cs granted shared (wishes c) (in_order_suffices cs) h k
 
@@ -78,11 +78,11 @@ none_suffice [] h = refl
 none_suffice (n ∷ ns) h = absurd h
 
 module _ (c : Child) (cs : List Child) (granted shared : List ℕ) where
-  in_order_total_more : (b : Bool) → ((g s : List ℕ) → Suffices (filter wishes cs) g → Suffices (filter is_modest cs) s → total (in_order cs g s) ≡ total g + total s) → Suffices (if b then (c ∷ filter wishes cs) else filter wishes cs) granted → Suffices (if not b then (c ∷ filter is_modest cs) else filter is_modest cs) shared → total (if b then (first granted ∷ in_order cs (behind granted) shared) else (first shared ∷ in_order cs granted (behind shared))) ≡ total granted + total shared
+  in_order_total_more : (b : Bool) → ((g s : List ℕ) → Suffices (filter wishes cs) g → Suffices (filter is_modest cs) s → total (sizes_in_order cs g s) ≡ total g + total s) → Suffices (if b then (c ∷ filter wishes cs) else filter wishes cs) granted → Suffices (if not b then (c ∷ filter is_modest cs) else filter is_modest cs) shared → total (if b then (first granted ∷ sizes_in_order cs (behind granted) shared) else (first shared ∷ sizes_in_order cs granted (behind shared))) ≡ total granted + total shared
   in_order_total_more true inner h k = omega (arith, suffices_total c (filter wishes cs) granted h, inner (behind granted) shared (suffices_behind c (filter wishes cs) granted h) k)
   in_order_total_more false inner h k = omega (arith, suffices_total c (filter is_modest cs) shared k, inner granted (behind shared) h (suffices_behind c (filter is_modest cs) shared k))
 
-in_order_total : (cs : List Child) (granted shared : List ℕ) → Suffices (filter wishes cs) granted → Suffices (filter is_modest cs) shared → total (in_order cs granted shared) ≡ total granted + total shared
+in_order_total : (cs : List Child) (granted shared : List ℕ) → Suffices (filter wishes cs) granted → Suffices (filter is_modest cs) shared → total (sizes_in_order cs granted shared) ≡ total granted + total shared
 in_order_total [] granted shared h k = omega (arith, none_suffice granted h, none_suffice shared k)
 in_order_total (c ∷ cs) granted shared h k = in_order_total_more c cs granted shared (wishes c) (in_order_total cs) h k
 
@@ -131,7 +131,7 @@ counted_modest_more : (c : Child) (cs : List Child) (b : Bool) → list_all wish
 counted_modest_more c cs true e = last_modest c cs
 counted_modest_more c cs false e = some_modest (c ∷ cs) e
 
-pub counted_modest : (cs : List Child) → 1 ≤ length cs → 1 ≤ length (filter is_modest (counted cs))
+pub counted_modest : (cs : List Child) → 1 ≤ length cs → 1 ≤ length (filter is_modest (counted_children cs))
 counted_modest [] h = absurd (omega arith)
 counted_modest (c ∷ cs) h = counted_modest_more c cs (list_all wishes (c ∷ cs)) refl
 
@@ -159,6 +159,6 @@ suffices_counted_more cs ns false h = h
 pub division_is_whole : DivisionIsWhole
 unfolding division
 division_is_whole room cs some h = (
-  sizes_whole room (counted cs) (counted_modest cs some) (rw (need-counted_more cs (list_all wishes cs)) h),
-  suffices_counted_more cs (sizes room (counted cs)) (list_all wishes cs) (sizes_suffice room (counted cs)),
+  sizes_whole room (counted_children cs) (counted_modest cs some) (rw (need-counted_more cs (list_all wishes cs)) h),
+  suffices_counted_more cs (sizes room (counted_children cs)) (list_all wishes cs) (sizes_suffice room (counted_children cs)),
 )

@@ -15,3 +15,7 @@ pub mod PlacingSteps
 pub mod Rebuilt
 pub mod Smaller
 pub mod Closing
+pub mod Asking
+pub mod Wishing
+pub mod FindingSteps
+pub mod Wishes

@@ -2,7 +2,7 @@
 use Rattle.std.proofs.Common.{◌≡◌, ℕ, ◌+◌, ◌-◌, ◌*◌, ◌≤◌, List, [], ◌∷◌, ◌++◌, refl, ap, arith, add_assoc, add-zero, ◌∙◌}
 use Rattle.std.proofs.lemmas.Bool.Decides.{nat_tests}
 use Rattle.nv_layout.specs.Least.{gap}
-use Rattle.nv_layout.specs.Content.{Shapes, no_more, one}
+use Rattle.nv_layout.specs.Content.{Shapes, no_shapes, more_shapes}
 use Rattle.nv_layout.specs.Places.{extent, part, beyond, separator}
 use Rattle.nv_layout.specs.Tiling.{in_span, in_rect, times_in, areas}
 use Rattle.nv_layout.specs.declared.nodes.Axis.{Axis}
@@ -60,8 +60,8 @@ joined_cut : (all front back apart behind behind' : ℕ) → all ≡ front + bac
 joined_cut all front back apart behind behind' e f g = omega arith
 
 pub separator_cut : (a : Axis) (ts : Shapes) (n : ℕ) (area : Rect) (row col : ℕ) → n + gap a ts ≤ extent a area → in_rect row col area ≡ in_rect row col (part a n area) + (times_in row col (separator a ts (beyond a n area)) + in_rect row col (beyond a (n + gap a ts) area))
-separator_cut Across no_more n area row col h = rw add-zero (plain_cut _ _ _ (in_rect-cut Across n area row col (omega arith)))
-separator_cut Across (one t ts) n area row col h =
+separator_cut Across no_shapes n area row col h = rw add-zero (plain_cut _ _ _ (in_rect-cut Across n area row col (omega arith)))
+separator_cut Across (more_shapes t ts) n area row col h =
     let front : in_rect row col area ≡ in_rect row col (part Across n area) + in_rect row col (beyond Across n area) = in_rect-cut Across n area row col (omega arith) in
     let back : in_rect row col (beyond Across n area) ≡ in_rect row col (part Across 1 (beyond Across n area)) + in_rect row col (beyond Across 1 (beyond Across n area)) = in_rect-cut Across 1 (beyond Across n area) row col (omega arith) in
     let same : in_rect row col (beyond Across 1 (beyond Across n area)) ≡ in_rect row col (beyond Across (n + 1) area) = along_same (in_span area.row area.height row) area.col area.width n col in

@@ -3,7 +3,8 @@ use Rattle.std.specs.Prelude.{ℕ, ◌+◌, ◌-◌, min, max, Bool, not, nat_lt
 use Rattle.std.specs.Int.{div_ceil}
 use Rattle.std.specs.List.{list_all}
 
--- a child along the side that is divided: its least size, and the size that it wishes for, 0 for none
+-- a child along the side that is divided: its least size, and the size that it wishes for, 0 for
+-- none
 pub record Child : Type 0 where
   pub least : ℕ
   pub wish : ℕ
@@ -21,11 +22,11 @@ without_last_wish [] = []
 without_last_wish (c ∷ []) = record c { wish = 0 } ∷ []
 without_last_wish (c ∷ (d ∷ cs)) = c ∷ without_last_wish (d ∷ cs)
 
-abbrev pub counted_where : Bool → List Child → List Child
-counted_where all_wish cs = if all_wish then without_last_wish cs else cs
+abbrev pub counted_children_where : Bool → List Child → List Child
+counted_children_where all_wish cs = if all_wish then without_last_wish cs else cs
 
-abbrev pub counted : List Child → List Child
-counted cs = counted_where (list_all wishes cs) cs
+abbrev pub counted_children : List Child → List Child
+counted_children cs = counted_children_where (list_all wishes cs) cs
 
 -- what children need at least, all together
 abbrev pub need : List Child → ℕ
@@ -41,16 +42,16 @@ total (n ∷ ns) = n + total ns
 abbrev pub within : ℕ → ℕ → ℕ → ℕ
 within low high size = max low (min high size)
 
--- Children with a wish get it, in order, but at most what leaves every child not yet sized its least size:
--- those that follow, and those without a wish, which need so much.
+-- Children with a wish get it, in order, but at most what leaves every child not yet sized its
+-- least size: those that follow, and those without a wish, which need so much.
 abbrev pub wishes_granted : ℕ → ℕ → List Child → List ℕ
 wishes_granted others room [] = []
 wishes_granted others room (c ∷ cs) =
     let size = within c.least (room - (others + need cs)) c.wish in
     size ∷ wishes_granted others (room - size) cs
 
--- Children without a wish share the rest, in order: each gets an even part of what is left, rounded up,
--- within the same bounds. So the last one gets all that is left.
+-- Children without a wish share the rest, in order: each gets an even part of what is left, rounded
+-- up, within the same bounds. So the last one gets all that is left.
 abbrev pub even_shares : ℕ → List Child → List ℕ
 even_shares room [] = []
 even_shares room (c ∷ cs) =
@@ -67,19 +68,20 @@ behind [] = []
 behind (n ∷ ns) = ns
 
 -- the sizes of children in their order, from those of the ones with a wish and those of the others
-abbrev pub in_order : List Child → List ℕ → List ℕ → List ℕ
-in_order [] granted shared = []
-in_order (c ∷ cs) granted shared =
+abbrev pub sizes_in_order : List Child → List ℕ → List ℕ → List ℕ
+sizes_in_order [] granted shared = []
+sizes_in_order (c ∷ cs) granted shared =
     if wishes c
-    then (first granted ∷ in_order cs (behind granted) shared)
-    else (first shared ∷ in_order cs granted (behind shared))
+    then (first granted ∷ sizes_in_order cs (behind granted) shared)
+    else (first shared ∷ sizes_in_order cs granted (behind shared))
 
--- the sizes of children of which all wishes count: first those with a wish are sized, then the others
+-- the sizes of children of which all wishes count: first those with a wish are sized, then the
+-- others
 abbrev pub sizes : ℕ → List Child → List ℕ
 sizes room cs =
     let granted = wishes_granted (need (filter is_modest cs)) room (filter wishes cs) in
-    in_order cs granted (even_shares (room - total granted) (filter is_modest cs))
+    sizes_in_order cs granted (even_shares (room - total granted) (filter is_modest cs))
 
 -- the sizes of children that share so much room
 unfoldable pub division : ℕ → List Child → List ℕ
-division room cs = sizes room (counted cs)
+division room cs = sizes room (counted_children cs)

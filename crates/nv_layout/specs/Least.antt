@@ -1,6 +1,6 @@
 -- The least size of a tree, its wishes and its windows.
 use Rattle.std.specs.Prelude.{ℕ, ◌+◌, ◌^◌, ◌<◌, ◌≤◌, max, List, [], ◌∷◌, ◌++◌}
-use Rattle.nv_layout.specs.Content.{Shape, leaf, group, Shapes, no_more, one}
+use Rattle.nv_layout.specs.Content.{Shape, leaf, group, Shapes, no_shapes, more_shapes}
 use Rattle.nv_layout.specs.Division.{Child}
 use Rattle.nv_layout.specs.declared.nodes.Axis.{Axis}
 use Rattle.nv_layout.specs.declared.nodes.Axis.TheVariants.{Across, Down}
@@ -13,14 +13,14 @@ leaf_least Down = 2
 
 -- what stands between a child and those behind it: a separator column in a Row, nothing in a Column
 abbrev pub gap : Axis → Shapes → ℕ
-gap Across (one t ts) = 1
-gap Across no_more = 0
+gap Across (more_shapes t ts) = 1
+gap Across no_shapes = 0
 gap Down ts = 0
 
 -- all that stands between neighbours
 abbrev pub gaps : Axis → Shapes → ℕ
-gaps a no_more = 0
-gaps a (one t ts) = gap a ts + gaps a ts
+gaps a no_shapes = 0
+gaps a (more_shapes t ts) = gap a ts + gaps a ts
 
 -- of two numbers, the first along an axis of one's own, and the second across it
 abbrev pub along_or_across : Axis → Axis → ℕ → ℕ → ℕ
@@ -37,13 +37,13 @@ abbrev mutual
 
   -- of children that follow one another along the axis, with what stands between them
   pub least_sum : Axis → Shapes → ℕ
-  least_sum a no_more = 0
-  least_sum a (one t ts) = least a t + (gap a ts + least_sum a ts)
+  least_sum a no_shapes = 0
+  least_sum a (more_shapes t ts) = least a t + (gap a ts + least_sum a ts)
 
   -- of children side by side
   pub least_max : Axis → Shapes → ℕ
-  least_max a no_more = 0
-  least_max a (one t ts) = max (least a t) (least_max a ts)
+  least_max a no_shapes = 0
+  least_max a (more_shapes t ts) = max (least a t) (least_max a ts)
 
 -- what a child wishes for along an axis: a window its width or height, a group nothing
 abbrev pub wish : Axis → Shape → ℕ
@@ -56,18 +56,18 @@ abbrev pub child : Axis → Shape → Child
 child a t = record { least = least a t; wish = wish a t }
 
 abbrev pub child_list : Axis → Shapes → List Child
-child_list a no_more = []
-child_list a (one t ts) = child a t ∷ child_list a ts
+child_list a no_shapes = []
+child_list a (more_shapes t ts) = child a t ∷ child_list a ts
 
 -- the windows, in order
 abbrev mutual
-  pub leaves : Shape → List Leaf
-  leaves (leaf l) = l ∷ []
-  leaves (group a ts) = leaves_in ts
+  pub leaves_of : Shape → List Leaf
+  leaves_of (leaf l) = l ∷ []
+  leaves_of (group a ts) = leaves_in ts
 
   pub leaves_in : Shapes → List Leaf
-  leaves_in no_more = []
-  leaves_in (one t ts) = leaves t ++ leaves_in ts
+  leaves_in no_shapes = []
+  leaves_in (more_shapes t ts) = leaves_of t ++ leaves_in ts
 
 -- what holds of each group in a tree
 abbrev mutual
@@ -76,17 +76,17 @@ abbrev mutual
   EachGroup P (group a ts) = P a ts × EachGroupIn P ts
 
   pub EachGroupIn : (Axis → Shapes → Type 0) → Shapes → Type 0
-  EachGroupIn P no_more = Unit {0}
-  EachGroupIn P (one t ts) = EachGroup P t × EachGroupIn P ts
+  EachGroupIn P no_shapes = Unit {0}
+  EachGroupIn P (more_shapes t ts) = EachGroup P t × EachGroupIn P ts
 
 -- how many children
-abbrev pub count : Shapes → ℕ
-count no_more = 0
-count (one t ts) = 1 + count ts
+abbrev pub child_count : Shapes → ℕ
+child_count no_shapes = 0
+child_count (more_shapes t ts) = 1 + child_count ts
 
 -- a group that has a child
 abbrev pub HasChild : Axis → Shapes → Type 0
-HasChild a ts = 1 ≤ count ts
+HasChild a ts = 1 ≤ child_count ts
 
 -- a tree in which no Row and no Column is empty
 abbrev pub NoneEmpty : Shape → Type 0

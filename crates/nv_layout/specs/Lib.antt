@@ -7,3 +7,4 @@ pub mod Places
 pub mod Shares
 pub mod Sizing
 pub mod Tiling
+pub mod Codes

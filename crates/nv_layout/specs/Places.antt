@@ -1,6 +1,7 @@
 -- The rectangles of a tree, by recursion on it, and the separators between them.
-use Rattle.std.specs.Prelude.{ℕ, ◌+◌, ◌-◌, ◌^◌, ◌<◌, ◌≤◌, List, [], ◌∷◌, ◌++◌}
-use Rattle.nv_layout.specs.Content.{Shape, leaf, group, Shapes, no_more, one}
+use Rattle.std.specs.Prelude.{ℕ, ℤ, ◌+◌, ◌-◌, ◌^◌, ◌<◌, ◌≤◌, List, [], ◌∷◌, ◌++◌, find, Option, option_map}
+use Rattle.std.specs.Ordering.{int_eq}
+use Rattle.nv_layout.specs.Content.{Shape, leaf, group, Shapes, no_shapes, more_shapes}
 use Rattle.nv_layout.specs.Division.{division, first, behind}
 use Rattle.nv_layout.specs.Least.{least, gap, gaps, child_list}
 use Rattle.nv_layout.specs.declared.nodes.Axis.{Axis}
@@ -35,15 +36,19 @@ abbrev mutual
 
   -- children of these sizes one behind another, with what stands between them
   pub rects_along : Axis → Shapes → List ℕ → Rect → List Placed
-  rects_along a no_more sizes area = []
-  rects_along a (one t ts) sizes area =
+  rects_along a no_shapes sizes area = []
+  rects_along a (more_shapes t ts) sizes area =
       rects t (part a (first sizes) area)
       ++ rects_along a ts (behind sizes) (beyond a (first sizes + gap a ts) area)
 
+-- the rectangle of a window among windows with theirs
+abbrev pub rect_among : ℤ → List Placed → Option Rect
+rect_among w placed = option_map (λ p. p.rect) (find (λ p. int_eq p.window w) placed)
+
 -- the separator at the left of an area where children follow
 abbrev pub separator : Axis → Shapes → Rect → List Rect
-separator Across (one t ts) area = part Across 1 area ∷ []
-separator Across no_more area = []
+separator Across (more_shapes t ts) area = part Across 1 area ∷ []
+separator Across no_shapes area = []
 separator Down ts area = []
 
 -- the separators of a tree in an area
@@ -53,8 +58,8 @@ abbrev mutual
   separators (group a ts) area = separators_along a ts (child_sizes a ts area) area
 
   pub separators_along : Axis → Shapes → List ℕ → Rect → List Rect
-  separators_along a no_more sizes area = []
-  separators_along a (one t ts) sizes area =
+  separators_along a no_shapes sizes area = []
+  separators_along a (more_shapes t ts) sizes area =
       separators t (part a (first sizes) area)
       ++ separator a ts (beyond a (first sizes) area)
       ++ separators_along a ts (behind sizes) (beyond a (first sizes + gap a ts) area)

@@ -1,7 +1,7 @@
 -- What the rectangles of a tree keep, whatever its wishes.
 use Rattle.std.specs.Prelude.{◌≡◌, ℕ, ℤ, ◌+◌, ◌*◌, ◌≤◌, ◌&&◌, nat_le, nat_lt, List, [], ◌∷◌, map, All, AllPairs, if◌then◌else◌}
 use Rattle.nv_layout.specs.Content.{Shape}
-use Rattle.nv_layout.specs.Least.{leaves, NoneEmpty}
+use Rattle.nv_layout.specs.Least.{leaves_of, NoneEmpty}
 use Rattle.nv_layout.specs.Places.{rects, separators, IsRoomy}
 use Rattle.nv_layout.specs.declared.nodes.Leaf.{Leaf}
 use Rattle.nv_layout.specs.declared.nodes.Placed.{Placed}
@@ -28,7 +28,8 @@ areas = map (λ p. p.rect)
 abbrev pub RectsTile : Type 0
 RectsTile =
     (t : Shape) (area : Rect) → NoneEmpty t → IsRoomy t area → (row col : ℕ) →
-    times_in row col (areas (rects t area)) + times_in row col (separators t area) ≡ in_rect row col area
+    times_in row col (areas (rects t area)) + times_in row col (separators t area)
+    ≡ in_rect row col area
 
 -- a rectangle within another
 pub record LiesIn (area inner : Rect) : Type 0 where
@@ -66,4 +67,4 @@ windows = map (λ l. l.window)
 -- There is a rectangle for each leaf, in tree order.
 abbrev pub RectsNameWindows : Type 0
 RectsNameWindows =
-    (t : Shape) (area : Rect) → map (λ p. p.window) (rects t area) ≡ windows (leaves t)
+    (t : Shape) (area : Rect) → map (λ p. p.window) (rects t area) ≡ windows (leaves_of t)

@@ -5,9 +5,9 @@
 
 ghost use Rattle.std.specs.Prelude.{◌≡◌, ◌+◌, ◌<◌, ◌≤◌, ◌↔◌, length, take, slice_index_or, true, false, Some, IsTrue, IsFalse, IfOk, OnOk, OnErr};
 ghost use Rattle.std.specs.Option.{option_map};
-ghost use Rattle.nv_layout.specs.Content.{content, contents, leaf, group, one, no_more};
-ghost use Rattle.nv_layout.specs.Changes.{holds, holds_among, append, put_before, axis_of, both, put_opened, split, split_among, regrouped, put_left, close, close_among};
-ghost use Rattle.nv_layout.specs.Least.{leaves, leaves_in};
+ghost use Rattle.nv_layout.specs.Content.{shape_of, shapes_of, leaf, group, more_shapes, no_shapes};
+ghost use Rattle.nv_layout.specs.Changes.{holds, holds_among, append, put_before, axis_of, both, put_opened, split, split_among, group_left, put_left, close, close_among, leaf_wishing, with_wish, with_wish_among};
+ghost use Rattle.nv_layout.specs.Least.{leaves_of, leaves_in};
 
 use crate::nodes::{Axis, Leaf, Side, Tree};
 use std::alloc::{AllocError, Global};
@@ -25,10 +25,11 @@ impl Tree {
         side: Side,
         new: Leaf,
     ) -> Result<bool, AllocError>
-        ensures found { IfOk result (λ found. found ≡ holds window (content self.old)) }
-        ensures ok { OnOk result (content self.new ≡ split side window new (content self.old)) }
-        ensures missing { holds window (content self.old) ≡ false → content self.new ≡ content self.old }
-        ensures err { OnErr result (content self.new ≡ content self.old) }
+        ensures found { IfOk result (λ found. found ≡ holds window (shape_of self.old)) }
+        ensures ok { OnOk result (shape_of self.new ≡ split side window new (shape_of self.old)) }
+        ensures missing { holds window (shape_of self.old) ≡ false
+            → shape_of self.new ≡ shape_of self.old }
+        ensures err { OnErr result (shape_of self.new ≡ shape_of self.old) }
     {
         if !self.holds(window) {
             return Ok(false);
@@ -44,10 +45,14 @@ impl Tree {
     /// the only one, and then changes nothing; nor does it where memory is wanting. (own rule;
     /// `nvim_win_close`)
     pub fn close(&mut self, alloc: Global, window: i64) -> Result<bool, AllocError>
-        ensures closed { IfOk result (λ closed. IsTrue closed ↔ ((holds window (content self.old) ≡ true) × (1 < length (leaves (content self.old))))) }
-        ensures after { IfOk result (λ closed. IsTrue closed → close window (content self.old) ≡ Some (content self.new)) }
-        ensures kept { IfOk result (λ closed. IsFalse closed → content self.new ≡ content self.old) }
-        ensures err { OnErr result (content self.new ≡ content self.old) }
+        ensures closed { IfOk result (λ closed. IsTrue closed
+            ↔ ((holds window (shape_of self.old) ≡ true)
+            × (1 < length (leaves_of (shape_of self.old))))) }
+        ensures after { IfOk result (λ closed. IsTrue closed
+            → close window (shape_of self.old) ≡ Some (shape_of self.new)) }
+        ensures kept { IfOk result (λ closed. IsFalse closed
+            → shape_of self.new ≡ shape_of self.old) }
+        ensures err { OnErr result (shape_of self.new ≡ shape_of self.old) }
     {
         if !self.holds(window) {
             return Ok(false);
@@ -65,7 +70,7 @@ impl Tree {
     /// A tree with the same content.
     #[cycle(copy)]
     pub fn copy(&self, alloc: Global) -> Result<Tree, AllocError>
-        ensures { IfOk result (λ tree. content tree ≡ content self.now) }
+        ensures { IfOk result (λ tree. shape_of tree ≡ shape_of self.now) }
     {
         match self {
             Tree::Leaf(leaf) => Ok(Tree::Leaf(*leaf)),
@@ -74,10 +79,24 @@ impl Tree {
         }
     }
 
-    // Whether a window is in the tree.
+    /// Puts the size that a window wishes for along an axis, 0 for none, in place of the wish that
+    /// it had. A height counts the status line. No memory is taken. (own rule;
+    /// `nvim_win_set_width`)
+    #[cycle(wish)]
+    pub fn put_wish(&mut self, window: i64, axis: Axis, wish: u32)
+        ensures { shape_of self.new ≡ with_wish axis wish window (shape_of self.old) }
+    {
+        match self {
+            Tree::Leaf(leaf) => put_leaf_wish(leaf, window, axis, wish),
+            Tree::Row(trees) => put_wish_among(trees, window, axis, wish),
+            Tree::Column(trees) => put_wish_among(trees, window, axis, wish),
+        }
+    }
+
+    /// Whether a window is in the tree.
     #[cycle(holds)]
-    fn holds(&self, window: i64) -> bool
-        ensures { result ≡ holds window (content self.now) }
+    pub fn holds(&self, window: i64) -> bool
+        ensures { result ≡ holds window (shape_of self.now) }
     {
         match self {
             Tree::Leaf(leaf) => leaf.window == window,
@@ -89,7 +108,7 @@ impl Tree {
     // Whether the tree has any window.
     #[cycle(has_window)]
     fn has_window(&self) -> bool
-        ensures { IsTrue result ↔ (0 < length (leaves (content self.now))) }
+        ensures { IsTrue result ↔ (0 < length (leaves_of (shape_of self.now))) }
     {
         match self {
             Tree::Leaf(_) => true,
@@ -98,11 +117,18 @@ impl Tree {
         }
     }
 
-    // The tree in which a window is opened beside one of its own.
+    /// The tree that it becomes where a window is opened on a side of one of its own, as by
+    /// `split`.
     #[cycle(opened)]
-    fn opened(&self, alloc: Global, window: i64, side: Side, new: Leaf) -> Result<Tree, AllocError>
-        requires { holds window (content self.now) ≡ true }
-        ensures { IfOk result (λ tree. content tree ≡ split side window new (content self.now)) }
+    pub fn opened(
+        &self,
+        alloc: Global,
+        window: i64,
+        side: Side,
+        new: Leaf,
+    ) -> Result<Tree, AllocError>
+        requires { holds window (shape_of self.now) ≡ true }
+        ensures { IfOk result (λ tree. shape_of tree ≡ split side window new (shape_of self.now)) }
     {
         match self {
             Tree::Leaf(leaf) => both(alloc, side, *leaf, new),
@@ -118,8 +144,9 @@ impl Tree {
     // What is left of the tree without a window of its own.
     #[cycle(closed)]
     fn closed(&self, alloc: Global, window: i64) -> Result<Option<Tree>, AllocError>
-        requires { holds window (content self.now) ≡ true }
-        ensures { IfOk result (λ left. option_map content left ≡ close window (content self.now)) }
+        requires { holds window (shape_of self.now) ≡ true }
+        ensures { IfOk result (λ left. option_map shape_of left
+            ≡ close window (shape_of self.now)) }
     {
         match self {
             Tree::Leaf(_) => Ok(None),
@@ -140,8 +167,9 @@ impl Tree {
 #[cycle(holds)]
 fn place_of(trees: &[Tree], window: i64) -> usize
     ensures within { result ≤ length trees.now }
-    ensures before { holds_among window (contents (take result trees.now)) ≡ false }
-    ensures here { (d : Tree) → result < length trees.now → holds window (content (slice_index_or trees.now result d)) ≡ true }
+    ensures before { holds_among window (shapes_of (take result trees.now)) ≡ false }
+    ensures here { (d : Tree) → result < length trees.now
+        → holds window (shape_of (slice_index_or trees.now result d)) ≡ true }
 {
     for (place, tree) in trees.iter().enumerate() {
         if tree.holds(window) {
@@ -151,9 +179,31 @@ fn place_of(trees: &[Tree], window: i64) -> usize
     trees.len()
 }
 
+// The leaf wishes this where it is that of the window.
+fn put_leaf_wish(own: &mut Leaf, window: i64, axis: Axis, wish: u32)
+    ensures { leaf own.new ≡ with_wish axis wish window (leaf own.old) }
+{
+    if own.window == window {
+        match axis {
+            Axis::Across => own.width = wish,
+            Axis::Down => own.height = wish,
+        }
+    }
+}
+
+// The same for children.
+#[cycle(wish)]
+fn put_wish_among(trees: &mut [Tree], window: i64, axis: Axis, wish: u32)
+    ensures { shapes_of trees.new ≡ with_wish_among axis wish window (shapes_of trees.old) }
+{
+    for tree in trees.iter_mut() {
+        tree.put_wish(window, axis, wish);
+    }
+}
+
 #[cycle(has_window)]
 fn any_has_window(trees: &[Tree]) -> bool
-    ensures { IsTrue result ↔ (0 < length (leaves_in (contents trees.now))) }
+    ensures { IsTrue result ↔ (0 < length (leaves_in (shapes_of trees.now))) }
 {
     for tree in trees {
         if tree.has_window() {
@@ -165,7 +215,7 @@ fn any_has_window(trees: &[Tree]) -> bool
 
 #[cycle(copy)]
 fn copies(alloc: Global, trees: &[Tree]) -> Result<Vec<Tree>, AllocError>
-    ensures { IfOk result (λ copies. contents copies.items ≡ contents trees.now) }
+    ensures { IfOk result (λ copies. shapes_of copies.items ≡ shapes_of trees.now) }
 {
     let mut copies = Vec::with_capacity(alloc, trees.len())?;
     push_copies(alloc, trees, &mut copies)?;
@@ -175,7 +225,8 @@ fn copies(alloc: Global, trees: &[Tree]) -> Result<Vec<Tree>, AllocError>
 // Puts copies behind other trees.
 #[cycle(copy)]
 fn push_copies(alloc: Global, trees: &[Tree], all: &mut Vec<Tree>) -> Result<(), AllocError>
-    ensures { OnOk result (contents all.new.items ≡ append (contents all.old.items) (contents trees.now)) }
+    ensures { OnOk result (shapes_of all.new.items
+        ≡ append (shapes_of all.old.items) (shapes_of trees.now)) }
 {
     for tree in trees {
         all.push(tree.copy(alloc)?)?;
@@ -185,7 +236,7 @@ fn push_copies(alloc: Global, trees: &[Tree], all: &mut Vec<Tree>) -> Result<(),
 
 // The row or column of a window and a new one on a side of it.
 fn both(alloc: Global, side: Side, old: Leaf, new: Leaf) -> Result<Tree, AllocError>
-    ensures { IfOk result (λ tree. content tree ≡ group (axis_of side) (both side old new)) }
+    ensures { IfOk result (λ tree. shape_of tree ≡ group (axis_of side) (both side old new)) }
 {
     match side {
         Side::Left => Ok(Tree::Row(pair(alloc, new, old)?)),
@@ -196,7 +247,8 @@ fn both(alloc: Global, side: Side, old: Leaf, new: Leaf) -> Result<Tree, AllocEr
 }
 
 fn pair(alloc: Global, first: Leaf, second: Leaf) -> Result<Vec<Tree>, AllocError>
-    ensures { IfOk result (λ trees. contents trees.items ≡ one (leaf first) (one (leaf second) no_more)) }
+    ensures { IfOk result (λ trees. shapes_of trees.items
+        ≡ more_shapes (leaf first) (more_shapes (leaf second) no_shapes)) }
 {
     let mut trees = Vec::with_capacity(alloc, 2)?;
     trees.push(Tree::Leaf(first))?;
@@ -214,8 +266,9 @@ fn opened_among(
     side: Side,
     new: Leaf,
 ) -> Result<Vec<Tree>, AllocError>
-    requires { holds_among window (contents trees.now) ≡ true }
-    ensures { IfOk result (λ all. contents all.items ≡ split_among axis side window new (contents trees.now)) }
+    requires { holds_among window (shapes_of trees.now) ≡ true }
+    ensures { IfOk result (λ all. shapes_of all.items
+        ≡ split_among axis side window new (shapes_of trees.now)) }
 {
     let place = place_of(trees, window);
     let mut all = copies(alloc, &trees[..place])?;
@@ -233,8 +286,9 @@ fn closed_among(
     axis: Axis,
     window: i64,
 ) -> Result<Vec<Tree>, AllocError>
-    requires { holds_among window (contents trees.now) ≡ true }
-    ensures { IfOk result (λ all. contents all.items ≡ close_among axis window (contents trees.now)) }
+    requires { holds_among window (shapes_of trees.now) ≡ true }
+    ensures { IfOk result (λ all. shapes_of all.items
+        ≡ close_among axis window (shapes_of trees.now)) }
 {
     let place = place_of(trees, window);
     let mut all = copies(alloc, &trees[..place])?;
@@ -246,7 +300,9 @@ fn closed_among(
 
 // Puts a child in which a window was opened behind others.
 fn put_opened(all: &mut Vec<Tree>, axis: Axis, was: &Tree, opened: Tree) -> Result<(), AllocError>
-    ensures { OnOk result (contents all.new.items ≡ append (contents all.old.items) (put_opened axis (content was.now) (content opened) no_more)) }
+    ensures { OnOk result (shapes_of all.new.items
+        ≡ append (shapes_of all.old.items)
+        (put_opened axis (shape_of was.now) (shape_of opened) no_shapes)) }
 {
     match was {
         Tree::Leaf(_) => put(all, axis, opened),
@@ -256,7 +312,8 @@ fn put_opened(all: &mut Vec<Tree>, axis: Axis, was: &Tree, opened: Tree) -> Resu
 
 // Puts what is left of a child behind others.
 fn put_left(all: &mut Vec<Tree>, axis: Axis, left: Option<Tree>) -> Result<(), AllocError>
-    ensures { OnOk result (contents all.new.items ≡ append (contents all.old.items) (put_left axis (option_map content left) no_more)) }
+    ensures { OnOk result (shapes_of all.new.items
+        ≡ append (shapes_of all.old.items) (put_left axis (option_map shape_of left) no_shapes)) }
 {
     match left {
         Some(tree) => put(all, axis, tree),
@@ -266,7 +323,8 @@ fn put_left(all: &mut Vec<Tree>, axis: Axis, left: Option<Tree>) -> Result<(), A
 
 // Puts a child of a group behind others. A group of the same kind gives its children.
 fn put(all: &mut Vec<Tree>, axis: Axis, tree: Tree) -> Result<(), AllocError>
-    ensures { OnOk result (contents all.new.items ≡ append (contents all.old.items) (put_before axis (content tree) no_more)) }
+    ensures { OnOk result (shapes_of all.new.items
+        ≡ append (shapes_of all.old.items) (put_before axis (shape_of tree) no_shapes)) }
 {
     match axis {
         Axis::Across => match tree {
@@ -281,21 +339,23 @@ fn put(all: &mut Vec<Tree>, axis: Axis, tree: Tree) -> Result<(), AllocError>
 }
 
 fn push(all: &mut Vec<Tree>, tree: Tree) -> Result<(), AllocError>
-    ensures { OnOk result (contents all.new.items ≡ append (contents all.old.items) (one (content tree) no_more)) }
+    ensures { OnOk result (shapes_of all.new.items
+        ≡ append (shapes_of all.old.items) (more_shapes (shape_of tree) no_shapes)) }
 {
     all.push(tree)?;
     Ok(())
 }
 
 fn push_all(all: &mut Vec<Tree>, mut trees: Vec<Tree>) -> Result<(), AllocError>
-    ensures { OnOk result (contents all.new.items ≡ append (contents all.old.items) (contents trees.items)) }
+    ensures { OnOk result (shapes_of all.new.items
+        ≡ append (shapes_of all.old.items) (shapes_of trees.items)) }
 {
     all.append(&mut trees)
 }
 
 // A group with these children: none where there are none, and the child where there is one.
 fn regrouped(axis: Axis, mut trees: Vec<Tree>) -> Option<Tree>
-    ensures { option_map content result ≡ regrouped axis (contents trees.items) }
+    ensures { option_map shape_of result ≡ group_left axis (shapes_of trees.items) }
 {
     if trees.len() < 2 {
         return trees.pop();

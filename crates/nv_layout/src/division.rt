@@ -2,8 +2,8 @@
 
 ghost use Rattle.std.specs.Prelude.{◌≡◌, ◌+◌, ◌-◌, ◌^◌, ◌<◌, ◌≤◌, length};
 ghost use Rattle.std.specs.List.{list_all};
-ghost use Rattle.nv_layout.specs.Content.{content, contents};
-ghost use Rattle.nv_layout.specs.Division.{wishes, counted, counted_where, need, within};
+ghost use Rattle.nv_layout.specs.Content.{shape_of, shapes_of};
+ghost use Rattle.nv_layout.specs.Division.{wishes, counted_children, counted_children_where, need, within};
 ghost use Rattle.nv_layout.specs.Least.{child_list, gaps, wish};
 ghost use Rattle.nv_layout.specs.Sizing.{child_at, rooms_with, rooms_of, room_left, next_size, rooms_behind, CanTake};
 
@@ -28,9 +28,10 @@ pub(crate) struct Rooms {
 impl Rooms {
     // The rooms of children before any is sized.
     pub(crate) fn new(trees: &[Tree], axis: Axis, all_wish: bool, room: u32) -> Rooms
-        requires wishes { all_wish ≡ list_all wishes (child_list axis (contents trees.now)) }
-        requires enough { need (child_list axis (contents trees.now)) ≤ room }
-        ensures { result ≡ rooms_of room (counted (child_list axis (contents trees.now))) }
+        requires wishes { all_wish ≡ list_all wishes (child_list axis (shapes_of trees.now)) }
+        requires enough { need (child_list axis (shapes_of trees.now)) ≤ room }
+        ensures { result ≡ rooms_of room (counted_children
+            (child_list axis (shapes_of trees.now))) }
     {
         let rooms = needs(trees, axis, all_wish, room);
         let share_room = room_shared(trees, axis, all_wish, &rooms);
@@ -78,7 +79,7 @@ fn bounded(size: u32, least: u32, room: u32, need: u32) -> u32
 
 // What a tree wishes for along an axis, 0 for nothing.
 fn wish_along(tree: &Tree, axis: Axis) -> u32
-    ensures { result ≡ wish axis (content tree.now) }
+    ensures { result ≡ wish axis (shape_of tree.now) }
 {
     match tree {
         Tree::Leaf(leaf) => match axis {
@@ -91,7 +92,7 @@ fn wish_along(tree: &Tree, axis: Axis) -> u32
 
 // Whether all children wish.
 pub(crate) fn all_wish(trees: &[Tree], axis: Axis) -> bool
-    ensures { result ≡ list_all wishes (child_list axis (contents trees.now)) }
+    ensures { result ≡ list_all wishes (child_list axis (shapes_of trees.now)) }
 {
     for tree in trees {
         if wish_along(tree, axis) == 0 {
@@ -104,7 +105,8 @@ pub(crate) fn all_wish(trees: &[Tree], axis: Axis) -> bool
 // What a child wishes for; where all wish, the last one's wish isn't counted.
 pub(crate) fn counted_wish(trees: &[Tree], place: usize, axis: Axis, all_wish: bool) -> u32
     requires { place < length trees.now }
-    ensures { result ≡ (child_at (counted_where all_wish (child_list axis (contents trees.now))) place).wish }
+    ensures { result ≡ (child_at (counted_children_where all_wish
+        (child_list axis (shapes_of trees.now))) place).wish }
 {
     if all_wish && place + 1 == trees.len() {
         0
@@ -115,8 +117,9 @@ pub(crate) fn counted_wish(trees: &[Tree], place: usize, axis: Axis, all_wish: b
 
 // The rooms of children, where the others would share all of the room.
 fn needs(trees: &[Tree], axis: Axis, all_wish: bool, room: u32) -> Rooms
-    requires { need (child_list axis (contents trees.now)) ≤ room }
-    ensures { result ≡ rooms_with room room (counted_where all_wish (child_list axis (contents trees.now))) }
+    requires { need (child_list axis (shapes_of trees.now)) ≤ room }
+    ensures { result ≡ rooms_with room room (counted_children_where all_wish
+        (child_list axis (shapes_of trees.now))) }
 {
     let mut wish_need = 0;
     let mut share_need = 0;
@@ -142,9 +145,11 @@ fn needs(trees: &[Tree], axis: Axis, all_wish: bool, room: u32) -> Rooms
 
 // What the children with a wish leave of their room.
 fn room_shared(trees: &[Tree], axis: Axis, all_wish: bool, rooms: &Rooms) -> u32
-    requires start { rooms.now ≡ rooms_with rooms.now.wish_room rooms.now.share_room (counted_where all_wish (child_list axis (contents trees.now))) }
-    requires enough { need (child_list axis (contents trees.now)) ≤ rooms.now.wish_room }
-    ensures { result ≡ room_left rooms.now.wish_room (counted_where all_wish (child_list axis (contents trees.now))) }
+    requires start { rooms.now ≡ rooms_with rooms.now.wish_room rooms.now.share_room
+        (counted_children_where all_wish (child_list axis (shapes_of trees.now))) }
+    requires enough { need (child_list axis (shapes_of trees.now)) ≤ rooms.now.wish_room }
+    ensures { result ≡ room_left rooms.now.wish_room
+        (counted_children_where all_wish (child_list axis (shapes_of trees.now))) }
 {
     let mut room = rooms.wish_room;
     let mut need = rooms.other_need + rooms.wish_need;

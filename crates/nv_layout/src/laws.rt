@@ -1,6 +1,6 @@
 // What the definitions of this crate have in common, whatever the tree: laws of their own.
 
-ghost use Rattle.nv_layout.specs.Kept.{SplitAddsBeside, CloseTakesAway, ChangesKeepForm};
+ghost use Rattle.nv_layout.specs.Kept.{SplitAddsBeside, CloseTakesAway, ChangesKeepForm, SplitAsksForTwo, CloseAsksForNoMore, WishKeepsForm};
 ghost use Rattle.nv_layout.specs.Shares.{DivisionIsWhole};
 ghost use Rattle.nv_layout.specs.Tiling.{RectsNameWindows, RectsLieInArea, RectsAreApart, RectsTile, RectsHaveLeastSize};
 
@@ -48,4 +48,12 @@ pub fn close_takes_away()
 /// column, where none was.
 pub fn changes_keep_form()
     ensures { ChangesKeepForm }
+{}
+
+/// Opening a window asks each way for two cells more at most, closing one for no more, and a wish
+/// changes neither the windows, nor the least size, nor which rows and columns there are.
+pub fn changes_keep_room()
+    ensures split { SplitAsksForTwo }
+    ensures close { CloseAsksForNoMore }
+    ensures wish { WishKeepsForm }
 {}

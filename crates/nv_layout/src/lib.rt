@@ -12,5 +12,5 @@ mod sizes;
 mod tests;
 
 pub use nodes::{Axis, Leaf, Placed, Rect, Side, Tree, Trees};
-pub use places::rects;
-pub use sizes::{least, leaves};
+pub use places::{rect_of, rects};
+pub use sizes::{least, leaves, push_windows};

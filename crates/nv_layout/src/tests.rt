@@ -1,12 +1,12 @@
 // Trees that were divided by hand. Rectangles are written as row, column, width and height.
 
 ghost use Rattle.std.specs.Prelude.{◌≡◌, ◌≤◌, length, IfOk};
-ghost use Rattle.nv_layout.specs.Content.{content, contents, leaf, group, one, no_more};
-ghost use Rattle.nv_layout.specs.Least.{leaves, NoneEmpty};
+ghost use Rattle.nv_layout.specs.Content.{shape_of, shapes_of, leaf, group, more_shapes, no_shapes};
+ghost use Rattle.nv_layout.specs.Least.{leaves_of, NoneEmpty};
 ghost use Rattle.nv_layout.specs.Places.{IsRoomy, IsOnScreen};
 ghost use Rattle.nv_layout.specs.declared.nodes.Axis.TheVariants.{Across, Down};
 
-use crate::{Leaf, Placed, Rect, Side, Tree, least, leaves, rects};
+use crate::{Axis, Leaf, Placed, Rect, Side, Tree, least, leaves, push_windows, rect_of, rects};
 use std::alloc::{AllocError, Global};
 use std::process::Abort;
 use std::test::Fail;
@@ -22,13 +22,14 @@ fn leaf(window: i64, width: u32, height: u32) -> Leaf
 }
 
 fn single(window: i64, width: u32, height: u32) -> Tree
-    ensures { content result ≡ leaf (record { window = window; width = width; height = height }) }
+    ensures { shape_of result ≡ leaf (record { window = window; width = width; height = height }) }
 {
     Tree::Leaf(leaf(window, width, height))
 }
 
 fn two(alloc: Global, first: Tree, second: Tree) -> Result<Vec<Tree>, AllocError>
-    ensures { IfOk result (λ trees. contents trees.items ≡ one (content first) (one (content second) no_more)) }
+    ensures { IfOk result (λ trees. shapes_of trees.items
+        ≡ more_shapes (shape_of first) (more_shapes (shape_of second) no_shapes)) }
 {
     let mut trees = Vec::with_capacity(alloc, 2)?;
     trees.push(first)?;
@@ -37,7 +38,9 @@ fn two(alloc: Global, first: Tree, second: Tree) -> Result<Vec<Tree>, AllocError
 }
 
 fn three(alloc: Global, first: Tree, second: Tree, third: Tree) -> Result<Vec<Tree>, AllocError>
-    ensures { IfOk result (λ trees. contents trees.items ≡ one (content first) (one (content second) (one (content third) no_more))) }
+    ensures { IfOk result (λ trees. shapes_of trees.items
+        ≡ more_shapes (shape_of first)
+        (more_shapes (shape_of second) (more_shapes (shape_of third) no_shapes))) }
 {
     let mut trees = Vec::with_capacity(alloc, 3)?;
     trees.push(first)?;
@@ -47,13 +50,13 @@ fn three(alloc: Global, first: Tree, second: Tree, third: Tree) -> Result<Vec<Tr
 }
 
 fn row(trees: Vec<Tree>) -> Tree
-    ensures { content result ≡ group Across (contents trees.items) }
+    ensures { shape_of result ≡ group Across (shapes_of trees.items) }
 {
     Tree::Row(trees)
 }
 
 fn column(trees: Vec<Tree>) -> Tree
-    ensures { content result ≡ group Down (contents trees.items) }
+    ensures { shape_of result ≡ group Down (shapes_of trees.items) }
 {
     Tree::Column(trees)
 }
@@ -78,16 +81,20 @@ fn placed(window: i64, row: u32, col: u32, width: u32, height: u32) -> Placed {
 
 // Compares what a tree gives with what was found by hand.
 fn check(rt: &impl Abort, tree: &Tree, area: Rect, want: &[Placed])
-    requires filled { NoneEmpty (content tree.now) }
-    requires roomy { IsRoomy (content tree.now) area }
+    requires filled { NoneEmpty (shape_of tree.now) }
+    requires roomy { IsRoomy (shape_of tree.now) area }
     requires on_screen { IsOnScreen area }
-    requires places { length (leaves (content tree.now)) ≡ length want.now }
+    requires places { length (leaves_of (shape_of tree.now)) ≡ length want.now }
     requires few { length want.now ≤ 5 }
 {
     let mut all = [placed(0, 0, 0, 0, 0); 5];
     let into = &mut all[..want.len()];
     rects(tree, area, into);
     assert_eq!(rt; &*into, want);
+    for one in want {
+        assert_eq!(rt; rect_of(tree, area, one.window), Some(one.rect));
+    }
+    assert_eq!(rt; rect_of(tree, area, 99), None);
 }
 
 // A screen of 80 by 24, whose last row is blank.
@@ -128,7 +135,16 @@ fn opened_at_the_right_and_closed(rt: HostRuntime) -> Result<(), Fail> {
 #[test]
 fn a_width_is_wished(rt: HostRuntime) -> Result<(), Fail> {
     let alloc = rt.alloc();
-    let tree = row(two(alloc, single(1000, 0, 0), single(1001, 20, 0))?);
+    let mut tree = row(two(alloc, single(1000, 0, 0), single(1001, 7, 9))?);
+    tree.put_wish(1001, Axis::Across, 20);
+    tree.put_wish(1001, Axis::Down, 0);
+    assert_eq!(rt;
+        tree,
+        row(two(alloc, single(1000, 0, 0), single(1001, 20, 0))?)
+    );
+    let mut windows = Vec::new(alloc);
+    push_windows(&tree, &mut windows)?;
+    assert_eq!(rt; &windows[..], [1000, 1001].as_slice());
     check(
         &rt,
         &tree,
@@ -194,7 +210,8 @@ fn wishes_at_three_depths(rt: HostRuntime) -> Result<(), Fail> {
     Ok(())
 }
 
-// In the row all wish, so the last one's wish isn't counted. The column's wishes are too large and too small.
+// In the row all wish, so the last one's wish isn't counted. The column's wishes are too large and
+// too small.
 #[test]
 fn wishes_out_of_bounds(rt: HostRuntime) -> Result<(), Fail> {
     let alloc = rt.alloc();

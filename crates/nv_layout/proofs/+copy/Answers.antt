@@ -1,20 +1,20 @@
 use Rattle.std.proofs.Common.{◌+◌, ◌∙◌, ap, sym, drop, arith}
-use Rattle.nv_layout.specs.Content.{no_more, one, contents}
+use Rattle.nv_layout.specs.Content.{no_shapes, more_shapes, shapes_of}
 use Rattle.nv_layout.specs.Changes.{append}
-use Rattle.nv_layout.proofs.Contents.{contents-end}
-use Rattle.nv_layout.proofs.Rebuilt.{append-none, contents-push, copied_step}
+use Rattle.nv_layout.proofs.Contents.{shapes_of-end}
+use Rattle.nv_layout.proofs.Rebuilt.{append-none, shapes_of-push, copied_step}
 use Rattle.nv_layout.proofs.+copy.Goals as goal
 
 pub changes::push_copies-loop-tree-preserved : goal.changes::push_copies-loop-tree-preserved
 changes::push_copies-loop-tree-preserved t c =
-    ap (λ ss. append ss (contents (drop (c.loop-tree.tree-index + 1) c.args.trees.now)))
-    (ap contents c.in_ok-push.ensures.items ∙ contents-push c.loop-tree.all.items c.in_ok-copy.field-0
-    ∙ ap (λ s. append (contents c.loop-tree.all.items) (one s no_more)) c.in_ok-copy.ensures)
-    ∙ copied_step c.args.trees.now c.loop-tree.tree-index c.tree-item.result (contents c.loop-tree.all.items) (append (contents c.args.all.now.items) (contents c.args.trees.now))
+    ap (λ ss. append ss (shapes_of (drop (c.loop-tree.tree-index + 1) c.args.trees.now)))
+    (ap shapes_of c.in_ok-push.ensures.items ∙ shapes_of-push c.loop-tree.all.items c.in_ok-copy.field-0
+    ∙ ap (λ s. append (shapes_of c.loop-tree.all.items) (more_shapes s no_shapes)) c.in_ok-copy.ensures)
+    ∙ copied_step c.args.trees.now c.loop-tree.tree-index c.tree-item.result (shapes_of c.loop-tree.all.items) (append (shapes_of c.args.all.now.items) (shapes_of c.args.trees.now))
     c.loop-tree-test.true c.tree-item.is c.loop-tree.invariant
 
 pub changes::push_copies-returns : goal.changes::push_copies-returns
 changes::push_copies-returns t c =
-    sym (append-none (contents c.loop-tree.all.items))
-    ∙ ap (append (contents c.loop-tree.all.items)) (sym (contents-end c.args.trees.now c.loop-tree.tree-index (omega arith)))
+    sym (append-none (shapes_of c.loop-tree.all.items))
+    ∙ ap (append (shapes_of c.loop-tree.all.items)) (sym (shapes_of-end c.args.trees.now c.loop-tree.tree-index (omega arith)))
     ∙ c.loop-tree.invariant

@@ -1,9 +1,9 @@
 use Rattle.std.proofs.Common.{◌≡◌, ◌∙◌, ap, sym, length, nat_lt, subst, take, get_or, true, false, w64, arith}
 use Rattle.std.proofs.lemmas.Int.{to_z-of_z}
 use mir.Val.{to_z, of_z}
-use Rattle.nv_layout.specs.Content.{content, contents}
+use Rattle.nv_layout.specs.Content.{shape_of, shapes_of}
 use Rattle.nv_layout.specs.Changes.{holds, holds_among}
-use Rattle.nv_layout.proofs.Contents.{content-Row, content-Column}
+use Rattle.nv_layout.proofs.Contents.{shape_of-Row, shape_of-Column}
 use Rattle.nv_layout.proofs.Rebuilt.{none_before, holds_by_place}
 use Rattle.nv_layout.proofs.+holds.Goals as goal
 
@@ -17,10 +17,10 @@ nodes::Tree::holds-returns-in-Row t c =
     let count : c.len.result ≡ length c.deref.result.now = omega (arith, c.len.ensures, c.in-Row.trees.ok.0, ap length c.deref.ensures.value) in
     ap (nat_lt c.place_of.result) count
     ∙ holds_by_place c.args.window c.deref.result.now c.place_of.result
-    (subst (λ w. holds_among w (contents (take c.place_of.result c.deref.result.now)) ≡ false) same c.place_of.ensures.before)
-    (λ d h. subst (λ w. holds w (content (get_or c.deref.result.now c.place_of.result d)) ≡ true) same (c.place_of.ensures.here d h))
-    ∙ ap (λ ts. holds_among c.args.window (contents ts)) c.deref.ensures.value
-    ∙ sym (ap (holds c.args.window) (ap content c.in-Row.is ∙ content-Row c.in-Row.trees))
+    (subst (λ w. holds_among w (shapes_of (take c.place_of.result c.deref.result.now)) ≡ false) same c.place_of.ensures.before)
+    (λ d h. subst (λ w. holds w (shape_of (get_or c.deref.result.now c.place_of.result d)) ≡ true) same (c.place_of.ensures.here d h))
+    ∙ ap (λ ts. holds_among c.args.window (shapes_of ts)) c.deref.ensures.value
+    ∙ sym (ap (holds c.args.window) (ap shape_of c.in-Row.is ∙ shape_of-Row c.in-Row.trees))
 
 pub nodes::Tree::holds-returns-in-Column : goal.nodes::Tree::holds-returns-in-Column
 nodes::Tree::holds-returns-in-Column t c =
@@ -28,7 +28,7 @@ nodes::Tree::holds-returns-in-Column t c =
     let count : c.len-in-Column.result ≡ length c.deref-in-Column.result.now = omega (arith, c.len-in-Column.ensures, c.in-Column.trees.ok.0, ap length c.deref-in-Column.ensures.value) in
     ap (nat_lt c.place_of-in-Column.result) count
     ∙ holds_by_place c.args.window c.deref-in-Column.result.now c.place_of-in-Column.result
-    (subst (λ w. holds_among w (contents (take c.place_of-in-Column.result c.deref-in-Column.result.now)) ≡ false) same c.place_of-in-Column.ensures.before)
-    (λ d h. subst (λ w. holds w (content (get_or c.deref-in-Column.result.now c.place_of-in-Column.result d)) ≡ true) same (c.place_of-in-Column.ensures.here d h))
-    ∙ ap (λ ts. holds_among c.args.window (contents ts)) c.deref-in-Column.ensures.value
-    ∙ sym (ap (holds c.args.window) (ap content c.in-Column.is ∙ content-Column c.in-Column.trees))
+    (subst (λ w. holds_among w (shapes_of (take c.place_of-in-Column.result c.deref-in-Column.result.now)) ≡ false) same c.place_of-in-Column.ensures.before)
+    (λ d h. subst (λ w. holds w (shape_of (get_or c.deref-in-Column.result.now c.place_of-in-Column.result d)) ≡ true) same (c.place_of-in-Column.ensures.here d h))
+    ∙ ap (λ ts. holds_among c.args.window (shapes_of ts)) c.deref-in-Column.ensures.value
+    ∙ sym (ap (holds c.args.window) (ap shape_of c.in-Column.is ∙ shape_of-Column c.in-Column.trees))

@@ -1,25 +1,25 @@
 use Rattle.std.proofs.Common.{◌≡◌, ◌<◌, ◌≤◌, ℕ, ◌+◌, List, sym, ◌∙◌, arith}
-use Rattle.nv_layout.specs.Content.{contents}
-use Rattle.nv_layout.specs.Division.{Child, counted_where}
+use Rattle.nv_layout.specs.Content.{shapes_of}
+use Rattle.nv_layout.specs.Division.{Child, counted_children_where}
 use Rattle.nv_layout.specs.Least.{child_list}
-use Rattle.nv_layout.proofs.Children.{child_within, least_of_child, least_within, need-counted_where, length-counted, length-contents}
+use Rattle.nv_layout.proofs.Children.{child_within, least_of_child, least_within, need-counted_children_where, length-counted_children, length-shapes_of}
 use Rattle.nv_layout.proofs.SoFar.{SoFar, so_far_start, so_far_modest, so_far_wish, so_far_most, so_far_end}
 use Rattle.nv_layout.proofs.division.needs.Goals as goal
 use Rattle.nv_layout.proofs.division.needs.Goals.{After-counted_wish, then-counted_wish-eq0, else-counted_wish-eq0}
 
 pub loop-place-init : goal.loop-place-init
-loop-place-init c = so_far_start (counted_where c.args.all_wish (child_list c.args.axis (contents c.args.trees.now)))
+loop-place-init c = so_far_start (counted_children_where c.args.all_wish (child_list c.args.axis (shapes_of c.args.trees.now)))
 
 pub least_along-least-requires : goal.least_along-least-requires
 least_along-least-requires c = omega (arith, least_within c.args.axis c.args.trees.now c.args.all_wish c.loop-place.place c.index-trees-place.result c.loop-place-test.true c.index-trees-place.is)
 
 -- the children as they count
 abbrev cs : After-counted_wish → List Child
-cs c = counted_where c.args.all_wish (child_list c.args.axis (contents c.args.trees.now))
+cs c = counted_children_where c.args.all_wish (child_list c.args.axis (shapes_of c.args.trees.now))
 
 all_need : (c : After-counted_wish) (i wished shared sharers : ℕ) → SoFar (cs c) i wished shared sharers → wished + shared ≤ c.args.room
 all_need c i wished shared sharers s =
-    omega (arith, so_far_most (cs c) i wished shared sharers s, need-counted_where c.args.all_wish (child_list c.args.axis (contents c.args.trees.now)))
+    omega (arith, so_far_most (cs c) i wished shared sharers s, need-counted_children_where c.args.all_wish (child_list c.args.axis (shapes_of c.args.trees.now)))
 
 modest : (c : After-counted_wish) → c.counted_wish.result ≡ 0 → SoFar (cs c) (c.loop-place.place + 1) c.loop-place.wish_need (c.loop-place.share_need + c.least_along-least.result) (c.loop-place.sharers + 1)
 modest c e =
@@ -43,7 +43,7 @@ overflow_add-share_need c =
 pub overflow_add-sharers : goal.overflow_add-sharers
 overflow_add-sharers c =
     let d = (goal.at.overflow_add-sharers c).After-counted_wish in
-    omega (arith, so_far_most (cs d) _ _ _ _ (modest d c.if-counted_wish-eq0.true), length-counted c.args.all_wish (child_list c.args.axis (contents c.args.trees.now)), length-contents c.args.axis c.args.trees.now)
+    omega (arith, so_far_most (cs d) _ _ _ _ (modest d c.if-counted_wish-eq0.true), length-counted_children c.args.all_wish (child_list c.args.axis (shapes_of c.args.trees.now)), length-shapes_of c.args.axis c.args.trees.now)
 
 pub overflow_add-wish_need : goal.overflow_add-wish_need
 overflow_add-wish_need c =
@@ -60,7 +60,7 @@ loop-place-preserved c =
 
 pub returns : goal.returns
 returns c =
-    let all = counted_where c.args.all_wish (child_list c.args.axis (contents c.args.trees.now)) in
+    let all = counted_children_where c.args.all_wish (child_list c.args.axis (shapes_of c.args.trees.now)) in
     let sums = so_far_end all c.loop-place.place c.loop-place.wish_need c.loop-place.share_need c.loop-place.sharers
-    (omega (arith, length-counted c.args.all_wish (child_list c.args.axis (contents c.args.trees.now)), length-contents c.args.axis c.args.trees.now)) c.loop-place.invariant in
+    (omega (arith, length-counted_children c.args.all_wish (child_list c.args.axis (shapes_of c.args.trees.now)), length-shapes_of c.args.axis c.args.trees.now)) c.loop-place.invariant in
     cc (sums.0, sums.1, sums.2)

@@ -1,8 +1,8 @@
-use Rattle.nv_layout.specs.Content.{contents}
-use Rattle.nv_layout.specs.Division.{counted_where}
+use Rattle.nv_layout.specs.Content.{shapes_of}
+use Rattle.nv_layout.specs.Division.{counted_children_where}
 use Rattle.nv_layout.specs.Least.{child_list}
 use Rattle.nv_layout.proofs.SoFar.{SoFar}
 use Rattle.nv_layout.proofs.division.needs.Given as goal
 
 abbrev pub invariant-loop-place : goal.invariant-loop-place
-invariant-loop-place l = SoFar (counted_where l.all_wish (child_list l.axis (contents l.trees))) l.place l.wish_need l.share_need l.sharers
+invariant-loop-place l = SoFar (counted_children_where l.all_wish (child_list l.axis (shapes_of l.trees))) l.place l.wish_need l.share_need l.sharers

@@ -1,21 +1,21 @@
 use Rattle.std.proofs.Common.{◌≤◌, ap, sym, ◌∙◌, arith}
-use Rattle.nv_layout.specs.Content.{contents}
-use Rattle.nv_layout.specs.Division.{counted_where}
+use Rattle.nv_layout.specs.Content.{shapes_of}
+use Rattle.nv_layout.specs.Division.{counted_children_where}
 use Rattle.nv_layout.specs.Least.{child_list}
-use Rattle.nv_layout.proofs.Children.{child_within, least_of_child, least_within, needs_in_all, length-counted, length-contents}
+use Rattle.nv_layout.proofs.Children.{child_within, least_of_child, least_within, needs_in_all, length-counted_children, length-shapes_of}
 use Rattle.nv_layout.proofs.Granting.{granting_start, granting_skip, need_granted, granting_step, granting_end}
 use Rattle.nv_layout.proofs.division.room_shared.Goals as goal
 use Rattle.nv_layout.proofs.division.room_shared.Goals.{then-wish-ne0, else-wish-ne0}
 
 pub overflow_add-need : goal.overflow_add-need
 overflow_add-need c =
-    omega (arith, needs_in_all c.args.all_wish (child_list c.args.axis (contents c.args.trees.now)), ap (λ r. r.wish_need) c.requires.start, ap (λ r. r.other_need) c.requires.start, c.requires.enough)
+    omega (arith, needs_in_all c.args.all_wish (child_list c.args.axis (shapes_of c.args.trees.now)), ap (λ r. r.wish_need) c.requires.start, ap (λ r. r.other_need) c.requires.start, c.requires.enough)
 
 pub loop-place-init : goal.loop-place-init
 loop-place-init c =
-    granting_start (counted_where c.args.all_wish (child_list c.args.axis (contents c.args.trees.now))) c.args.rooms.now.wish_room c.args.rooms.now.other_need c.args.rooms.now.wish_need
+    granting_start (counted_children_where c.args.all_wish (child_list c.args.axis (shapes_of c.args.trees.now))) c.args.rooms.now.wish_room c.args.rooms.now.other_need c.args.rooms.now.wish_need
     (ap (λ r. r.other_need) c.requires.start) (ap (λ r. r.wish_need) c.requires.start)
-    (omega (arith, needs_in_all c.args.all_wish (child_list c.args.axis (contents c.args.trees.now)), ap (λ r. r.wish_need) c.requires.start, ap (λ r. r.other_need) c.requires.start, c.requires.enough))
+    (omega (arith, needs_in_all c.args.all_wish (child_list c.args.axis (shapes_of c.args.trees.now)), ap (λ r. r.wish_need) c.requires.start, ap (λ r. r.other_need) c.requires.start, c.requires.enough))
 
 pub least_along-least-requires : goal.least_along-least-requires
 least_along-least-requires c =
@@ -25,7 +25,7 @@ pub bounded-room-requires-clause-counted : goal.bounded-room-requires-clause-cou
 bounded-room-requires-clause-counted c =
     omega (
       arith,
-      need_granted (counted_where c.args.all_wish (child_list c.args.axis (contents c.args.trees.now))) c.args.rooms.now.wish_room c.loop-place.place c.loop-place.room c.loop-place.need
+      need_granted (counted_children_where c.args.all_wish (child_list c.args.axis (shapes_of c.args.trees.now))) c.args.rooms.now.wish_room c.loop-place.place c.loop-place.room c.loop-place.need
           (child_within c.args.axis c.args.trees.now c.args.all_wish c.loop-place.place c.index-trees-place.result c.loop-place-test.true c.index-trees-place.is)
           c.loop-place.invariant c.least_along-least.result
           (c.least_along-least.ensures ∙ least_of_child c.args.axis c.args.trees.now c.args.all_wish c.loop-place.place c.index-trees-place.result c.loop-place-test.true c.index-trees-place.is)
@@ -36,7 +36,7 @@ pub overflow_sub-need : goal.overflow_sub-need
 overflow_sub-need c =
     omega (
       arith,
-      need_granted (counted_where c.args.all_wish (child_list c.args.axis (contents c.args.trees.now))) c.args.rooms.now.wish_room c.loop-place.place c.loop-place.room c.loop-place.need
+      need_granted (counted_children_where c.args.all_wish (child_list c.args.axis (shapes_of c.args.trees.now))) c.args.rooms.now.wish_room c.loop-place.place c.loop-place.room c.loop-place.need
           (child_within c.args.axis c.args.trees.now c.args.all_wish c.loop-place.place c.index-trees-place.result c.loop-place-test.true c.index-trees-place.is)
           c.loop-place.invariant c.least_along-least.result
           (c.least_along-least.ensures ∙ least_of_child c.args.axis c.args.trees.now c.args.all_wish c.loop-place.place c.index-trees-place.result c.loop-place-test.true c.index-trees-place.is)
@@ -48,7 +48,7 @@ overflow_sub-room c =
     let least_counted : c.least_along-least.result ≤ c.loop-place.need =
     omega (
       arith,
-      need_granted (counted_where c.args.all_wish (child_list c.args.axis (contents c.args.trees.now))) c.args.rooms.now.wish_room c.loop-place.place c.loop-place.room c.loop-place.need
+      need_granted (counted_children_where c.args.all_wish (child_list c.args.axis (shapes_of c.args.trees.now))) c.args.rooms.now.wish_room c.loop-place.place c.loop-place.room c.loop-place.need
           (child_within c.args.axis c.args.trees.now c.args.all_wish c.loop-place.place c.index-trees-place.result c.loop-place-test.true c.index-trees-place.is)
           c.loop-place.invariant c.least_along-least.result
           (c.least_along-least.ensures ∙ least_of_child c.args.axis c.args.trees.now c.args.all_wish c.loop-place.place c.index-trees-place.result c.loop-place-test.true c.index-trees-place.is)
@@ -58,7 +58,7 @@ overflow_sub-room c =
 
 pub loop-place-preserved : goal.loop-place-preserved
 loop-place-preserved c =
-    let all = counted_where c.args.all_wish (child_list c.args.axis (contents c.args.trees.now)) in
+    let all = counted_children_where c.args.all_wish (child_list c.args.axis (shapes_of c.args.trees.now)) in
     let inside = child_within c.args.axis c.args.trees.now c.args.all_wish c.loop-place.place c.index-trees-place.result c.loop-place-test.true c.index-trees-place.is in
     elim c.if-wish-ne0.branch [
       | then-wish-ne0 w ↦
@@ -75,5 +75,5 @@ loop-place-preserved c =
 
 pub returns : goal.returns
 returns c =
-    granting_end (counted_where c.args.all_wish (child_list c.args.axis (contents c.args.trees.now))) c.args.rooms.now.wish_room c.loop-place.place c.loop-place.room c.loop-place.need
-    (omega (arith, length-counted c.args.all_wish (child_list c.args.axis (contents c.args.trees.now)), length-contents c.args.axis c.args.trees.now)) c.loop-place.invariant
+    granting_end (counted_children_where c.args.all_wish (child_list c.args.axis (shapes_of c.args.trees.now))) c.args.rooms.now.wish_room c.loop-place.place c.loop-place.room c.loop-place.need
+    (omega (arith, length-counted_children c.args.all_wish (child_list c.args.axis (shapes_of c.args.trees.now)), length-shapes_of c.args.axis c.args.trees.now)) c.loop-place.invariant

@@ -1,0 +1,13 @@
+pub mod Lists
+pub mod Mapped
+pub mod Rising
+pub mod PageOrder
+pub mod Counting
+pub mod Changed
+pub mod Held
+pub mod PartsAt
+pub mod Cases
+pub mod Soundness
+pub mod SoundClosing
+pub mod SoundTabs
+pub mod SoundLaws

@@ -1,0 +1,8 @@
+use Rattle.std.proofs.Common.{w64}
+use mir.Val.{to_z, of_z}
+use Rattle.nv_windows.specs.Kept.{workspace_of}
+use Rattle.nv_windows.proofs.SoundLaws.{opening_sound, either_sound}
+use Rattle.nv_windows.proofs.windows.Windows.open.Goals as goal
+
+pub invariant_of-self : goal.invariant_of-self
+invariant_of-self c = either_sound c.open.result (workspace_of c.open.new.self) (workspace_of c.self.inside.parts) _ c.open.ensures.after c.open.ensures.err c.self.invariant (opening_sound (workspace_of c.self.inside.parts) (to_z w64 (of_z w64 c.args.beside)) c.args.side (to_z w64 (of_z w64 c.args.buffer)) c.args.width c.args.height c.args.enter c.self.invariant)

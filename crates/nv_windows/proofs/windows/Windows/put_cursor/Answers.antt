@@ -1,0 +1,9 @@
+use Rattle.std.proofs.Common.{sym, subst, w64}
+use mir.Val.{to_z, of_z}
+use Rattle.nv_windows.specs.Kept.{workspace_of}
+use Rattle.nv_windows.specs.Sound.{IsSoundWorkspace}
+use Rattle.nv_windows.proofs.SoundLaws.{soundness_stays}
+use Rattle.nv_windows.proofs.windows.Windows.put_cursor.Goals as goal
+
+pub invariant_of-self : goal.invariant_of-self
+invariant_of-self c = subst IsSoundWorkspace (sym c.put_cursor.ensures) (soundness_stays.cursor (workspace_of c.self.inside.parts) (to_z w64 (of_z w64 c.args.window)) c.args.pos c.self.invariant)

@@ -1,0 +1,9 @@
+use Rattle.std.proofs.Common.{sym, subst, w64}
+use mir.Val.{to_z, of_z}
+use Rattle.nv_windows.specs.Kept.{workspace_of}
+use Rattle.nv_windows.specs.Sound.{IsSoundWorkspace}
+use Rattle.nv_windows.proofs.SoundLaws.{soundness_stays}
+use Rattle.nv_windows.proofs.windows.Windows.show_instead.Goals as goal
+
+pub invariant_of-self : goal.invariant_of-self
+invariant_of-self c = subst IsSoundWorkspace (sym c.show_instead.ensures) (soundness_stays.showing_instead (workspace_of c.self.inside.parts) (to_z w64 (of_z w64 c.args.old)) (to_z w64 (of_z w64 c.args.new)) c.self.invariant)

@@ -1,0 +1,8 @@
+use Rattle.std.proofs.Common.{sym, subst}
+use Rattle.nv_windows.specs.Kept.{workspace_of}
+use Rattle.nv_windows.specs.Sound.{IsSoundWorkspace}
+use Rattle.nv_windows.proofs.SoundLaws.{tab_close_sound}
+use Rattle.nv_windows.proofs.windows.Windows.tab_close.Goals as goal
+
+pub invariant_of-self : goal.invariant_of-self
+invariant_of-self c = subst IsSoundWorkspace (sym c.tab_close.ensures.after) (tab_close_sound (workspace_of c.self.inside.parts) c.self.invariant)

@@ -1,0 +1,8 @@
+use Rattle.std.proofs.Common.{w64}
+use mir.Val.{to_z, of_z}
+use Rattle.nv_windows.specs.Kept.{workspace_of}
+use Rattle.nv_windows.proofs.SoundLaws.{tab_new_sound, either_sound}
+use Rattle.nv_windows.proofs.windows.Windows.tab_new.Goals as goal
+
+pub invariant_of-self : goal.invariant_of-self
+invariant_of-self c = either_sound c.tab_new.result (workspace_of c.tab_new.new.self) (workspace_of c.self.inside.parts) _ c.tab_new.ensures.after c.tab_new.ensures.err c.self.invariant (tab_new_sound (workspace_of c.self.inside.parts) (to_z w64 (of_z w64 c.args.buffer)) c.self.invariant)

@@ -1,0 +1,15 @@
+//! Windows and tabpages: their trees, cursors and first rows, and the size of the screen.
+#![tactic(auto)]
+
+mod laws;
+mod parts;
+mod slots;
+mod tabs;
+#[cfg(test)]
+mod tests;
+mod window;
+mod windows;
+
+pub use laws::{handle_laws, soundness_laws, view_laws};
+pub use window::{Opened, Tabpage, Window};
+pub use windows::Windows;
