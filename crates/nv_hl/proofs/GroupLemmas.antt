@@ -1,20 +1,23 @@
 -- Lemmas on lists of groups.
-use Rattle.std.proofs.Common.{◌≡◌, ◌<◌, ◌≤◌, ◌+◌, ◌-◌, ◌^◌, ◌↔◌, ℕ, zero, suc, List, [], ◌∷◌, ◌++◌, length, refl, sym, ap, subst, ◌∙◌, arith, Bool, true, false, not, cond, Option, Some, None, All, is_some, option_map, position, slice_get, if◌then◌else◌, nat_lt, IfSome, IsSome}
+use Rattle.std.proofs.Common.{◌≡◌, ◌<◌, ◌≤◌, ◌+◌, ◌-◌, ◌^◌, ◌↔◌, ℕ, zero, suc, List, [], ◌∷◌, ◌++◌, length, refl, sym, ap, subst, ◌∙◌, arith, Bool, true, false, not, cond, Option, Some, None, All, is_some, option_map, position, slice_get, slice_set, map, eqb, if◌then◌else◌, nat_lt, IfSome, IsSome, ◌||◌}
 use Rattle.std.proofs.Math.Nat.{add-zero}
+use Rattle.std.proofs.lemmas.Bool.Decides.{nat_tests}
+use Rattle.std.proofs.lemmas.Map.Keys.{IsDistinct-push}
 use Rattle.std.proofs.lemmas.Bool.{true≢false, ltb-false, lt-ltb, eq-eqb}
-use Rattle.std.proofs.lemmas.List.{length-set, length-append}
-use Rattle.std.proofs.lemmas.List.Elements.{All-nil, All-cons, All-head, All-tail, All-append, All-weaker, All-set, All-from_recursion}
+use Rattle.std.proofs.lemmas.List.{length-set, length-append, length-map, map-append}
+use Rattle.std.proofs.lemmas.List.Elements.{All-nil, All-cons, All-head, All-tail, All-append, All-weaker, All-set}
 use Rattle.std.proofs.lemmas.List.Folds.{position_or_len_push}
 use Rattle.std.proofs.lemmas.List.Sums.{prefix_len-le-length}
 use Rattle.std.proofs.lemmas.Option.{none-some}
-use Rattle.std.specs.Cmp.Lexicographic.{bytes_decides}
-use Rattle.std.specs.List.{position_or_len}
+use Rattle.std.specs.Cmp.Lexicographic.{bytes_decides, nat_list_eq_equiv}
+use Rattle.std.specs.List.{position_or_len, IsDistinct, list_any}
+use Rattle.std.specs.Option.{option_map_or}
 use Rattle.std.specs.Str.{bytes_eq}
 use Rattle.nv_hl.specs.declared.attribute.Attr.{Attr}
 use Rattle.nv_hl.specs.declared.linking.Group.{Group}
 use Rattle.nv_hl.specs.declared.linking.Group.TheVariants.{Plain, Link}
 use Rattle.nv_hl.specs.Attributes.{empty_attr}
-use Rattle.nv_hl.specs.Groups.{NamedGroup, HasGroup, LinksWithin, AreSound, entry_at, known_id, group_at, with_named, with_group, attr_along, empty_group, fresh_groups}
+use Rattle.nv_hl.specs.Groups.{NamedGroup, HasGroup, LinksWithin, AreSound, entry_at, name_at, known_id, group_at, with_named, with_group, attr_along}
 
 -- ---- the first place that passes a test
 none_before : {X Y : Type 0} (f : X → Y) (o : Option X) → option_map f o ≡ None → o ≡ None
@@ -58,6 +61,82 @@ with_named-unknown gs g h = ap (λ o. if is_some o then gs else gs ++ g ∷ []) 
 pub with_named-known : (gs : List NamedGroup) (g : NamedGroup) (id : ℕ) → known_id gs g.name ≡ Some id → with_named gs g ≡ gs
 with_named-known gs g id h = ap (λ o. if is_some o then gs else gs ++ g ∷ []) h
 
+-- one more that doesn't pass changes nothing
+skipped : (n l : ℕ) → n ≤ l
+    → cond (nat_lt (cond (eqb n l) (l + 1) n) (l + 1)) (Some (cond (eqb n l) (l + 1) n)) None ≡ cond (nat_lt n l) (Some n) None
+skipped n l h = grind (arith, nat_tests)
+
+position-skip : {X : Type 0} (p : X → Bool) (xs : List X) (y : X) → p y ≡ false → position p (xs ++ y ∷ []) ≡ position p xs
+position-skip p xs y fails =
+    let n = position_or_len p xs in
+    let at : position_or_len p (xs ++ y ∷ []) ≡ cond (eqb n (length xs)) (length xs + 1) n =
+    position_or_len_push p xs y ∙ ap (λ b. cond (eqb n (length xs)) (length xs + cond b 0 1) n) fails in
+    let longer : length (xs ++ y ∷ []) ≡ length xs + 1 = length-append xs (y ∷ []) in
+    let within : n ≤ length xs = prefix_len-le-length (λ x. not (p x)) xs in
+    (λ i. cond (nat_lt (at i) (longer i)) (Some (at i)) None) ∙ skipped n (length xs) within
+
+-- the ids of names once there is one group more
+known-after-by : (b : Bool) (gs : List NamedGroup) (g : NamedGroup) (name : List ℕ) → bytes_eq g.name name ≡ b
+    → known_id gs g.name ≡ None → known_id (gs ++ g ∷ []) name ≡ cond b (Some (length gs + 1)) (known_id gs name)
+known-after-by true gs g name is none =
+    subst (λ n. known_id (gs ++ g ∷ []) n ≡ Some (length gs + 1)) ((bytes_decides g.name name).0 is) (known-push gs g none)
+known-after-by false gs g name is none =
+    ap (option_map (λ i. i + 1))
+    (position-skip (λ x. bytes_eq name x.name) gs g (sym (nat_list_eq_equiv.symm g.name name) ∙ is))
+
+pub known-after : (gs : List NamedGroup) (g : NamedGroup) (name : List ℕ) → known_id gs g.name ≡ None
+    → known_id (gs ++ g ∷ []) name ≡ cond (bytes_eq g.name name) (Some (length gs + 1)) (known_id gs name)
+known-after gs g name none = known-after-by (bytes_eq g.name name) gs g name refl none
+
+-- ---- names alone
+
+abbrev pub names : List NamedGroup → List (List ℕ)
+names gs = map (λ g. g.name) gs
+
+position_or_len-map : {X Y : Type 0} (p : Y → Bool) (f : X → Y) (xs : List X)
+    → position_or_len p (map f xs) ≡ position_or_len (λ x. p (f x)) xs
+position_or_len-map p f [] = refl
+position_or_len-map p f (x ∷ xs) = ap (λ n. cond (not (p (f x))) (1 + n) 0) (position_or_len-map p f xs)
+
+position-map : {X Y : Type 0} (p : Y → Bool) (f : X → Y) (xs : List X) → position p (map f xs) ≡ position (λ x. p (f x)) xs
+position-map p f xs = λ i.
+    cond (nat_lt (position_or_len-map p f xs i) (length-map xs f i)) (Some (position_or_len-map p f xs i)) None
+
+-- ids of names depend on names alone
+pub known-names : (gs hs : List NamedGroup) (name : List ℕ) → names gs ≡ names hs → known_id gs name ≡ known_id hs name
+known-names gs hs name same =
+    ap (option_map (λ i. i + 1))
+    (sym (position-map (bytes_eq name) (λ g. g.name) gs) ∙ ap (position (bytes_eq name)) same ∙ position-map (bytes_eq name) (λ g. g.name) hs)
+
+names-set : (gs : List NamedGroup) (i : ℕ) (x : NamedGroup) → x.name ≡ option_map_or (λ g. g.name) (slice_get gs i) []
+    → names (slice_set gs i x) ≡ names gs
+names-set [] i x h = refl
+names-set (g ∷ gs) zero x h = ap (λ (n : List ℕ). n ∷ names gs) h
+names-set (g ∷ gs) (suc i) x h = ap (λ ns. g.name ∷ ns) (names-set gs i x h)
+
+pub names-with_group : (gs : List NamedGroup) (id : ℕ) (group : Group) → 0 < id → names (with_group gs id group) ≡ names gs
+names-with_group gs zero group h = absurd (omega (arith, h))
+names-with_group gs (suc i) group h =
+    let x : NamedGroup = record { name = name_at gs (suc i); group = group; was_put = true } in
+    let back : suc i - 1 ≡ i = omega arith in
+    ap (λ k. names (slice_set gs k x)) back ∙ names-set gs i x refl
+
+none_named-by : (xs : List NamedGroup) (name : List ℕ) → position_or_len (λ g. bytes_eq name g.name) xs ≡ length xs
+    → list_any (bytes_eq name) (names xs) ≡ false
+none_named-by [] name h = refl
+none_named-by (x ∷ xs) name h = by (none_named-by xs name) (bytes_eq name x.name) refl h
+  where
+    by : (position_or_len (λ g. bytes_eq name g.name) xs ≡ length xs → list_any (bytes_eq name) (names xs) ≡ false)
+        → (b : Bool) → bytes_eq name x.name ≡ b
+        → cond (not b) (1 + position_or_len (λ g. bytes_eq name g.name) xs) 0 ≡ suc (length xs)
+        → list_any (bytes_eq name) (names (x ∷ xs)) ≡ false
+    by more true e k = absurd (omega (arith, k))
+    by more false e k = ap (λ b. b || list_any (bytes_eq name) (names xs)) e ∙ more (omega (arith, k))
+
+none_named : (gs : List NamedGroup) (name : List ℕ) → known_id gs name ≡ None → list_any (bytes_eq name) (names gs) ≡ false
+none_named gs name none =
+    none_named-by gs name (none_passes (λ g. bytes_eq name g.name) gs (unknown_name gs name none))
+
 -- ---- which ids have a group
 pub entry_there : (gs : List NamedGroup) (id : ℕ) → HasGroup gs id → (g : NamedGroup) × (entry_at gs id ≡ Some g)
 entry_there gs zero h = absurd (omega (arith, h.0))
@@ -94,8 +173,9 @@ pub sound-group : (gs : List NamedGroup) → AreSound gs → (id : ℕ) → IfSo
 sound-group gs sound zero = tt
 sound-group gs sound (suc i) = linked_in (LinksWithin (length gs)) gs i sound.linked
 
-pub sound-push : (gs : List NamedGroup) (g : NamedGroup) → AreSound gs → length gs < 4294967295 → LinksWithin (length gs) g.group → AreSound (gs ++ g ∷ [])
-sound-push gs g sound few link =
+pub sound-push : (gs : List NamedGroup) (g : NamedGroup) → AreSound gs → length gs < 4294967295
+    → LinksWithin (length gs) g.group → known_id gs g.name ≡ None → AreSound (gs ++ g ∷ [])
+sound-push gs g sound few link none =
     let longer : length (gs ++ g ∷ []) ≡ length gs + 1 = length-append gs (g ∷ []) in
     let more : length gs ≤ length (gs ++ g ∷ []) = omega arith in
     let Old : NamedGroup → Type 0 = λ x. LinksWithin (length gs) x.group in
@@ -104,49 +184,27 @@ sound-push gs g sound few link =
     record {
       few = omega arith;
       linked = All-append New gs (g ∷ []) (All-weaker Old New widen gs sound.linked) (All-cons New g [] (widen g link) (All-nil New));
+      distinct = subst (IsDistinct bytes_eq) (sym (map-append (λ x. x.name) gs (g ∷ [])))
+          (IsDistinct-push nat_list_eq_equiv (names gs) g.name sound.distinct (none_named gs g.name none));
     }
 
 pub length-with_group : (gs : List NamedGroup) (id : ℕ) (group : Group) → length (with_group gs id group) ≡ length gs
 length-with_group gs id group = length-set gs (id - 1) _
 
-pub sound-with_group : (gs : List NamedGroup) (id : ℕ) (group : Group) → AreSound gs → LinksWithin (length gs) group → AreSound (with_group gs id group)
-sound-with_group gs id group sound link =
+pub sound-with_group : (gs : List NamedGroup) (id : ℕ) (group : Group) → AreSound gs → 0 < id
+    → LinksWithin (length gs) group → AreSound (with_group gs id group)
+sound-with_group gs id group sound first link =
     let same : length gs ≡ length (with_group gs id group) = sym (length-with_group gs id group) in
     record {
       few = subst (λ n. n < 2 ^ 32) same sound.few;
       linked = subst (λ n. All (λ x. LinksWithin n x.group) (with_group gs id group)) same
           (All-set (λ x. LinksWithin (length gs) x.group) gs (id - 1) _ link sound.linked);
+      distinct = subst (IsDistinct bytes_eq) (sym (names-with_group gs id group first)) sound.distinct;
     }
 
-pub sound-fresh : AreSound fresh_groups
-sound-fresh =
-    let small : 7 < 2 ^ 32 = omega arith in
-    let link : LinksWithin 7 (Link 2) = (omega arith, omega arith) in
-    record {
-      few = small;
-      linked = All-from_recursion (λ x. LinksWithin 7 x.group) fresh_groups (tt, (tt, (link, (tt, (tt, (tt, (tt, tt)))))));
-    }
-
--- ---- what the calls tell
--- a look-up of an id
-pub group-told : (gs now : List NamedGroup) (id : ℕ) (r : Option Group) → gs ≡ now → AreSound gs → r ≡ group_at gs id
-    → (IsSome r ↔ HasGroup now id) × IfSome r (LinksWithin (length now))
-group-told gs now id r is sound gives =
-    let P : List NamedGroup → Option Group → Type 0 = λ xs o. (IsSome o ↔ HasGroup xs id) × IfSome o (LinksWithin (length xs)) in
-    subst (λ xs. P xs r) is (subst (P gs) (sym gives) (group_is_there gs id, sound-group gs sound id))
-
--- an unknown name that gets a group
-pub name-made : (gs now new : List NamedGroup) (name : List ℕ) → gs ≡ now → AreSound gs → length now < 4294967295
-    → known_id now name ≡ None → (position (λ g. bytes_eq name g.name) gs ≡ None → new ≡ gs ++ empty_group name ∷ [])
-    → AreSound new × (known_id new name ≡ Some (length new))
-name-made gs now new name is sound few none makes =
-    let unknown : known_id gs name ≡ None = ap (λ xs. known_id xs name) is ∙ none in
-    let put : new ≡ gs ++ empty_group name ∷ [] = makes (unknown_name gs name unknown) in
-    let room : length gs < 4294967295 = subst (λ xs. length xs < 4294967295) (sym is) few in
-    let longer : length gs + 1 ≡ length new = sym (ap length put ∙ length-append gs (empty_group name ∷ [])) in (
-      subst AreSound (sym put) (sound-push gs (empty_group name) sound room tt),
-      ap (λ xs. known_id xs name) put ∙ known-push gs (empty_group name) unknown ∙ ap Some longer,
-    )
+pub sound-nothing : AreSound []
+unfolding IsDistinct
+sound-nothing = record { few = omega arith; linked = All-nil (λ x. LinksWithin 0 x.group); distinct = tt }
 
 -- ---- following links
 module _ (gs : List NamedGroup) where

@@ -1,3 +1,4 @@
 pub mod LawLemmas
+pub mod CellLemmas
 pub mod GroupLemmas
 pub mod StoredLemmas

@@ -1,109 +1,63 @@
--- What changes of the stored entries are to the groups.
-use Rattle.std.proofs.Common.{◌≡◌, ◌+◌, ◌-◌, ℕ, zero, suc, List, [], ◌∷◌, ◌++◌, length, map, refl, sym, ap, subst, ◌∙◌, arith, Bool, true, false, not, cond, Option, Some, None, Vec, Bor, option_map, position, slice_get, slice_set, nat_lt, MatchOption}
-use Rattle.std.proofs.lemmas.List.{length-map, map-append}
-use Rattle.std.proofs.lemmas.Option.{none-some, same_Some, slice_get-map}
-use Rattle.std.specs.List.{position_or_len, AllByRecursion, IsDistinct}
-use Rattle.std.specs.Map.{keys_of}
-use Rattle.std.specs.Map.Iter.{deref_pair}
-use Rattle.std.specs.Option.{option_map_or}
+-- The index of names, as groups come.
+use Rattle.std.proofs.Common.{◌≡◌, ◌+◌, ℕ, List, [], ◌∷◌, ◌++◌, length, refl, sym, ap, subst, ◌∙◌, Bool, true, false, cond, Option, Some, None, Vec, nat_cmp}
+use Rattle.std.proofs.lemmas.Map.Text.{is_eq-slice_cmp}
+use Rattle.std.specs.BTreeMap.{BTreeMap, UpdatesBy, get_by, is_at}
+use Rattle.std.specs.Cmp.{eq_by_cmp_equiv}
+use Rattle.std.specs.Cmp.Lexicographic.{slice_cmp, bytes_decides, nat_list_cmp_total, nat_list_eq_equiv}
+use Rattle.std.specs.Map.{lookup, IsKeyTest, AreApart, KeepsOthers}
+use Rattle.std.specs.Ordering.{is_eq}
 use Rattle.std.specs.Str.{bytes_eq}
-use Rattle.indexmap.specs.IndexMap.{insert_entry, set_value_at}
-use Rattle.indexmap.proofs.MapLemmas.{Missing-position, insert_entry-absent}
 use Rattle.nv_hl.specs.declared.linking.Group.{Group}
-use Rattle.nv_hl.specs.declared.linking.Group.TheVariants.{Plain}
-use Rattle.nv_hl.specs.declared.stored.Entry.{Entry}
-use Rattle.nv_hl.specs.Attributes.{empty_attr}
-use Rattle.nv_hl.specs.Groups.{NamedGroup, HasGroup, entry_at, name_at, with_group}
-use Rattle.nv_hl.specs.Stored.{named, stored_group, groups_of}
-use Rattle.nv_hl.proofs.GroupLemmas.{entry_there}
+use Rattle.nv_hl.specs.Groups.{NamedGroup, HasGroup, known_id, with_group}
+use Rattle.nv_hl.specs.inside.Stored.{IsIndex}
+use Rattle.nv_hl.proofs.GroupLemmas.{known-after, known-names, names-with_group}
 
--- ---- names
-position_or_len-map : {X Y : Type 0} (p : Y → Bool) (f : X → Y) (xs : List X) → position_or_len p (map f xs) ≡ position_or_len (λ x. p (f x)) xs
-position_or_len-map p f [] = refl
-position_or_len-map p f (x ∷ xs) = ap (λ n. cond (not (p (f x))) (1 + n) 0) (position_or_len-map p f xs)
+apart : (bs cs ks : List ℕ) → bytes_eq bs cs ≡ false → bytes_eq bs ks ≡ true → bytes_eq cs ks ≡ false
+apart bs cs ks n y = nat_list_eq_equiv.symm cs ks ∙ sym (nat_list_eq_equiv.congr bs ks cs y) ∙ n
 
-position-map : {X Y : Type 0} (p : Y → Bool) (f : X → Y) (xs : List X) → position p (map f xs) ≡ position (λ x. p (f x)) xs
-position-map p f xs = λ i.
-    cond (nat_lt (position_or_len-map p f xs i) (length-map xs f i)) (Some (position_or_len-map p f xs i)) None
+apart_in_order : (bs cs ks : List ℕ) → bytes_eq bs cs ≡ false → is_eq (slice_cmp nat_cmp bs ks) ≡ true
+    → is_eq (slice_cmp nat_cmp cs ks) ≡ false
+apart_in_order bs cs ks n y = is_eq-slice_cmp cs ks ∙ apart bs cs ks n (sym (is_eq-slice_cmp bs ks) ∙ y)
+
+other_entries : {K X : Type 0} (eq : K → K → Bool) (test : K → Bool) (old new : List (K × X)) → KeepsOthers eq test old new
+    → (other : K → Bool) → IsKeyTest eq other → AreApart test other → lookup other new ≡ lookup other old
+unfolding KeepsOthers
+other_entries eq test old new h = h
 
 module _ {A : Type 0} where
-  pub position-keys : (name : List ℕ) (es : List (Vec ℕ A × Entry))
-      → position (λ k. bytes_eq name k.items) (keys_of es) ≡ position (λ g. bytes_eq name g.name) (groups_of es)
-  position-keys name es =
-      position-map (λ k. bytes_eq name k.items) (λ e. e.0) es ∙ sym (position-map (λ g. bytes_eq name g.name) stored_group es)
+  -- what the map has of a name
+  abbrev at : BTreeMap (Vec ℕ A) ℕ → List ℕ → Option ℕ
+  at m name = get_by (λ k. slice_cmp nat_cmp name k.items) m
 
-  pub length-groups : (es : List (Vec ℕ A × Entry)) → length (groups_of es) ≡ length es
-  length-groups es = length-map es stored_group
+  updated-by : (b : Bool) (key : Vec ℕ A) (m n : BTreeMap (Vec ℕ A) ℕ) (w : Option ℕ) (name : List ℕ) → bytes_eq key.items name ≡ b
+      → UpdatesBy (λ x y. slice_cmp nat_cmp x.items y.items) (λ k. slice_cmp nat_cmp key.items k.items) m n w
+      → at n name ≡ cond b w (at m name)
+  updated-by true key m n w name e h = subst (λ l. at n l ≡ w) ((bytes_decides key.items name).0 e) h.1
+  updated-by false key m n w name e h =
+      other_entries _ _ _ _ h.3 _ (λ x y. (eq_by_cmp_equiv nat_list_cmp_total).congr name x.items y.items)
+      (λ k. apart_in_order key.items name k.items e)
 
-  -- a new name goes last
-  pub appended : (es new : List (Vec ℕ A × Entry)) (key : Vec ℕ A) (name : List ℕ) (entry : Entry) → key.items ≡ name
-      → new ≡ insert_entry (λ x y. bytes_eq x.items y.items) es key entry
-      → position (λ g. bytes_eq name g.name) (groups_of es) ≡ None → groups_of new ≡ groups_of es ++ named name entry ∷ []
-  appended es new key name entry same put none =
-      let by_name : (name' : List ℕ) → name ≡ name' → position (λ k. bytes_eq name' k.items) (keys_of es) ≡ None =
-      λ name' e. subst (λ n. position (λ k. bytes_eq n k.items) (keys_of es) ≡ None) e (position-keys name es ∙ none) in
-      let missing = Missing-position (λ k. bytes_eq key.items k.items) es (by_name key.items (sym same)) in
-      ap groups_of put
-      ∙ ap groups_of (insert_entry-absent (λ x y. bytes_eq x.items y.items) key entry es missing.absent)
-      ∙ map-append stored_group es ((key, entry) ∷ [])
-      ∙ ap (λ n. groups_of es ++ named n entry ∷ []) same
+  -- the index once there is one group more
+  pub index-after : (key : Vec ℕ A) (m n : BTreeMap (Vec ℕ A) ℕ) (id : ℕ) (gs new : List NamedGroup) (g : NamedGroup)
+      → new ≡ gs ++ g ∷ [] → key.items ≡ g.name → id ≡ length gs + 1 → known_id gs g.name ≡ None → IsIndex m gs
+      → UpdatesBy (λ x y. slice_cmp nat_cmp x.items y.items) (λ k. slice_cmp nat_cmp key.items k.items) m n (Some id)
+      → IsIndex n new
+  index-after key m n id gs new g pushed same count none is h = λ name.
+      let b = bytes_eq key.items name in
+      updated-by b key m n (Some id) name refl h
+      ∙ (λ i. cond b (Some (count i)) (is name i))
+      ∙ ap (λ t. cond (bytes_eq t name) (Some (length gs + 1)) (known_id gs name)) same
+      ∙ sym (known-after gs g name none)
+      ∙ ap (λ xs. known_id xs name) (sym pushed)
 
-  apart : (key : Vec ℕ A) (es : List (Vec ℕ A × Entry)) → AllByRecursion (λ k. bytes_eq key.items k.items ≡ false) (keys_of es)
-      → AllByRecursion (λ name. bytes_eq key.items name ≡ false) (map (λ g. g.name) (groups_of es))
-  apart key [] h = tt
-  apart key (e ∷ es) h = (h.0, apart key es h.1)
+  -- the index once another group is put at an id
+  pub index-with_group : (m : BTreeMap (Vec ℕ A) ℕ) (gs new : List NamedGroup) (id : ℕ) (group : Group) → HasGroup gs id
+      → new ≡ with_group gs id group → IsIndex m gs → IsIndex m new
+  index-with_group m gs new id group there put is = λ name.
+      is name
+      ∙ sym (ap (λ xs. known_id xs name) put ∙ known-names (with_group gs id group) gs name (names-with_group gs id group there.0))
 
-  pub distinct-names : (es : List (Vec ℕ A × Entry)) → IsDistinct (λ x y. bytes_eq x.items y.items) (keys_of es)
-      → IsDistinct bytes_eq (map (λ g. g.name) (groups_of es))
-  unfolding IsDistinct
-  distinct-names [] h = tt
-  distinct-names (e ∷ es) h = (apart e.0 es h.0, distinct-names es h.1)
-
-  -- ---- ids
-  pub found : (es : List (Vec ℕ A × Entry)) (id : ℕ) (r : Option (Bor (Vec ℕ A) × Bor Entry)) → (id ≡ 0 → ⊥)
-      → option_map deref_pair r ≡ slice_get es (id - 1)
-      → MatchOption r (entry_at (groups_of es) id ≡ None) (λ e. entry_at (groups_of es) id ≡ Some (named e.0.now.items e.1.now))
-  found es zero r some h = absurd (some refl)
-  found es (suc i) None some h =
-      let before : suc i - 1 ≡ i = omega arith in
-      slice_get-map stored_group es i ∙ ap (option_map stored_group) (sym (ap (slice_get es) before) ∙ sym h)
-  found es (suc i) (Some e) some h =
-      let before : suc i - 1 ≡ i = omega arith in
-      slice_get-map stored_group es i ∙ ap (option_map stored_group) (sym (ap (slice_get es) before) ∙ sym h)
-
-  set-groups : (es : List (Vec ℕ A × Entry)) (i : ℕ) (entry : Entry) (g : NamedGroup) → slice_get (groups_of es) i ≡ Some g
-      → groups_of (set_value_at es i entry) ≡ slice_set (groups_of es) i (named g.name entry)
-  set-groups [] i entry g h = absurd (none-some g h)
-  set-groups (e ∷ es) zero entry g h = ap (λ x. named x.name entry ∷ groups_of es) (same_Some (stored_group e) g h)
-  set-groups (e ∷ es) (suc i) entry g h = ap (λ l. stored_group e ∷ l) (set-groups es i entry g h)
-
-  pub put-groups : (es : List (Vec ℕ A × Entry)) (id : ℕ) (group : Group) → HasGroup (groups_of es) id
-      → groups_of (set_value_at es (id - 1) (record { group = group; was_put = true })) ≡ with_group (groups_of es) id group
-  put-groups es zero group h = absurd (omega (arith, h.0))
-  put-groups es (suc i) group h =
-      let before : i ≡ suc i - 1 = omega arith in
-      let there = entry_there (groups_of es) (suc i) h in
-      let entry : Entry = record { group = group; was_put = true } in
-      let name : (there.0).name ≡ name_at (groups_of es) (suc i) = sym (ap (λ o. option_map_or (λ g. g.name) o []) there.1) in
-      subst (λ k. groups_of (set_value_at es k entry) ≡ slice_set (groups_of es) k (named (name_at (groups_of es) (suc i)) entry)) before
-      (set-groups es i entry there.0 there.1 ∙ ap (λ n. slice_set (groups_of es) i (named n entry)) name)
-
-  -- what `put` does, as its callers see it
-  pub put-shown : (es new : List (Vec ℕ A × Entry)) (now : List NamedGroup) (id : ℕ) (group : Group) (entry : Entry) → groups_of es ≡ now
-      → new ≡ set_value_at es (id - 1) entry → entry ≡ record { group = group; was_put = true } → HasGroup now id
-      → groups_of new ≡ with_group now id group
-  put-shown es new now id group entry is put made there =
-      ap groups_of put
-      ∙ ap (λ e. groups_of (set_value_at es (id - 1) e)) made
-      ∙ put-groups es id group (subst (λ gs. HasGroup gs id) (sym is) there)
-      ∙ ap (λ gs. with_group gs id group) is
-
--- ---- the fresh groups, one after another
-abbrev pub empty_entry : Entry
-empty_entry = record { group = Plain empty_attr; was_put = false }
-
-pub one_more : (name : List ℕ) (old new done : List NamedGroup) (entry made : Entry)
-    → (position (λ g. bytes_eq name g.name) old ≡ None → new ≡ old ++ named name entry ∷ []) → old ≡ done
-    → position (λ g. bytes_eq name g.name) done ≡ None → entry ≡ made → new ≡ done ++ named name made ∷ []
-one_more name old new done entry made makes is none same =
-    makes (ap (position (λ g. bytes_eq name g.name)) is ∙ none) ∙ (λ i. is i ++ named name (same i) ∷ [])
+  -- no group, no name
+  pub index-empty : (m : BTreeMap (Vec ℕ A) ℕ) (gs : List NamedGroup) → m.entries ≡ [] → gs ≡ [] → IsIndex m gs
+  index-empty m gs empty none = λ name.
+      ap (λ es. lookup (is_at (λ k. slice_cmp nat_cmp name k.items)) es) empty ∙ sym (ap (λ xs. known_id xs name) none)

@@ -1,6 +1,8 @@
--- The highlight groups of an editor (help: highlight-groups, nvim_set_hl(), nvim_get_hl_id_by_name()).
-use Rattle.std.specs.Prelude.{ℕ, zero, suc, ◌+◌, ◌-◌, ◌^◌, ◌<◌, ◌≤◌, All, Bool, true, false, List, [], ◌∷◌, ◌++◌, Option, Some, None, length, codes, is_some, option_map, position, slice_get, slice_set, if◌then◌else◌}
+-- The highlight groups of an editor (help: highlight-groups, nvim_set_hl(),
+-- nvim_get_hl_id_by_name()).
+use Rattle.std.specs.Prelude.{ℕ, zero, suc, ◌+◌, ◌-◌, ◌^◌, ◌<◌, ◌≤◌, All, Bool, true, false, List, [], ◌∷◌, ◌++◌, Option, Some, None, length, map, codes, is_some, option_map, position, slice_get, slice_set, if◌then◌else◌}
 use Rattle.std.specs.Option.{option_map_or}
+use Rattle.std.specs.List.{IsDistinct}
 use Rattle.std.specs.Str.{bytes_eq}
 use Rattle.nv_hl.specs.declared.attribute.Attr.{Attr}
 use Rattle.nv_hl.specs.declared.linking.Group.{Group}
@@ -53,12 +55,15 @@ abbrev pub LinksWithin : ℕ → Group → Type 0
 LinksWithin n (Plain attr) = Unit {0}
 LinksWithin n (Link id) = (0 < id) × (id ≤ n)
 
--- what an editor's groups always keep: the ids fit 32 bits, and each link leads to a group
+-- what an editor's groups always keep: the ids fit 32 bits, each link leads to a group, and no two
+-- have one name
 pub record AreSound (groups : List NamedGroup) : Type 0 where
   pub few : length groups < 2 ^ 32
   pub linked : All (λ g. LinksWithin (length groups) g.group) groups
+  pub distinct : IsDistinct bytes_eq (map (λ g. g.name) groups)
 
--- the attribute at the end of at most so many links; a chain that goes on is the empty attribute (own rule)
+-- the attribute at the end of at most so many links; a chain that goes on is the empty attribute
+-- (own rule)
 unfoldable pub attr_along : ℕ → List NamedGroup → Option Group → Attr
 attr_along links groups None = empty_attr
 attr_along links groups (Some (Plain attr)) = attr
@@ -69,14 +74,31 @@ attr_along (suc links) groups (Some (Link id)) = attr_along links groups (group_
 abbrev pub attr_of : List NamedGroup → ℕ → Attr
 attr_of groups id = attr_along 64 groups (group_at groups id)
 
--- the groups of a fresh editor, with ids from 1 (help: highlight-groups; own rule for their attributes)
+-- the groups of a fresh editor, with ids from 1 (help: highlight-groups; own rule for their
+-- attributes)
 abbrev pub fresh_groups : List NamedGroup
 fresh_groups =
     (record { name = codes "Normal"; group = Plain empty_attr; was_put = false })
-    ∷ (record { name = codes "NonText"; group = Plain (record empty_attr { bold = true }); was_put = true })
+    ∷ (record {
+      name = codes "NonText";
+      group = Plain (record empty_attr { bold = true });
+      was_put = true;
+    })
     ∷ (record { name = codes "EndOfBuffer"; group = Link 2; was_put = true })
-    ∷ (record { name = codes "SpecialKey"; group = Plain (record empty_attr { bold = true }); was_put = true })
-    ∷ (record { name = codes "StatusLine"; group = Plain (record empty_attr { reverse = true; bold = true }); was_put = true })
-    ∷ (record { name = codes "StatusLineNC"; group = Plain (record empty_attr { reverse = true }); was_put = true })
+    ∷ (record {
+      name = codes "SpecialKey";
+      group = Plain (record empty_attr { bold = true });
+      was_put = true;
+    })
+    ∷ (record {
+      name = codes "StatusLine";
+      group = Plain (record empty_attr { reverse = true; bold = true });
+      was_put = true;
+    })
+    ∷ (record {
+      name = codes "StatusLineNC";
+      group = Plain (record empty_attr { reverse = true });
+      was_put = true;
+    })
     ∷ (record { name = codes "WinSeparator"; group = Plain empty_attr; was_put = false })
     ∷ []

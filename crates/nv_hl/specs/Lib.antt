@@ -1,4 +1,5 @@
 pub mod Attributes
+pub mod Cells
 pub mod Groups
 pub mod Laws
-pub mod Stored
+pub mod inside

@@ -1,98 +1,128 @@
-//! How groups are stored: a map in the order of insertion, from names to what is kept of each group.
+//! How groups are stored: a list of them, and an ordered map from their names to their ids.
 
-ghost use Rattle.nv_hl.specs.Groups.{attr_of, entry_at, fresh_groups, group_at, name_at, was_put_at};
-ghost use Rattle.nv_hl.specs.Stored.{groups_of, named};
-ghost use Rattle.indexmap.specs.IndexMap.{set_value_at};
-ghost use Rattle.std.specs.Str.{bytes_eq};
-ghost use Rattle.std.specs.Prelude.{◌≡◌, ◌<◌, ◌≤◌, ◌-◌, ◌++◌, ◌∷◌, [], IfOk, IfSome, MatchOption, None, OnErr, OnOk, Some, length, position, true};
+ghost use Rattle.nv_hl.specs.Groups.{AreSound, HasGroup, LinksWithin, attr_of, entry_at, group_at, known_id, name_at, was_put_at, with_group};
+ghost use Rattle.nv_hl.specs.inside.Stored.{IsIndex, named};
+ghost use Rattle.std.specs.Prelude.{◌≡◌, ◌<◌, ◌≤◌, ◌-◌, ◌++◌, ◌∷◌, [], IfOk, IfSome, MatchOption, None, OnErr, OnOk, Some, length, true};
 
 use crate::attribute::Attr;
 use crate::linking::Group;
-use indexmap::IndexMap;
 use std::alloc::{AllocError, Global};
+use std::collections::BTreeMap;
+use std::marker::Model;
 
 /// The greatest number of links that are followed.
 const MOST_LINKS: u32 = 64;
 
-/// What is kept of a group beside its name.
-#[derive(Clone, Copy)]
+/// A group with its name.
+#[derive(Drop)]
 pub struct Entry {
-    pub group: Group,
-    pub was_put: bool,
+    name: Vec<u8>,
+    group: Group,
+    was_put: bool,
+}
+
+impl Model for Entry {
+    ghost use Rattle.nv_hl.specs.Groups.{NamedGroup};
+
+    ghost Value = { NamedGroup };
+
+    ghost view = { λ e. record { name = e.name.items; group = e.group; was_put = e.was_put } };
 }
 
 impl Entry {
-    /// A group that was only named.
-    pub const EMPTY: Entry = Entry {
-        group: Group::Plain(Attr::EMPTY),
-        was_put: false,
-    };
-
-    /// A group that was put.
-    pub fn put(group: Group) -> Entry
-        ensures { result ≡ record { group = group; was_put = true } }
+    /// A group of this name.
+    fn new(alloc: Global, name: &[u8], group: Group, was_put: bool) -> Result<Entry, AllocError>
+        ensures { IfOk result (λ e. e ≡ named name.now group was_put) }
     {
-        Entry {
+        let name = Vec::from_slice(alloc, name)?;
+        Ok(Entry {
+            name,
             group,
-            was_put: true,
-        }
+            was_put,
+        })
+    }
+
+    fn name(&self) -> &[u8]
+        ensures { result.now ≡ self.now.name }
+    {
+        self.name.as_slice()
+    }
+
+    fn group(&self) -> Group
+        ensures { result ≡ self.now.group }
+    {
+        self.group
+    }
+
+    fn was_put(&self) -> bool
+        ensures { result ≡ self.now.was_put }
+    {
+        self.was_put
+    }
+
+    fn put(&mut self, group: Group)
+        ensures { self.new ≡ record { name = self.old.name; group = group; was_put = true } }
+    {
+        self.group = group;
+        self.was_put = true;
     }
 }
 
-/// The groups by their names.
-pub type Entries = IndexMap<Vec<u8>, Entry>;
+/// The ids of groups by their names.
+pub type Index = BTreeMap<Vec<u8>, u32>;
 
-/// The place of the group of this name, counted from 0.
-pub fn index_of(entries: &Entries, name: &[u8]) -> Option<usize>
-    ensures index { result ≡ position (λ g. bytes_eq name.now g.name) (groups_of entries.now.entries) }
-    ensures within { IfSome result (λ index. index < length (groups_of entries.now.entries)) }
+/// The id of the group of this name.
+pub fn id_in(index: &Index, entries: &Vec<Entry>, name: &[u8]) -> Option<u32>
+    requires { IsIndex index.now entries.now.items }
+    ensures { result ≡ known_id entries.now.items name.now }
 {
-    entries.get_index_of(name)
+    index.get(name).copied()
 }
 
-/// The name of an id, and what is kept of its group.
-fn find(entries: &Entries, id: u32) -> Option<(&Vec<u8>, &Entry)>
-    ensures { MatchOption result (entry_at (groups_of entries.now.entries) id ≡ None) (λ e. entry_at (groups_of entries.now.entries) id ≡ Some (named e.0.now.items e.1.now)) }
+/// A group of this id.
+fn find(entries: &Vec<Entry>, id: u32) -> Option<&Entry>
+    ensures { MatchOption result (entry_at entries.now.items id ≡ None)
+        (λ e. entry_at entries.now.items id ≡ Some e.now) }
 {
     if id == 0 {
         return None;
     }
-    entries.get_index(id as usize - 1)
+    entries.get(id as usize - 1)
 }
 
 /// What the group of this id stands for.
-pub fn group_of(entries: &Entries, id: u32) -> Option<Group>
-    ensures { result ≡ group_at (groups_of entries.now.entries) id }
+pub fn group_of(entries: &Vec<Entry>, id: u32) -> Option<Group>
+    ensures { result ≡ group_at entries.now.items id }
 {
     match find(entries, id) {
-        Some((_, entry)) => Some(entry.group),
+        Some(entry) => Some(entry.group()),
         None => None,
     }
 }
 
 /// Whether a group was put at this id.
-pub fn was_put(entries: &Entries, id: u32) -> bool
-    ensures { result ≡ was_put_at (groups_of entries.now.entries) id }
+pub fn was_put(entries: &Vec<Entry>, id: u32) -> bool
+    ensures { result ≡ was_put_at entries.now.items id }
 {
     match find(entries, id) {
-        Some((_, entry)) => entry.was_put,
+        Some(entry) => entry.was_put(),
         None => false,
     }
 }
 
 /// The name of the group of this id.
-pub fn name_of(entries: &Entries, id: u32) -> &[u8]
-    ensures { result.now ≡ name_at (groups_of entries.now.entries) id }
+pub fn name_of(entries: &Vec<Entry>, id: u32) -> &[u8]
+    ensures { result.now ≡ name_at entries.now.items id }
 {
     match find(entries, id) {
-        Some((name, _)) => name.as_slice(),
+        Some(entry) => entry.name(),
         None => &[],
     }
 }
 
 /// The attribute at the end of the links from this id, of which at most `MOST_LINKS` are followed.
-pub fn attr_from(entries: &Entries, id: u32) -> Attr
-    ensures { result ≡ attr_of (groups_of entries.now.entries) id }
+pub fn attr_from(entries: &Vec<Entry>, id: u32) -> Attr
+    ensures { result ≡ attr_of entries.now.items id }
 {
     let mut group = group_of(entries, id);
     for followed in 0..MOST_LINKS {
@@ -109,56 +139,43 @@ pub fn attr_from(entries: &Entries, id: u32) -> Attr
     }
 }
 
-/// Writes what is kept of the group of this id.
-pub fn set(entries: &mut Entries, id: u32, entry: Entry)
+/// Puts a group in place of the one of this id.
+pub fn set(entries: &mut Vec<Entry>, id: u32, group: Group)
     requires first { 0 < id }
-    requires last { id ≤ length entries.old.entries }
-    ensures { entries.new.entries ≡ set_value_at entries.old.entries (id - 1) entry }
+    requires last { id ≤ length entries.old.items }
+    ensures { entries.new.items ≡ with_group entries.old.items id group }
 {
-    entries[id as usize - 1] = entry;
+    entries[id as usize - 1].put(group);
 }
 
-/// Puts a group of a new name at the end.
-pub fn append(entries: &mut Entries, name: &[u8], entry: Entry) -> Result<(), AllocError>
-    ensures unknown { position (λ g. bytes_eq name.now g.name) (groups_of entries.old.entries) ≡ None → OnOk result (groups_of entries.new.entries ≡ groups_of entries.old.entries ++ named name.now entry ∷ []) }
-    ensures err { OnErr result (groups_of entries.new.entries ≡ groups_of entries.old.entries) }
+/// Puts a group of a new name at the end, and gives its id.
+pub fn append(
+    index: &mut Index,
+    entries: &mut Vec<Entry>,
+    name: &[u8],
+    group: Group,
+    was_put: bool,
+) -> Result<u32, AllocError>
+    requires index { IsIndex index.old entries.old.items }
+    requires unknown { known_id entries.old.items name.now ≡ None }
+    requires sound { AreSound entries.old.items }
+    requires linked { LinksWithin (length entries.old.items) group }
+    ensures entries { OnOk result
+        (entries.new.items ≡ entries.old.items ++ named name.now group was_put ∷ []) }
+    ensures id { IfOk result (λ id. known_id entries.new.items name.now ≡ Some id) }
+    ensures there { IfOk result (λ id. HasGroup entries.new.items id) }
+    ensures index { IsIndex index.new entries.new.items }
+    ensures sound { AreSound entries.new.items }
+    ensures err { OnErr result (entries.new.items ≡ entries.old.items) }
 {
-    let key = Vec::from_slice(*entries.allocator(), name)?;
-    entries.insert(key, entry)?;
-    Ok(())
-}
-
-/// The seven groups of a fresh editor.
-pub fn fresh_entries(alloc: Global) -> Result<Entries, AllocError>
-    ensures { IfOk result (λ entries. groups_of entries.entries ≡ fresh_groups) }
-{
-    let bold = Attr {
-        bold: true,
-        ..Attr::EMPTY
+    let Ok(id) = u32::try_from(entries.len() + 1) else {
+        return Err(AllocError);
     };
-    let reverse = Attr {
-        reverse: true,
-        ..Attr::EMPTY
-    };
-    let status = Attr {
-        bold: true,
-        ..reverse
-    };
-    let mut entries = IndexMap::new(alloc);
-    append(&mut entries, b"Normal", Entry::EMPTY)?;
-    append(&mut entries, b"NonText", Entry::put(Group::Plain(bold)))?;
-    append(&mut entries, b"EndOfBuffer", Entry::put(Group::Link(2)))?;
-    append(&mut entries, b"SpecialKey", Entry::put(Group::Plain(bold)))?;
-    append(
-        &mut entries,
-        b"StatusLine",
-        Entry::put(Group::Plain(status)),
-    )?;
-    append(
-        &mut entries,
-        b"StatusLineNC",
-        Entry::put(Group::Plain(reverse)),
-    )?;
-    append(&mut entries, b"WinSeparator", Entry::EMPTY)?;
-    Ok(entries)
+    let alloc = *entries.allocator();
+    let entry = Entry::new(alloc, name, group, was_put)?;
+    let key = Vec::from_slice(alloc, name)?;
+    entries.reserve(1)?;
+    index.insert(key, id)?;
+    entries.push_reserved(entry);
+    Ok(id)
 }

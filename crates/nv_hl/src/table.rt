@@ -3,31 +3,34 @@
 ghost use Rattle.nv_hl.specs.Groups.{AreSound, HasGroup, LinksWithin, attr_of, empty_group, fresh_groups, group_at, known_id, name_at, was_put_at, with_group, with_named};
 ghost use Rattle.std.specs.List.{IsDistinct};
 ghost use Rattle.std.specs.Str.{bytes_eq};
-ghost use Rattle.std.specs.Prelude.{◌≡◌, ◌<◌, ◌≤◌, ◌↔◌, IfOk, IfSome, IsOk, IsSome, OnErr, OnOk, Some, length, map};
+ghost use Rattle.nv_hl.specs.inside.Stored.{named};
+ghost use Rattle.std.specs.Prelude.{◌≡◌, ◌<◌, ◌≤◌, ◌↔◌, ◌++◌, ◌∷◌, [], IfOk, IfSome, IsOk, IsSome, None, OnErr, OnOk, Some, length, map};
 
 use crate::attribute::Attr;
 use crate::linking::Group;
-use crate::stored::{self, Entries, Entry};
+use crate::stored::{self, Entry, Index};
 use std::alloc::{AllocError, Global};
+use std::collections::BTreeMap;
 use std::marker::Model;
 
-/// The highlight groups, each with a name and an id. Ids count from 1, in the order in which the names came.
+/// The highlight groups, each with a name and an id. Ids count from 1, in the order in which the
+/// names came. A name is looked up in an ordered map.
 #[derive(Drop)]
 pub struct Groups {
-    entries: Entries,
+    index: Index,
+    entries: Vec<Entry>,
 }
 
 impl Model for Groups {
     ghost use Rattle.std.specs.Prelude.{List};
     ghost use Rattle.nv_hl.specs.Groups.{AreSound, NamedGroup};
+    ghost use Rattle.nv_hl.specs.inside.Stored.{IsIndex};
 
     ghost Value = { List NamedGroup };
 
-    ghost use Rattle.nv_hl.specs.Stored.{groups_of};
+    ghost view = { λ g. g.entries.items };
 
-    ghost view = { λ g. groups_of g.entries.entries };
-
-    ghost invariant = { λ g. AreSound (groups_of g.entries.entries) };
+    ghost invariant = { λ g. AreSound g.entries.items × IsIndex g.index g.entries.items };
 }
 
 impl Groups {
@@ -35,8 +38,42 @@ impl Groups {
     pub fn new(alloc: Global) -> Result<Groups, AllocError>
         ensures { IfOk result (λ g. g ≡ fresh_groups) }
     {
-        let entries = stored::fresh_entries(alloc)?;
-        Ok(Groups { entries })
+        let bold = Attr {
+            bold: true,
+            ..Attr::EMPTY
+        };
+        let reverse = Attr {
+            reverse: true,
+            ..Attr::EMPTY
+        };
+        let status = Attr {
+            bold: true,
+            ..reverse
+        };
+        let mut groups = Groups {
+            index: BTreeMap::new(alloc),
+            entries: Vec::new(alloc),
+        };
+        groups.add(b"Normal", Group::Plain(Attr::EMPTY), false)?;
+        groups.add(b"NonText", Group::Plain(bold), true)?;
+        groups.add(b"EndOfBuffer", Group::Link(2), true)?;
+        groups.add(b"SpecialKey", Group::Plain(bold), true)?;
+        groups.add(b"StatusLine", Group::Plain(status), true)?;
+        groups.add(b"StatusLineNC", Group::Plain(reverse), true)?;
+        groups.add(b"WinSeparator", Group::Plain(Attr::EMPTY), false)?;
+        Ok(groups)
+    }
+
+    // Puts a group of a new name at the end.
+    fn add(&mut self, name: &[u8], group: Group, was_put: bool) -> Result<u32, AllocError>
+        requires unknown { known_id self.old name.now ≡ None }
+        requires linked { LinksWithin (length self.old) group }
+        ensures groups { OnOk result (self.new ≡ self.old ++ named name.now group was_put ∷ []) }
+        ensures id { IfOk result (λ id. known_id self.new name.now ≡ Some id) }
+        ensures there { IfOk result (λ id. HasGroup self.new id) }
+        ensures err { OnErr result (self.new ≡ self.old) }
+    {
+        stored::append(&mut self.index, &mut self.entries, name, group, was_put)
     }
 
     /// The id of the group of this name. An unknown name gets a group with the empty attribute.
@@ -50,10 +87,7 @@ impl Groups {
     {
         match self.known(name) {
             Some(id) => Ok(id),
-            None => {
-                stored::append(&mut self.entries, name, Entry::EMPTY)?;
-                Ok(self.entries.len() as u32)
-            }
+            None => self.add(name, Group::Plain(Attr::EMPTY), false),
         }
     }
 
@@ -62,10 +96,7 @@ impl Groups {
         ensures id { result ≡ known_id self.now name.now }
         ensures there { IfSome result (λ id. HasGroup self.now id) }
     {
-        match stored::index_of(&self.entries, name) {
-            Some(index) => Some(index as u32 + 1),
-            None => None,
-        }
+        stored::id_in(&self.index, &self.entries, name)
     }
 
     /// What the group of this id stands for; `None` exactly where the id has no group.
@@ -84,10 +115,11 @@ impl Groups {
         ensures groups { self.new ≡ with_group self.old id group }
         ensures len { length self.new ≡ length self.old }
     {
-        stored::set(&mut self.entries, id, Entry::put(group));
+        stored::set(&mut self.entries, id, group);
     }
 
-    /// Whether a group was ever put at this id, or the id is one that a fresh editor has with a link or an attribute.
+    /// Whether a group was ever put at this id, or the id is one that a fresh editor has with a
+    /// link or an attribute.
     pub fn was_put(&self, id: u32) -> bool
         requires { HasGroup self.now id }
         ensures { result ≡ was_put_at self.now id }
@@ -95,8 +127,8 @@ impl Groups {
         stored::was_put(&self.entries, id)
     }
 
-    /// How text of this group looks: the attribute of the group that its links lead to, where they are at most 64,
-    /// and otherwise the empty attribute.
+    /// How text of this group looks: the attribute of the group that its links lead to, where they
+    /// are at most 64, and otherwise the empty attribute.
     pub fn attr(&self, id: u32) -> Attr
         requires { HasGroup self.now id }
         ensures { result ≡ attr_of self.now id }

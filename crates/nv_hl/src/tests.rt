@@ -1,5 +1,5 @@
 use super::*;
-use std::alloc::AllocError;
+use std::alloc::{AllocError, Global};
 use std::test::Fail;
 
 fn red() -> Attr {
@@ -148,5 +148,52 @@ fn combining(rt: HostRuntime) -> Result<(), Fail> {
     assert_eq!(rt; combine(low, high), seen);
     assert_eq!(rt; combine(Attr::EMPTY, low), low);
     assert_eq!(rt; combine(low, Attr::EMPTY), low);
+    Ok(())
+}
+
+/// Whether a text holds just these bytes, and so does its copy.
+fn keeps(alloc: Global, bytes: &[u8]) -> Result<bool, AllocError> {
+    let text = CellText::new(alloc, bytes)?;
+    let copy = text.copy(alloc)?;
+    Ok(text.as_slice() == bytes && copy.is_same(&text) && text.is_empty() == bytes.is_empty())
+}
+
+// Up to 14 bytes are kept in place, more behind a pointer.
+#[test]
+fn texts_of_cells(rt: HostRuntime) -> Result<(), Fail> {
+    let bytes = b"0123456789abcdef";
+    for len in 0..=16 {
+        assert!(rt; keeps(rt.alloc(), &bytes[..len])?);
+    }
+    let short = CellText::from_byte(b'0');
+    assert!(rt; short.is_same(&CellText::new(rt.alloc(), b"0")?));
+    assert!(rt; !short.is_same(&CellText::empty()));
+    Ok(())
+}
+
+#[test]
+fn screens(rt: HostRuntime) -> Result<(), Fail> {
+    let mut grid = Grid::blank(rt.alloc(), 3, 2)?;
+    let mut cells = Vec::new(rt.alloc());
+    cells.push(Cell::from_byte(b'a', red()))?;
+    cells.push(Cell::new(rt.alloc(), b"\xE4\xB8\x96", red())?)?;
+    cells.push(Cell::right_half(red()))?;
+    grid.lay(1, 1, cells);
+    grid.lay(2, 0, Vec::new(rt.alloc()));
+    let rows = grid.rows();
+    assert_eq!(rt; rows.len(), 2);
+    let blank = Cell::space(Attr::EMPTY);
+    for cell in rows[0].cells() {
+        assert!(rt; cell.is_same(&blank));
+    }
+    let row = rows[1].cells();
+    assert_eq!(rt; row.len(), 3);
+    assert!(rt; row[0].is_same(&blank));
+    assert_eq!(rt; row[1].text.as_slice(), b"a".as_slice());
+    assert!(rt; is_same_attr(&row[1].attr, &red()));
+    assert_eq!(rt; row[2].text.as_slice(), b"\xE4\xB8\x96".as_slice());
+    assert!(rt; !row[2].is_right_half());
+    let copy = row[2].copy(rt.alloc())?;
+    assert!(rt; copy.is_same(&row[2]));
     Ok(())
 }

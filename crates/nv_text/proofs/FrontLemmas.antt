@@ -21,8 +21,8 @@ use Rattle.unicode_segmentation.specs.Grapheme.{graphemes, break_by_pair, ends_i
 use Rattle.unicode_segmentation.specs.Segments.{cut, segments, prepend}
 use Rattle.unicode_segmentation.proofs.GraphemeLemmas.{joins_emoji-not_zwj}
 use Rattle.nv_text.specs.declared.piece.Piece.{Piece}
-use Rattle.nv_text.specs.Pieces.{cluster_parts, text_parts, placed, parts_cells}
-use Rattle.nv_text.proofs.PartLemmas.{parts_cells-append, placed-append, spelled-text}
+use Rattle.nv_text.specs.Pieces.{cluster_parts, text_parts, pieces_from, parts_cells}
+use Rattle.nv_text.proofs.PartLemmas.{parts_cells-append, pieces_from-append, spelled-text}
 use Rattle.nv_text.proofs.PlainLemmas.{is_printable, printable_bounds, other_from_printable, break_after, alone, encode_alone, ascii_from_printable, flat_alone, plain_text, plain_cells}
 
 -- ---- what stands before a printable character has no say in the breaks behind it
@@ -246,16 +246,16 @@ front_cells text front rest at front_is rest_is plain cut =
 -- the pieces of a text whose front is plain, once those of the front were pushed
 pub front_pushed : (text front rest : List ℕ) (at from : ℕ) (items pushed : List Piece) → front ≡ take at text → rest ≡ drop at text
     → list_all is_printable (take at text) ≡ true → text_parts text ≡ text_parts (take at text) ++ text_parts (drop at text)
-    → pushed ≡ items ++ placed from (text_parts front)
-    → pushed ++ placed (from + length front) (text_parts rest) ≡ items ++ placed from (text_parts text)
+    → pushed ≡ items ++ pieces_from from (text_parts front)
+    → pushed ++ pieces_from (from + length front) (text_parts rest) ≡ items ++ pieces_from from (text_parts text)
 front_pushed text front rest at from items pushed front_is rest_is plain cut push =
     let utf8 : IsUtf8 front = subst IsUtf8 (sym front_is) (IsUtf8-from_ascii (take at text) (ascii_from_printable (take at text) plain)) in
     let parts : text_parts text ≡ text_parts front ++ text_parts rest =
     cut ∙ ap₂ (λ (f r : List ℕ). text_parts f ++ text_parts r) (sym front_is) (sym rest_is) in
-    let joined : placed from (text_parts text) ≡ placed from (text_parts front) ++ placed (from + length front) (text_parts rest) =
-    ap (placed from) parts
-    ∙ placed-append from (text_parts front) (text_parts rest)
-    ∙ ap (λ (t : List ℕ). placed from (text_parts front) ++ placed (from + length t) (text_parts rest)) (spelled-text front utf8) in
-    ap (λ t. t ++ placed (from + length front) (text_parts rest)) push
-    ∙ append_assoc items (placed from (text_parts front)) (placed (from + length front) (text_parts rest))
+    let joined : pieces_from from (text_parts text) ≡ pieces_from from (text_parts front) ++ pieces_from (from + length front) (text_parts rest) =
+    ap (pieces_from from) parts
+    ∙ pieces_from-append from (text_parts front) (text_parts rest)
+    ∙ ap (λ (t : List ℕ). pieces_from from (text_parts front) ++ pieces_from (from + length t) (text_parts rest)) (spelled-text front utf8) in
+    ap (λ t. t ++ pieces_from (from + length front) (text_parts rest)) push
+    ∙ append_assoc items (pieces_from from (text_parts front)) (pieces_from (from + length front) (text_parts rest))
     ∙ ap (λ t. items ++ t) (sym joined)

@@ -1,3 +1,4 @@
 pub mod PartLemmas
 pub mod PlainLemmas
+pub mod PrefixLemmas
 pub mod FrontLemmas

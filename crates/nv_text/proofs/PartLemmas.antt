@@ -4,14 +4,15 @@ use Rattle.std.proofs.Math.Seq.{drop-cons}
 use Rattle.std.proofs.lemmas.List.{take-append-drop, length-drop, drop_all}
 use Rattle.std.proofs.lemmas.Str.{IsUtf8-from_is_utf8, IsUtf8-nil}
 use Rattle.std.specs.Cmp.Lexicographic.{same_text}
-use Rattle.std.specs.List.{concat, flat_map}
+use Rattle.std.proofs.lemmas.List.Elements.{All-take, All-from_recursion}
+use Rattle.std.specs.List.{All, AllByRecursion, concat, flat_map}
 use Rattle.std.specs.Str.{IsUtf8, is_utf8, bytes_eq}
 use Rattle.std.specs.Str.Lossy.{valid_len_up_to, utf8_valid_len}
 use Rattle.unicode_segmentation.specs.Grapheme.{graphemes, is_grapheme_break}
 use Rattle.unicode_segmentation.proofs.SegmentsLemmas.{AllPieces, concat-segments, segments_nonempty}
 use Rattle.nv_text.specs.declared.piece.Kind.TheVariants.{Tab, Control, Escape, Cluster}
 use Rattle.nv_text.specs.declared.piece.Piece.{Piece}
-use Rattle.nv_text.specs.Pieces.{Part, is_control, is_late_control, cluster_kind, cluster_parts, text_parts, escape_then, parts_within, parts, placed, pieces_of, kind_cells, parts_cells, strwidth_of}
+use Rattle.nv_text.specs.Pieces.{Part, is_control, is_late_control, cluster_kind, cluster_parts, text_parts, parts_from_escape, parts_within, parts, pieces_from, pieces_of, kind_cells, parts_cells, strwidth_of}
 use Rattle.nv_text.specs.Laws.{Cover}
 
 -- the bytes that parts are made of
@@ -23,12 +24,12 @@ pub spelled-append : (xs ys : List Part) → spelled (xs ++ ys) ≡ spelled xs +
 spelled-append [] ys = refl
 spelled-append (x ∷ xs) ys = ap (λ t. x.0 ++ t) (spelled-append xs ys) ∙ sym (append_assoc x.0 (spelled xs) (spelled ys))
 
-pub placed-append : (from : ℕ) (xs ys : List Part) → placed from (xs ++ ys) ≡ placed from xs ++ placed (from + length (spelled xs)) ys
-placed-append from [] ys = ap (λ n. placed n ys) (omega arith)
-placed-append from (x ∷ xs) ys =
+pub pieces_from-append : (from : ℕ) (xs ys : List Part) → pieces_from from (xs ++ ys) ≡ pieces_from from xs ++ pieces_from (from + length (spelled xs)) ys
+pieces_from-append from [] ys = ap (λ n. pieces_from n ys) (omega arith)
+pieces_from-append from (x ∷ xs) ys =
     let seam : from + length x.0 + length (spelled xs) ≡ from + length (x.0 ++ spelled xs) = omega (arith, length-append x.0 (spelled xs)) in
     ap (λ (t : List Piece). record { from = from; to = from + length x.0; kind = x.1 } ∷ t)
-    (placed-append (from + length x.0) xs ys ∙ ap (λ n. placed (from + length x.0) xs ++ placed n ys) seam)
+    (pieces_from-append (from + length x.0) xs ys ∙ ap (λ n. pieces_from (from + length x.0) xs ++ pieces_from n ys) seam)
 
 pub parts_cells-append : (xs ys : List Part) → parts_cells (xs ++ ys) ≡ parts_cells xs + parts_cells ys
 parts_cells-append [] ys = sym (zero-add (parts_cells ys))
@@ -108,9 +109,9 @@ utf8_front bs = valid_front bs (length bs)
 
 -- ---- the parts of a line, step by step
 
-escape_then-same : (f g : List ℕ → List Part) (bs : List ℕ) → ((xs : List ℕ) → length xs < length bs → f xs ≡ g xs) → escape_then f bs ≡ escape_then g bs
-escape_then-same f g [] h = refl
-escape_then-same f g (b ∷ bs) h = ap (λ t. (b ∷ [], Escape b) ∷ t) (h bs (omega arith))
+parts_from_escape-same : (f g : List ℕ → List Part) (bs : List ℕ) → ((xs : List ℕ) → length xs < length bs → f xs ≡ g xs) → parts_from_escape f bs ≡ parts_from_escape g bs
+parts_from_escape-same f g [] h = refl
+parts_from_escape-same f g (b ∷ bs) h = ap (λ t. (b ∷ [], Escape b) ∷ t) (h bs (omega arith))
 
 -- more steps than there are bytes change nothing
 parts_within-same : (k j : ℕ) (bs : List ℕ) → length bs < k → length bs < j → parts_within k bs ≡ parts_within j bs
@@ -119,18 +120,18 @@ parts_within-same (suc k) zero bs lk lj = absurd (omega arith)
 parts_within-same (suc k) (suc j) bs lk lj =
     let n = utf8_valid_len bs in
     ap (λ t. text_parts (take n bs) ++ t)
-    (escape_then-same (parts_within k) (parts_within j) (drop n bs)
+    (parts_from_escape-same (parts_within k) (parts_within j) (drop n bs)
     (λ xs lt. parts_within-same k j xs (omega (arith, length-drop n bs)) (omega (arith, length-drop n bs))))
 
-pub parts_step : (bs : List ℕ) → parts bs ≡ text_parts (take (utf8_valid_len bs) bs) ++ escape_then parts (drop (utf8_valid_len bs) bs)
+pub parts_step : (bs : List ℕ) → parts bs ≡ text_parts (take (utf8_valid_len bs) bs) ++ parts_from_escape parts (drop (utf8_valid_len bs) bs)
 unfolding parts
 parts_step bs =
     let n = utf8_valid_len bs in
     ap (λ t. text_parts (take n bs) ++ t)
-    (escape_then-same (parts_within (length bs)) parts (drop n bs)
+    (parts_from_escape-same (parts_within (length bs)) parts (drop n bs)
     (λ xs lt. parts_within-same (length bs) (suc (length xs)) xs (omega (arith, length-drop n bs)) (omega arith)))
 
-spelled-escape : (f : List ℕ → List Part) (bs : List ℕ) → ((xs : List ℕ) → length xs < length bs → spelled (f xs) ≡ xs) → spelled (escape_then f bs) ≡ bs
+spelled-escape : (f : List ℕ → List Part) (bs : List ℕ) → ((xs : List ℕ) → length xs < length bs → spelled (f xs) ≡ xs) → spelled (parts_from_escape f bs) ≡ bs
 spelled-escape f [] h = refl
 spelled-escape f (b ∷ bs) h = ap (λ t. b ∷ t) (h bs (omega arith))
 
@@ -138,7 +139,7 @@ spelled-within : (k : ℕ) (bs : List ℕ) → length bs < k → spelled (parts_
 spelled-within zero bs lt = absurd (omega arith)
 spelled-within (suc k) bs lt =
     let n = utf8_valid_len bs in
-    spelled-append (text_parts (take n bs)) (escape_then (parts_within k) (drop n bs))
+    spelled-append (text_parts (take n bs)) (parts_from_escape (parts_within k) (drop n bs))
     ∙ ap₂ ◌++◌ (spelled-text (take n bs) (utf8_front bs))
     (spelled-escape (parts_within k) (drop n bs) (λ xs le. spelled-within k xs (omega (arith, length-drop n bs))))
     ∙ take-append-drop n bs
@@ -148,7 +149,7 @@ unfolding parts
 spelled-parts bs = spelled-within (suc (length bs)) bs (omega arith)
 
 escape_cells-le : (f : List ℕ → List Part) (bs : List ℕ) → ((xs : List ℕ) → length xs < length bs → parts_cells (f xs) ≤ 4 * length xs)
-    → parts_cells (escape_then f bs) ≤ 4 * length bs
+    → parts_cells (parts_from_escape f bs) ≤ 4 * length bs
 escape_cells-le f [] h = omega arith
 escape_cells-le f (b ∷ bs) h = omega (arith, h bs (omega arith))
 
@@ -158,7 +159,7 @@ cells_within-le (suc k) bs lt =
     let n = utf8_valid_len bs in
     omega (
       arith,
-      parts_cells-append (text_parts (take n bs)) (escape_then (parts_within k) (drop n bs)),
+      parts_cells-append (text_parts (take n bs)) (parts_from_escape (parts_within k) (drop n bs)),
       text_cells-le (take n bs) (utf8_front bs),
       escape_cells-le (parts_within k) (drop n bs) (λ xs le. cells_within-le k xs (omega (arith, length-drop n bs))),
       ap length (take-append-drop n bs),
@@ -192,7 +193,7 @@ Some-clusters (c ∷ cs) h = Some-append (cluster_parts c) (flat_map cluster_par
 Some-text : (text : List ℕ) → Some (text_parts text)
 Some-text text = Some-clusters (graphemes true text) (segments_nonempty (is_grapheme_break true) text)
 
-Some-escape : (f : List ℕ → List Part) (bs : List ℕ) → ((xs : List ℕ) → Some (f xs)) → Some (escape_then f bs)
+Some-escape : (f : List ℕ → List Part) (bs : List ℕ) → ((xs : List ℕ) → Some (f xs)) → Some (parts_from_escape f bs)
 Some-escape f [] h = tt
 Some-escape f (b ∷ bs) h = (omega arith, h bs)
 
@@ -200,13 +201,13 @@ Some-within : (k : ℕ) (bs : List ℕ) → Some (parts_within k bs)
 Some-within zero bs = tt
 Some-within (suc k) bs =
     let n = utf8_valid_len bs in
-    Some-append (text_parts (take n bs)) (escape_then (parts_within k) (drop n bs)) (Some-text (take n bs)) (Some-escape (parts_within k) (drop n bs) (Some-within k))
+    Some-append (text_parts (take n bs)) (parts_from_escape (parts_within k) (drop n bs)) (Some-text (take n bs)) (Some-escape (parts_within k) (drop n bs) (Some-within k))
 
-Cover-placed : (from : ℕ) (xs : List Part) → Some xs → Cover from (placed from xs) (from + length (spelled xs))
-Cover-placed from [] h = omega arith
-Cover-placed from (x ∷ xs) h =
+Cover-pieces_from : (from : ℕ) (xs : List Part) → Some xs → Cover from (pieces_from from xs) (from + length (spelled xs))
+Cover-pieces_from from [] h = omega arith
+Cover-pieces_from from (x ∷ xs) h =
     let seam : from + length x.0 + length (spelled xs) ≡ from + length (x.0 ++ spelled xs) = omega (arith, length-append x.0 (spelled xs)) in
-    (refl, omega (arith, h.0), subst (λ n. Cover (from + length x.0) (placed (from + length x.0) xs) n) seam (Cover-placed (from + length x.0) xs h.1))
+    (refl, omega (arith, h.0), subst (λ n. Cover (from + length x.0) (pieces_from (from + length x.0) xs) n) seam (Cover-pieces_from (from + length x.0) xs h.1))
 
 Some-parts : (line : List ℕ) → Some (parts line)
 unfolding parts
@@ -215,7 +216,7 @@ Some-parts line = Some-within (suc (length line)) line
 pub lines_are_covered : (line : List ℕ) → Cover 0 (pieces_of line) (length line)
 lines_are_covered line =
     subst (λ n. Cover 0 (pieces_of line) n) (zero-add (length (spelled (parts line))) ∙ ap length (spelled-parts line))
-    (Cover-placed 0 (parts line) (Some-parts line))
+    (Cover-pieces_from 0 (parts line) (Some-parts line))
 
 -- ---- a text at the front of bytes, as `text_at_front` gives it
 
@@ -226,9 +227,9 @@ IsFront bs front = (front ≡ take (utf8_valid_len bs) bs) × (length front ≡ 
 IsUtf8-front : (bs front : List ℕ) → IsFront bs front → IsUtf8 front
 IsUtf8-front bs front is = subst IsUtf8 (sym is.0) (utf8_front bs)
 
-parts_front : (bs front : List ℕ) → IsFront bs front → parts bs ≡ text_parts front ++ escape_then parts (drop (length front) bs)
+parts_front : (bs front : List ℕ) → IsFront bs front → parts bs ≡ text_parts front ++ parts_from_escape parts (drop (length front) bs)
 parts_front bs front is =
-    parts_step bs ∙ ap₂ (λ t n. text_parts t ++ escape_then parts (drop n bs)) (sym is.0) (sym is.1)
+    parts_step bs ∙ ap₂ (λ t n. text_parts t ++ parts_from_escape parts (drop n bs)) (sym is.0) (sym is.1)
 
 parts_more : (bs front : List ℕ) → IsFront bs front → length front < length bs
     → parts bs ≡ text_parts front ++ (get_or bs (length front) 0 ∷ [], Escape (get_or bs (length front) 0)) ∷ parts (drop (length front + 1) bs)
@@ -236,18 +237,18 @@ parts_more bs front is lt =
     let next : suc (length front) ≡ length front + 1 = omega arith in
     let byte = get_or bs (length front) 0 in
     parts_front bs front is
-    ∙ ap (λ t. text_parts front ++ escape_then parts t) (drop-cons bs (length front) 0 lt)
+    ∙ ap (λ t. text_parts front ++ parts_from_escape parts t) (drop-cons bs (length front) 0 lt)
     ∙ ap (λ n. text_parts front ++ (byte ∷ [], Escape byte) ∷ parts (drop n bs)) next
 
 parts_last : (bs front : List ℕ) → IsFront bs front → length front ≡ length bs → parts bs ≡ text_parts front
 parts_last bs front is all =
     parts_front bs front is
-    ∙ ap (λ t. text_parts front ++ escape_then parts t) (drop_all (length front) bs (omega arith))
+    ∙ ap (λ t. text_parts front ++ parts_from_escape parts t) (drop_all (length front) bs (omega arith))
     ∙ append-nil (text_parts front)
 
 pub front_cells-le : (bs front : List ℕ) → IsFront bs front → parts_cells (text_parts front) ≤ strwidth_of bs
 front_cells-le bs front is =
-    omega (arith, ap parts_cells (parts_front bs front is), parts_cells-append (text_parts front) (escape_then parts (drop (length front) bs)))
+    omega (arith, ap parts_cells (parts_front bs front is), parts_cells-append (text_parts front) (parts_from_escape parts (drop (length front) bs)))
 
 pub strwidth_more : (bs front : List ℕ) → IsFront bs front → length front < length bs
     → strwidth_of bs ≡ parts_cells (text_parts front) + 4 + strwidth_of (drop (length front + 1) bs)
@@ -264,31 +265,31 @@ strwidth_last bs front is all = ap parts_cells (parts_last bs front is all)
 
 -- an escape behind a text was pushed
 pub pieces_more : (bs front : List ℕ) (from : ℕ) (items pushed new goal : List Piece) → IsFront bs front → length front < length bs
-    → pushed ≡ items ++ placed from (text_parts front)
+    → pushed ≡ items ++ pieces_from from (text_parts front)
     → new ≡ pushed ++ record { from = from + length front; to = from + length front + 1; kind = Escape (get_or bs (length front) 0) } ∷ []
-    → items ++ placed from (parts bs) ≡ goal
-    → new ++ placed (from + length front + 1) (parts (drop (length front + 1) bs)) ≡ goal
+    → items ++ pieces_from from (parts bs) ≡ goal
+    → new ++ pieces_from (from + length front + 1) (parts (drop (length front + 1) bs)) ≡ goal
 pieces_more bs front from items pushed new goal is lt text escape before =
     let byte = get_or bs (length front) 0 in
     let after = parts (drop (length front + 1) bs) in
-    let rest = placed (from + length front + 1) after in
+    let rest = pieces_from (from + length front + 1) after in
     let piece : Piece = record { from = from + length front; to = from + length front + 1; kind = Escape byte } in
-    let cut : placed from (parts bs) ≡ placed from (text_parts front) ++ piece ∷ rest =
-    ap (placed from) (parts_more bs front is lt)
-    ∙ placed-append from (text_parts front) ((byte ∷ [], Escape byte) ∷ after)
-    ∙ ap (λ (t : List ℕ). placed from (text_parts front) ++ placed (from + length t) ((byte ∷ [], Escape byte) ∷ after)) (spelled-text front (IsUtf8-front bs front is)) in
+    let cut : pieces_from from (parts bs) ≡ pieces_from from (text_parts front) ++ piece ∷ rest =
+    ap (pieces_from from) (parts_more bs front is lt)
+    ∙ pieces_from-append from (text_parts front) ((byte ∷ [], Escape byte) ∷ after)
+    ∙ ap (λ (t : List ℕ). pieces_from from (text_parts front) ++ pieces_from (from + length t) ((byte ∷ [], Escape byte) ∷ after)) (spelled-text front (IsUtf8-front bs front is)) in
     ap (λ t. t ++ rest) escape
     ∙ append_assoc pushed (piece ∷ []) rest
     ∙ ap (λ t. t ++ piece ∷ rest) text
-    ∙ append_assoc items (placed from (text_parts front)) (piece ∷ rest)
+    ∙ append_assoc items (pieces_from from (text_parts front)) (piece ∷ rest)
     ∙ ap (λ t. items ++ t) (sym cut)
     ∙ before
 
 -- the last text was pushed
 pub pieces_last : (bs front : List ℕ) (from : ℕ) (items pushed goal : List Piece) → IsFront bs front → length front ≡ length bs
-    → pushed ≡ items ++ placed from (text_parts front) → items ++ placed from (parts bs) ≡ goal → pushed ≡ goal
+    → pushed ≡ items ++ pieces_from from (text_parts front) → items ++ pieces_from from (parts bs) ≡ goal → pushed ≡ goal
 pieces_last bs front from items pushed goal is all text before =
-    text ∙ ap (λ t. items ++ placed from t) (sym (parts_last bs front is all)) ∙ before
+    text ∙ ap (λ t. items ++ pieces_from from t) (sym (parts_last bs front is all)) ∙ before
 
 -- ---- one cluster more, of those that are left
 
@@ -297,16 +298,34 @@ pub cells_next : (left cs : List (List ℕ)) (c : List ℕ) → left ≡ c ∷ c
 cells_next left cs c e = ap (λ ls. parts_cells (flat_map cluster_parts ls)) e ∙ parts_cells-append (cluster_parts c) (flat_map cluster_parts cs)
 
 pub pieces_next : (left cs : List (List ℕ)) (c : List ℕ) (at : ℕ) (items new goal : List Piece) → left ≡ c ∷ cs
-    → new ≡ items ++ placed at (cluster_parts c)
-    → items ++ placed at (flat_map cluster_parts left) ≡ goal
-    → new ++ placed (at + length c) (flat_map cluster_parts cs) ≡ goal
+    → new ≡ items ++ pieces_from at (cluster_parts c)
+    → items ++ pieces_from at (flat_map cluster_parts left) ≡ goal
+    → new ++ pieces_from (at + length c) (flat_map cluster_parts cs) ≡ goal
 pieces_next left cs c at items new goal e pushed before =
-    let rest = placed (at + length c) (flat_map cluster_parts cs) in
-    let cut : placed at (flat_map cluster_parts left) ≡ placed at (cluster_parts c) ++ rest =
-    ap (λ ls. placed at (flat_map cluster_parts ls)) e
-    ∙ placed-append at (cluster_parts c) (flat_map cluster_parts cs)
-    ∙ ap (λ (t : List ℕ). placed at (cluster_parts c) ++ placed (at + length t) (flat_map cluster_parts cs)) (spelled-cluster c) in
+    let rest = pieces_from (at + length c) (flat_map cluster_parts cs) in
+    let cut : pieces_from at (flat_map cluster_parts left) ≡ pieces_from at (cluster_parts c) ++ rest =
+    ap (λ ls. pieces_from at (flat_map cluster_parts ls)) e
+    ∙ pieces_from-append at (cluster_parts c) (flat_map cluster_parts cs)
+    ∙ ap (λ (t : List ℕ). pieces_from at (cluster_parts c) ++ pieces_from (at + length t) (flat_map cluster_parts cs)) (spelled-cluster c) in
     ap (λ t. t ++ rest) pushed
-    ∙ append_assoc items (placed at (cluster_parts c)) rest
+    ∙ append_assoc items (pieces_from at (cluster_parts c)) rest
     ∙ ap (λ t. items ++ t) (sym cut)
     ∙ before
+
+-- ---- pieces lie in their line
+
+pub cover-le : (from : ℕ) (ps : List Piece) (to : ℕ) → Cover from ps to → from ≤ to
+cover-le from [] to h = omega (arith, h)
+cover-le from (p ∷ ps) to h = omega (arith, h.0, h.1, cover-le p.to ps to h.2)
+
+cover_within : (from : ℕ) (ps : List Piece) (to : ℕ) → Cover from ps to → AllByRecursion (λ p. (p.from < p.to) × (p.to ≤ to)) ps
+cover_within from [] to h = tt
+cover_within from (p ∷ ps) to h = ((omega (arith, h.0, h.1), cover-le p.to ps to h.2), cover_within p.to ps to h.2)
+
+pub pieces_lie_within : (line : List ℕ) (most : ℕ) (ps : List Piece) → ps ≡ take most (pieces_of line)
+    → All (λ p. (p.from < p.to) × (p.to ≤ length line)) ps
+pieces_lie_within line most ps is =
+    subst (All (λ (p : Piece). (p.from < p.to) × (p.to ≤ length line))) (sym is)
+    (All-take (λ (p : Piece). (p.from < p.to) × (p.to ≤ length line)) most (pieces_of line)
+    (All-from_recursion (λ (p : Piece). (p.from < p.to) × (p.to ≤ length line)) (pieces_of line)
+    (cover_within 0 (pieces_of line) (length line) (lines_are_covered line))))

@@ -19,7 +19,7 @@ use Rattle.unicode_width.specs.Width.{str_width}
 use Rattle.unicode_width.proofs.Rules.{str_width-printable}
 use Rattle.nv_text.specs.declared.piece.Kind.TheVariants.{Control, Cluster}
 use Rattle.nv_text.specs.declared.piece.Piece.{Piece}
-use Rattle.nv_text.specs.Pieces.{Part, cluster_cells, is_control, control_kind, cluster_kind, cluster_parts, text_parts, placed, parts_cells}
+use Rattle.nv_text.specs.Pieces.{Part, cluster_cells, is_control, control_kind, cluster_kind, cluster_parts, text_parts, pieces_from, parts_cells}
 
 -- a printable character of ASCII
 abbrev pub is_printable : ℕ → Bool
@@ -128,12 +128,12 @@ abbrev pub plain_pieces : ℕ → ℕ → List Piece
 plain_pieces from zero = []
 plain_pieces from (suc n) = record { from = from; to = from + 1; kind = Cluster 1 } ∷ plain_pieces (from + 1) n
 
-placed-plain : (from : ℕ) (text : List ℕ) → placed from (plain_parts text) ≡ plain_pieces from (length text)
-placed-plain from [] = refl
-placed-plain from (c ∷ cs) = ap (λ (t : List Piece). record { from = from; to = from + 1; kind = Cluster 1 } ∷ t) (placed-plain (from + 1) cs)
+pieces_from-plain : (from : ℕ) (text : List ℕ) → pieces_from from (plain_parts text) ≡ plain_pieces from (length text)
+pieces_from-plain from [] = refl
+pieces_from-plain from (c ∷ cs) = ap (λ (t : List Piece). record { from = from; to = from + 1; kind = Cluster 1 } ∷ t) (pieces_from-plain (from + 1) cs)
 
-pub plain_placed : (from : ℕ) (text : List ℕ) → list_all is_printable text ≡ true → placed from (text_parts text) ≡ plain_pieces from (length text)
-plain_placed from text h = ap (placed from) (plain_text text h) ∙ placed-plain from text
+pub plain_placed : (from : ℕ) (text : List ℕ) → list_all is_printable text ≡ true → pieces_from from (text_parts text) ≡ plain_pieces from (length text)
+plain_placed from text h = ap (pieces_from from) (plain_text text h) ∙ pieces_from-plain from text
 
 pub plain_pieces-step : (at end : ℕ) → at < end → plain_pieces at (end - at) ≡ record { from = at; to = at + 1; kind = Cluster 1 } ∷ plain_pieces (at + 1) (end - (at + 1))
 plain_pieces-step at end lt =

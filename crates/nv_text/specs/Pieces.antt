@@ -11,17 +11,23 @@ use Rattle.nv_text.specs.declared.piece.Piece.{Piece}
 abbrev pub Part : Type 0
 Part = List ℕ × Kind
 
--- the cells of a cluster: its width by UAX #11 and UAX #51, but no less than 1 and no more than 2 (own rule)
+-- the cells of a cluster: its width by UAX #11 and UAX #51, but no less than 1 and no more than 2
+-- (own rule)
 abbrev pub cluster_cells : List ℕ → ℕ
 cluster_cells cluster = if nat_lt 1 (str_width false (chars cluster)) then 2 else 1
 
 -- one byte from 00 to 1f, or 7f (ASCII: the control characters)
 abbrev pub is_control : List ℕ → Bool
-is_control cluster = (length cluster == 1) && (nat_lt (slice_index cluster 0) 0x20 || (slice_index cluster 0 == 0x7F))
+is_control cluster =
+    (length cluster == 1)
+    && (nat_lt (slice_index cluster 0) 0x20 || (slice_index cluster 0 == 0x7F))
 
--- the byte c2 and one from 80 to 9f: U+0080 to U+009F, whose number is the second byte (Unicode: the C1 controls)
+-- the byte c2 and one from 80 to 9f: U+0080 to U+009F, whose number is the second byte (Unicode:
+-- the C1 controls)
 abbrev pub is_late_control : List ℕ → Bool
-is_late_control cluster = (length cluster == 2) && ((slice_index cluster 0 == 0xC2) && nat_lt (slice_index cluster 1) 0xA0)
+is_late_control cluster =
+    (length cluster == 2)
+    && ((slice_index cluster 0 == 0xC2) && nat_lt (slice_index cluster 1) 0xA0)
 
 -- what a control character is: the Tab (09) stands for itself
 abbrev pub control_kind : ℕ → Kind
@@ -44,32 +50,37 @@ cluster_parts cluster =
 abbrev pub text_parts : List ℕ → List Part
 text_parts text = flat_map cluster_parts (graphemes true text)
 
--- a byte at which no character begins is an escape, and then comes what `more` makes of the bytes behind it
-abbrev pub escape_then : (List ℕ → List Part) → List ℕ → List Part
-escape_then more [] = []
-escape_then more (byte ∷ bytes) = (byte ∷ [], Escape byte) ∷ more bytes
+-- a byte at which no character begins is an escape, and then comes what `more` makes of the bytes
+-- behind it
+abbrev pub parts_from_escape : (List ℕ → List Part) → List ℕ → List Part
+parts_from_escape more [] = []
+parts_from_escape more (byte ∷ bytes) = (byte ∷ [], Escape byte) ∷ more bytes
 
 -- `parts` of bytes with at most k escapes in them
 abbrev pub parts_within : ℕ → List ℕ → List Part
 parts_within zero bytes = []
 parts_within (suc k) bytes =
-    text_parts (take (utf8_valid_len bytes) bytes) ++ escape_then (parts_within k) (drop (utf8_valid_len bytes) bytes)
+    text_parts (take (utf8_valid_len bytes) bytes)
+    ++ parts_from_escape (parts_within k) (drop (utf8_valid_len bytes) bytes)
 
--- the parts of any bytes: of the longest front that is UTF-8, then an escape, and so on from the byte behind it
+-- the parts of any bytes: of the longest front that is UTF-8, then an escape, and so on from the
+-- byte behind it
 unfoldable pub parts : List ℕ → List Part
 parts bytes = parts_within (suc (length bytes)) bytes
 
 -- the parts as pieces of a line in which they begin at this byte
-abbrev pub placed : ℕ → List Part → List Piece
-placed from [] = []
-placed from (part ∷ rest) =
-    record { from = from; to = from + length part.0; kind = part.1 } ∷ placed (from + length part.0) rest
+abbrev pub pieces_from : ℕ → List Part → List Piece
+pieces_from from [] = []
+pieces_from from (part ∷ rest) =
+    record { from = from; to = from + length part.0; kind = part.1 }
+    ∷ pieces_from (from + length part.0) rest
 
 -- the pieces of a line
 abbrev pub pieces_of : List ℕ → List Piece
-pieces_of line = placed 0 (parts line)
+pieces_of line = pieces_from 0 (parts line)
 
--- the cells that a piece counts for: an escape is written `<xx>` (help: 'display'), and a Tab or a control counts 1 (own rule)
+-- the cells that a piece counts for: an escape is written `<xx>` (help: 'display'), and a Tab or a
+-- control counts 1 (own rule)
 abbrev pub kind_cells : Kind → ℕ
 kind_cells Tab = 1
 kind_cells (Control _) = 1

@@ -33,12 +33,13 @@ fn printable_len(text: &str) -> usize
     text.len()
 }
 
-/// How many printable characters of ASCII at the front are clusters by themselves: all of them where nothing else
-/// follows, and else all but the last, which what follows may join.
+/// How many printable characters of ASCII at the front are clusters by themselves: all of them
+/// where nothing else follows, and else all but the last, which what follows may join.
 pub(crate) fn plain_len(text: &str) -> usize
     ensures plain { list_all (is_in_range 0x20 0x7E) (take result text.now) ≡ true }
     ensures boundary { IsCharBoundary text.now result }
-    ensures cut { text_parts text.now ≡ text_parts (take result text.now) ++ text_parts (drop result text.now) }
+    ensures cut { text_parts text.now
+        ≡ text_parts (take result text.now) ++ text_parts (drop result text.now) }
 {
     let printable = printable_len(text);
     if printable == text.len() {

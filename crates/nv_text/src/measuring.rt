@@ -40,8 +40,8 @@ fn text_width(text: &str) -> u64
     cells
 }
 
-/// The cells that a text takes on a line by itself: 1 for a Tab or a control, 4 for an escape, and the width of
-/// each cluster (help: nvim_strwidth()).
+/// The cells that a text takes on a line by itself: 1 for a Tab or a control, 4 for an escape, and
+/// the width of each cluster (help: nvim_strwidth()).
 pub fn strwidth(text: &[u8]) -> u64
     requires { length text.now < 2 ^ 62 }
     ensures { result ≡ strwidth_of text.now }

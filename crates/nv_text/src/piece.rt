@@ -7,7 +7,8 @@ pub enum Kind {
     Tab,
     /// A byte from 00 to 1f other than the Tab, or 7f.
     Control(u8),
-    /// A byte at which no character begins in UTF-8, or a character from U+0080 to U+009F, by its number.
+    /// A byte at which no character begins in UTF-8, or a character from U+0080 to U+009F, by its
+    /// number.
     Escape(u8),
     /// An extended grapheme cluster, with the cells that it takes: 1 or 2.
     Cluster(u8),

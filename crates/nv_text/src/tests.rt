@@ -1,9 +1,27 @@
-//! Lines and texts against tables written by hand: widths by UAX #11 and UAX #51, and beside those of Neovim 0.7.2, clusters
-//! by UAX #29, UTF-8 by the table of well-formed sequences of the Unicode Standard.
+//! Lines and texts against tables written by hand: widths by UAX #11 and UAX #51, and beside those
+//! of Neovim 0.7.2, clusters by UAX #29, UTF-8 by the table of well-formed sequences of the Unicode
+//! Standard.
 
 use crate::Kind::{Cluster, Control, Escape, Tab};
-use crate::{Kind, Piece, pieces, strwidth};
+use crate::{Kind, Piece, first_pieces, pieces, strwidth};
+use std::alloc::{AllocError, Global};
 use std::test::Fail;
+
+// Clusters of more than one character: a man, a woman and a girl, joined; two letters that make a
+// flag, and one; a thumb and a skin tone; a heart, alone and before the sign for emoji; three jamo.
+const FAMILY: &[u8] = b"\xF0\x9F\x91\xA8\xE2\x80\x8D\xF0\x9F\x91\xA9\xE2\x80\x8D\xF0\x9F\x91\xA7";
+
+const FLAG: &[u8] = b"\xF0\x9F\x87\xAB\xF0\x9F\x87\xB7";
+
+const HALF_A_FLAG: &[u8] = b"\xF0\x9F\x87\xAB";
+
+const THUMB_IN_A_TONE: &[u8] = b"\xF0\x9F\x91\x8D\xF0\x9F\x8F\xBD";
+
+const HEART: &[u8] = b"\xE2\x9D\xA4";
+
+const HEART_AS_EMOJI: &[u8] = b"\xE2\x9D\xA4\xEF\xB8\x8F";
+
+const HANGUL_IN_THREE: &[u8] = b"\xE1\x84\x92\xE1\x85\xA1\xE1\x86\xAB";
 
 // A piece in a table.
 fn piece(from: usize, to: usize, kind: Kind) -> Piece {
@@ -26,65 +44,44 @@ fn an_odd_line_is_cut(rt: HostRuntime) -> Result<(), Fail> {
     Ok(())
 }
 
-// Each line with its two pieces: where the first ends and the second begins, and what they are.
+// Each line in its two pieces, with what they are.
 #[test]
 fn pairs_of_pieces_are_cut(rt: HostRuntime) -> Result<(), Fail> {
     let table = [
-        (b"ab".as_slice(), 1usize, Cluster(1), Cluster(1)),
-        (b"\r\n", 1, Control(13), Control(10)),
-        (b"\r\t", 1, Control(13), Tab),
-        (b"\x00\x1F", 1, Control(0), Control(0x1F)),
-        (b"~\x7F", 1, Cluster(1), Control(0x7F)),
+        (b"a".as_slice(), Cluster(1), b"b".as_slice(), Cluster(1)),
+        (b"\r", Control(13), b"\n", Control(10)),
+        (b"\r", Control(13), b"\t", Tab),
+        (b"\x00", Control(0), b"\x1F", Control(0x1F)),
+        (b"~", Cluster(1), b"\x7F", Control(0x7F)),
         // U+0080, U+0085, U+009F and U+00A0
-        (b"\xC2\x80\xC2\x85", 2, Escape(0x80), Escape(0x85)),
-        (b"\xC2\x9F\xC2\xA0", 2, Escape(0x9F), Cluster(1)),
+        (b"\xC2\x80", Escape(0x80), b"\xC2\x85", Escape(0x85)),
+        (b"\xC2\x9F", Escape(0x9F), b"\xC2\xA0", Cluster(1)),
         // a mark alone and one on its letter; a mark behind an escape
-        (b"\xCC\x81e\xCC\x81", 2, Cluster(1), Cluster(1)),
-        (b"\xFF\xCC\x81", 1, Escape(0xFF), Cluster(1)),
-        // katakana, a fullwidth letter, Hangul in one character and in three
-        (b"\xE3\x83\x86\xEF\xBC\xA1", 3, Cluster(2), Cluster(2)),
-        (
-            b"\xED\x95\x9C\xE1\x84\x92\xE1\x85\xA1\xE1\x86\xAB",
-            3,
-            Cluster(2),
-            Cluster(2),
-        ),
+        (b"\xCC\x81", Cluster(1), b"e\xCC\x81", Cluster(1)),
+        (b"\xFF", Escape(0xFF), b"\xCC\x81", Cluster(1)),
+        // katakana and a fullwidth letter; Hangul in one character and in three
+        (b"\xE3\x83\x86", Cluster(2), b"\xEF\xBC\xA1", Cluster(2)),
+        (b"\xED\x95\x9C", Cluster(2), HANGUL_IN_THREE, Cluster(2)),
         // a thumb with a skin tone; a heart in text and in emoji presentation
-        (
-            b"x\xF0\x9F\x91\x8D\xF0\x9F\x8F\xBD",
-            1,
-            Cluster(1),
-            Cluster(2),
-        ),
-        (
-            b"\xE2\x9D\xA4\xE2\x9D\xA4\xEF\xB8\x8F",
-            3,
-            Cluster(1),
-            Cluster(2),
-        ),
-        // a family of three, joined
-        (
-            b"\xF0\x9F\x91\xA8\xE2\x80\x8D\xF0\x9F\x91\xA9\xE2\x80\x8D\xF0\x9F\x91\xA7!",
-            18,
-            Cluster(2),
-            Cluster(1),
-        ),
-        // a flag and half a flag
-        (
-            b"\xF0\x9F\x87\xAB\xF0\x9F\x87\xB7\xF0\x9F\x87\xAB",
-            8,
-            Cluster(2),
-            Cluster(1),
-        ),
+        (b"x", Cluster(1), THUMB_IN_A_TONE, Cluster(2)),
+        (HEART, Cluster(1), HEART_AS_EMOJI, Cluster(2)),
+        // a family of three, joined; a flag and half a flag
+        (FAMILY, Cluster(2), b"!", Cluster(1)),
+        (FLAG, Cluster(2), HALF_A_FLAG, Cluster(1)),
         // overlong, truncated, without a beginning, past U+10FFFF
-        (b"\xC0\xAF", 1, Escape(0xC0), Escape(0xAF)),
-        (b"\xE4\xB8", 1, Escape(0xE4), Escape(0xB8)),
-        (b"\x80\xBF", 1, Escape(0x80), Escape(0xBF)),
-        (b"\xF5\x80", 1, Escape(0xF5), Escape(0x80)),
+        (b"\xC0", Escape(0xC0), b"\xAF", Escape(0xAF)),
+        (b"\xE4", Escape(0xE4), b"\xB8", Escape(0xB8)),
+        (b"\x80", Escape(0x80), b"\xBF", Escape(0xBF)),
+        (b"\xF5", Escape(0xF5), b"\x80", Escape(0x80)),
     ];
-    for (line, middle, first, second) in table {
-        let wanted = [piece(0, middle, first), piece(middle, line.len(), second)];
-        assert_eq!(rt; pieces(rt.alloc(), line)?.as_slice(), wanted.as_slice());
+    for (first, first_kind, second, second_kind) in table {
+        let mut line = Vec::from_slice(rt.alloc(), first)?;
+        line.extend_from_slice(second)?;
+        let wanted = [
+            piece(0, first.len(), first_kind),
+            piece(first.len(), line.len(), second_kind),
+        ];
+        assert_eq!(rt; pieces(rt.alloc(), &line)?.as_slice(), wanted.as_slice());
     }
     assert!(rt; pieces(rt.alloc(), b"")?.is_empty());
     Ok(())
@@ -119,23 +116,18 @@ fn texts_are_as_wide_as_in_neovim(rt: HostRuntime) -> Result<(), Fail> {
     Ok(())
 }
 
-// Each text with its cells, and those of nvim_strwidth() of Neovim 0.7.2: it measures character by character and not cluster
-// by cluster, writes a character without width by its number, takes more forms of UTF-8, and ends a text at the byte 00.
+// Each text with its cells, and those of nvim_strwidth() of Neovim 0.7.2: it measures character by
+// character and not cluster by cluster, writes a character without width by its number, takes more
+// forms of UTF-8, and ends a text at the byte 00.
 #[test]
 fn texts_are_not_as_wide_as_in_neovim(rt: HostRuntime) -> Result<(), Fail> {
     let table = [
-        // a joined family of three, a flag, a thumb with a skin tone, a heart in emoji presentation
-        (
-            b"\xF0\x9F\x91\xA8\xE2\x80\x8D\xF0\x9F\x91\xA9\xE2\x80\x8D\xF0\x9F\x91\xA7".as_slice(),
-            2u64,
-            18u64,
-        ),
-        (b"\xF0\x9F\x87\xAB\xF0\x9F\x87\xB7", 2, 4),
-        (b"\xF0\x9F\x91\x8D\xF0\x9F\x8F\xBD", 2, 4),
-        (b"\xE2\x9D\xA4\xEF\xB8\x8F", 2, 1),
-        // half a flag, Hangul in three characters
-        (b"\xF0\x9F\x87\xAB", 1, 2),
-        (b"\xE1\x84\x92\xE1\x85\xA1\xE1\x86\xAB", 2, 4),
+        (FAMILY, 2u64, 18u64),
+        (FLAG, 2, 4),
+        (HALF_A_FLAG, 1, 2),
+        (THUMB_IN_A_TONE, 2, 4),
+        (HEART_AS_EMOJI, 2, 1),
+        (HANGUL_IN_THREE, 2, 4),
         // a space without width
         (b"\xE2\x80\x8B", 1, 6),
         // overlong, a surrogate, past U+10FFFF
@@ -148,6 +140,42 @@ fn texts_are_not_as_wide_as_in_neovim(rt: HostRuntime) -> Result<(), Fail> {
     for (text, cells, neovim) in table {
         assert_eq!(rt; strwidth(text), cells);
         assert!(rt; strwidth(text) != neovim);
+    }
+    Ok(())
+}
+
+// A line of so many copies of a unit.
+fn copies(alloc: Global, unit: &[u8], n: u32) -> Result<Vec<u8>, AllocError> {
+    let mut line = Vec::new(alloc);
+    for _ in 0..n {
+        line.extend_from_slice(unit)?;
+    }
+    Ok(line)
+}
+
+// The first pieces are those of the whole line: of letters, wide characters, letters with accents
+// that go on past what is looked at, bytes that are no characters, and of a short line.
+#[test]
+fn first_pieces_are_those_of_the_line(rt: HostRuntime) -> Result<(), Fail> {
+    let table = [
+        (b"a".as_slice(), 40u32),
+        (b"\xE4\xB8\x96", 30),
+        (b"e\xCC\x81", 30),
+        (b"\xCC\x81", 60),
+        (b"\xFFa", 40),
+        (b"\r\n", 30),
+        (b"ab", 1),
+        (b"", 0),
+    ];
+    for (unit, n) in table {
+        let line = copies(rt.alloc(), unit, n)?;
+        let all = pieces(rt.alloc(), line.as_slice())?;
+        for most in 0..4 {
+            let some = first_pieces(rt.alloc(), line.as_slice(), most)?;
+            assert!(rt; some.len() <= most);
+            assert!(rt; some.len() == most || some.len() == all.len());
+            assert!(rt; all.starts_with(some.as_slice()));
+        }
     }
     Ok(())
 }

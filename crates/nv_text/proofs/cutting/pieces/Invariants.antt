@@ -1,10 +1,10 @@
 use Rattle.std.proofs.Common.{◌≡◌, ◌+◌, ◌++◌, length}
-use Rattle.nv_text.specs.Pieces.{parts, placed, pieces_of}
+use Rattle.nv_text.specs.Pieces.{parts, pieces_from, pieces_of}
 use Rattle.nv_text.proofs.cutting.pieces.Given as goal
 
 abbrev pub invariant-loop-pieces : goal.invariant-loop-pieces
 invariant-loop-pieces l = record {
-  cut : l.pieces.items ++ placed l.from (parts l.rest) ≡ pieces_of l.line;
+  cut : l.pieces.items ++ pieces_from l.from (parts l.rest) ≡ pieces_of l.line;
   place : l.from + length l.rest ≡ length l.line;
 }
 
