@@ -1,0 +1,4 @@
+pub mod FirstLemmas
+pub mod LayLemmas
+pub mod RowLemmas
+pub mod WholeLemmas

@@ -1,0 +1,10 @@
+use Rattle.std.proofs.Common.{◌/◌, [], ap, ◌∙◌}
+use Rattle.nv_linedraw.specs.LineCells.{cells_of_line, no_looks}
+use Rattle.nv_linedraw.proofs.RowLemmas.{rows_among}
+use Rattle.nv_linedraw.proofs.lines.first_rows.Goals as goal
+
+pub returns : goal.returns
+returns c =
+    ap (λ n. n / c.args.width) (c.len.ensures ∙ c.in_ok-cells.cells.ok.0)
+    ∙ rows_among c.args.width c.args.most c.in_ok-cells.cells.items (cells_of_line c.args.width c.args.tabstop c.args.line.now [] no_looks)
+    c.requires.wide c.in_ok-cells.ensures

@@ -1,0 +1,14 @@
+//! The cells that a line is drawn in: its pieces with their attributes, laid in rows of a width.
+#![tactic(auto)]
+
+mod flow;
+mod laws;
+mod lines;
+mod looks;
+
+pub use laws::row_laws;
+pub use lines::{cells, first_cells, first_rows, rows};
+pub use looks::{Looks, Span};
+
+#[cfg(test)]
+mod tests;
