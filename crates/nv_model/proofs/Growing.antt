@@ -1,29 +1,29 @@
--- Each change adds to each buffer the splices that it makes in it.
+-- Each operation adds to each buffer the splices that it makes in it.
 use Rattle.std.proofs.Common.{◌≡◌, ℤ, ◌+◌, List, [], ◌∷◌, ◌++◌, length, refl, ap, sym, ◌∙◌, length-append, arith, Bool, true, false, not, cond, Option, Some, None, subst}
 use Rattle.std.specs.Prelude.{option_map, filter}
 use Rattle.std.specs.Option.{option_or}
 use Rattle.std.specs.Ordering.{int_eq}
 use Rattle.std.proofs.lemmas.List.{append-nil}
 use Rattle.std.proofs.lemmas.Option.{none-some, same_Some}
-use Rattle.nv_model.specs.Buffers.{Splice, ModelBuffer, tick_of, sealed, with_splice, with_splice_back, without_mark, fresh_buffer}
-use Rattle.nv_model.specs.Editors.{ModelEditor, at_handle, changed_at}
-use Rattle.nv_model.specs.Changes.{spliced, spliced_back, stepped, sealed_in, mark_set, mark_removed, named, modifiable_put, modified_put, listed_put, tabstop_put, buffer_made, buffer_dropped}
-use Rattle.nv_model.specs.Laws.{IsGrown, ChangesAddSplices, SpliceRaisesOneTick}
-use Rattle.nv_model.proofs.Lookups.{at_changed, at_append, at_dropped}
+use Rattle.nv_model.specs.Buffers.{Splice, ModelBuffer, tick_of, with_seal, with_splice, with_splice_back, without_mark, fresh_buffer}
+use Rattle.nv_model.specs.Editors.{ModelEditor, at_handle, updated_at}
+use Rattle.nv_model.specs.Operations.{spliced, spliced_back, stepped, sealed_in, mark_set, mark_removed, name_put, modifiable_put, modified_put, listed_put, tabstop_put, buffer_made, buffer_dropped}
+use Rattle.nv_model.specs.Laws.{IsGrown, OperationsAddSplices, SpliceRaisesOneTick}
+use Rattle.nv_model.proofs.Lookups.{at_updated, at_append, at_dropped}
 
 pub stays : (b : ModelBuffer) → IsGrown b [] b
 stays b = record { first = refl; splices = sym (append-nil b.splices) }
 
--- a buffer that stands where none is changed
+-- a buffer that stands where none is updated
 kept : (b d : ModelBuffer) (o : Option ModelBuffer) → o ≡ Some b → o ≡ Some d → IsGrown b [] d
 kept b d o was is = subst (λ (e : ModelBuffer). IsGrown b [] e) (same_Some b d (sym was ∙ is)) (stays b)
 
--- a change of the buffer under k, which adds these splices to it
+-- an update of the buffer under k, which adds these splices to it
 grown : (k n : ℤ) (f : ModelBuffer → ModelBuffer) (splices : List Splice) (m : ModelEditor)
     → ((b : ModelBuffer) → IsGrown b splices (f b)) → (b d : ModelBuffer) → at_handle m.buffers n ≡ Some b
-    → at_handle (changed_at k f m.buffers) n ≡ Some d → IsGrown b (cond (int_eq k n) splices []) d
+    → at_handle (updated_at k f m.buffers) n ≡ Some d → IsGrown b (cond (int_eq k n) splices []) d
 grown k n f splices m adds b d was is =
-    by_case (int_eq k n) (sym (at_changed k n f m.buffers ∙ ap (λ (o : Option ModelBuffer). cond (int_eq k n) (option_map f o) o) was) ∙ is)
+    by_case (int_eq k n) (sym (at_updated k n f m.buffers ∙ ap (λ (o : Option ModelBuffer). cond (int_eq k n) (option_map f o) o) was) ∙ is)
   where
     by_case : (t : Bool) → cond t (option_map f (Some b)) (Some b) ≡ Some d → IsGrown b (cond t splices []) d
     by_case true e = subst (λ (x : ModelBuffer). IsGrown b splices x) (same_Some (f b) d e) (adds b)
@@ -31,7 +31,7 @@ grown k n f splices m adds b d was is =
 
 -- one that adds none
 unspliced : (k n : ℤ) (f : ModelBuffer → ModelBuffer) (m : ModelEditor) → ((b : ModelBuffer) → IsGrown b [] (f b))
-    → (b d : ModelBuffer) → at_handle m.buffers n ≡ Some b → at_handle (changed_at k f m.buffers) n ≡ Some d → IsGrown b [] d
+    → (b d : ModelBuffer) → at_handle m.buffers n ≡ Some b → at_handle (updated_at k f m.buffers) n ≡ Some d → IsGrown b [] d
 unspliced k n f m adds b d was is =
     subst (λ (ss : List Splice). IsGrown b ss d) (either_none (int_eq k n)) (grown k n f [] m adds b d was is)
   where
@@ -58,21 +58,21 @@ dropped k m n b d was is =
     by_case true e = absurd (none-some d e)
     by_case false e = kept b d (Some b) refl e
 
-pub changes_add_splices : ChangesAddSplices
-changes_add_splices (spliced k s) m n = grown k n (with_splice s) (s ∷ []) m (λ b. record { first = refl; splices = refl })
-changes_add_splices (spliced_back k s) m n = grown k n (with_splice_back s) (s ∷ []) m (λ b. record { first = refl; splices = refl })
-changes_add_splices (stepped k leg) m n = unspliced k n _ m (λ b. no_more b _ refl refl)
-changes_add_splices (sealed_in k) m n = unspliced k n sealed m (λ b. no_more b _ refl refl)
-changes_add_splices (mark_set k mark) m n = unspliced k n _ m (λ b. no_more b _ refl refl)
-changes_add_splices (mark_removed k ns id) m n = unspliced k n (without_mark ns id) m (λ b. no_more b _ refl refl)
-changes_add_splices (named k name) m n = unspliced k n _ m (λ b. no_more b _ refl refl)
-changes_add_splices (modifiable_put k on) m n = unspliced k n _ m (λ b. no_more b _ refl refl)
-changes_add_splices (modified_put k on) m n = unspliced k n _ m (λ b. no_more b _ refl refl)
-changes_add_splices (listed_put k on) m n = unspliced k n _ m (λ b. no_more b _ refl refl)
-changes_add_splices (tabstop_put k cells) m n = unspliced k n _ m (λ b. no_more b _ refl refl)
-changes_add_splices (buffer_made listed) m n = made listed m n
-changes_add_splices (buffer_dropped k) m n = dropped k m n
-changes_add_splices _ m n = λ b d was is. kept b d (at_handle m.buffers n) was is
+pub operations_add_splices : OperationsAddSplices
+operations_add_splices (spliced k s) m n = grown k n (with_splice s) (s ∷ []) m (λ b. record { first = refl; splices = refl })
+operations_add_splices (spliced_back k s) m n = grown k n (with_splice_back s) (s ∷ []) m (λ b. record { first = refl; splices = refl })
+operations_add_splices (stepped k leg) m n = unspliced k n _ m (λ b. no_more b _ refl refl)
+operations_add_splices (sealed_in k) m n = unspliced k n with_seal m (λ b. no_more b _ refl refl)
+operations_add_splices (mark_set k mark) m n = unspliced k n _ m (λ b. no_more b _ refl refl)
+operations_add_splices (mark_removed k ns id) m n = unspliced k n (without_mark ns id) m (λ b. no_more b _ refl refl)
+operations_add_splices (name_put k name) m n = unspliced k n _ m (λ b. no_more b _ refl refl)
+operations_add_splices (modifiable_put k on) m n = unspliced k n _ m (λ b. no_more b _ refl refl)
+operations_add_splices (modified_put k on) m n = unspliced k n _ m (λ b. no_more b _ refl refl)
+operations_add_splices (listed_put k on) m n = unspliced k n _ m (λ b. no_more b _ refl refl)
+operations_add_splices (tabstop_put k cells) m n = unspliced k n _ m (λ b. no_more b _ refl refl)
+operations_add_splices (buffer_made listed) m n = made listed m n
+operations_add_splices (buffer_dropped k) m n = dropped k m n
+operations_add_splices _ m n = λ b d was is. kept b d (at_handle m.buffers n) was is
 
 -- ---- ticks
 one_tick : (s : Splice) (n k : ℤ) (b d : ModelBuffer) → IsGrown b (cond (int_eq n k) (s ∷ []) []) d
@@ -85,6 +85,6 @@ one_tick s n k b d grows = by_case (int_eq n k) (ap length grows.splices)
 
 pub splice_raises_one_tick : SpliceRaisesOneTick
 splice_raises_one_tick s m n k = (
-  λ b d was is. one_tick s n k b d (changes_add_splices (spliced n s) m k b d was is),
-  λ b d was is. one_tick s n k b d (changes_add_splices (spliced_back n s) m k b d was is),
+  λ b d was is. one_tick s n k b d (operations_add_splices (spliced n s) m k b d was is),
+  λ b d was is. one_tick s n k b d (operations_add_splices (spliced_back n s) m k b d was is),
 )

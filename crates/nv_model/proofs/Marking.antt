@@ -12,7 +12,7 @@ use Rattle.std.proofs.lemmas.List.Sorted.{sorted_far, IsPermutation-cons, IsPerm
 use Rattle.std.proofs.lemmas.List.Kept.{AllPairs-filter}
 use Rattle.std.proofs.lemmas.Map.Keys.{IsDistinct-cons, IsDistinct-from_apart, apart_from_distinct}
 use Rattle.nv_places.specs.Flat.{flat, lines_of, IsLine}
-use Rattle.nv_places.specs.Places.{place_of, IsPlaceIn, offset_of as place_offset}
+use Rattle.nv_places.specs.Places.{place_of, IsPlaceIn, offset_of}
 use Rattle.nv_places.specs.declared.place.Pos.{Pos}
 use Rattle.nv_places.proofs.FlatLemmas.{lines_of-flat}
 use Rattle.nv_places.proofs.PlaceLemmas.{place-offset}
@@ -21,15 +21,17 @@ use Rattle.nv_marks.specs.Order.{mark_order, IsInOrder}
 use Rattle.nv_marks.specs.declared.extmark.Far.{Far}
 use Rattle.nv_marks.specs.declared.extmark.Mark.{Mark}
 use Rattle.nv_marks.proofs.OrderLemmas.{mark_order_ranks}
-use Rattle.nv_model.specs.Buffers.{Splice, SetMark, ModelBuffer, moved_by, offset_of, text_of, mark_of, far_of, marks_of, put_in_order, in_order, is_set, without_set}
-use Rattle.nv_model.specs.Changes.{set_now, set_far}
-use Rattle.nv_model.specs.Standing.{Present, IsSetIn, StandsFor, same_set}
+use Rattle.nv_buffer.specs.Content.{Content}
+use Rattle.nv_model.specs.Buffers.{Splice, SetMark, ModelBuffer, moved_by, offset_now, text_of, mark_of, far_of, marks_of, is_set, without_set}
+use Rattle.nv_model.specs.Operations.{set_now, set_far}
+use Rattle.nv_model.specs.Standing.{IsSetIn, StandsFor, same_set}
 use Rattle.nv_model.specs.Keeping.{MarkIsKept, UnmarkIsKept}
-use Rattle.nv_model.proofs.MarkOrders.{MayLead, sorted-tail, in_order_is}
+use Rattle.nv_buffer.specs.Marks.{with_in_order, marks_in_order}
+use Rattle.nv_buffer.proofs.MarkOrders.{MayLead, sorted-tail, in_order_is}
 use Rattle.nv_model.proofs.Seeing.{marks_same}
 
 -- ---- a filter of marks in order
-put_lead : (k : Mark) (ms : List Mark) → MayLead k ms → put_in_order k ms ≡ k ∷ ms
+put_lead : (k : Mark) (ms : List Mark) → MayLead k ms → with_in_order k ms ≡ k ∷ ms
 put_lead k [] lead = refl
 put_lead k (m ∷ ms) lead = rw lead refl
 
@@ -46,15 +48,15 @@ none_before k m ms behind up =
     (λ i within. sorted_far (λ x y. is_lt (mark_order x y)) mark_order_ranks (m ∷ ms) up 0 i m (omega arith) within))
 
 filter-put : (p : Mark → Bool) (k : Mark) (ms : List Mark) → IsSorted mark_order ms
-    → filter p (put_in_order k ms) ≡ cond (p k) (put_in_order k (filter p ms)) (filter p ms)
+    → filter p (with_in_order k ms) ≡ cond (p k) (with_in_order k (filter p ms)) (filter p ms)
 filter-put p k [] up = refl
 filter-put p k (m ∷ ms) up =
     by_case (filter-put p k ms (sorted-tail m ms up)) (is_lt (mark_order m k)) refl (p m) refl (p k) refl
   where
-    by_case : filter p (put_in_order k ms) ≡ cond (p k) (put_in_order k (filter p ms)) (filter p ms)
+    by_case : filter p (with_in_order k ms) ≡ cond (p k) (with_in_order k (filter p ms)) (filter p ms)
         → (t : Bool) → is_lt (mark_order m k) ≡ t → (a : Bool) → p m ≡ a → (c : Bool) → p k ≡ c
-        → filter p (cond t (m ∷ put_in_order k ms) (k ∷ m ∷ ms))
-        ≡ cond c (put_in_order k (cond a (m ∷ filter p ms) (filter p ms))) (cond a (m ∷ filter p ms) (filter p ms))
+        → filter p (cond t (m ∷ with_in_order k ms) (k ∷ m ∷ ms))
+        ≡ cond c (with_in_order k (cond a (m ∷ filter p ms) (filter p ms))) (cond a (m ∷ filter p ms) (filter p ms))
     by_case rest true before true of_m true of_k = rw (of_m, before, rest, of_k) refl
     by_case rest true before true of_m false of_k = rw (of_m, rest, of_k) refl
     by_case rest true before false of_m true of_k = rw (of_m, rest, of_k) refl
@@ -67,14 +69,14 @@ filter-put p k (m ∷ ms) up =
         rw (of_k, of_m) (sym (put_lead k (filter p ms) (all_lead k (filter p ms) others)))
     by_case rest false behind false of_m false of_k = rw (of_k, of_m) refl
 
-filter-in_order : (p : Mark → Bool) (ms : List Mark) → filter p (in_order ms) ≡ in_order (filter p ms)
+filter-in_order : (p : Mark → Bool) (ms : List Mark) → filter p (marks_in_order ms) ≡ marks_in_order (filter p ms)
 filter-in_order p [] = refl
 filter-in_order p (m ∷ ms) =
-    filter-put p m (in_order ms) (in_order_is ms).in_order ∙ by_case (filter-in_order p ms) (p m)
+    filter-put p m (marks_in_order ms) (in_order_is ms).in_order ∙ by_case (filter-in_order p ms) (p m)
   where
-    by_case : filter p (in_order ms) ≡ in_order (filter p ms) → (b : Bool)
-        → cond b (put_in_order m (filter p (in_order ms))) (filter p (in_order ms)) ≡ in_order (cond b (m ∷ filter p ms) (filter p ms))
-    by_case rest true = ap (put_in_order m) rest
+    by_case : filter p (marks_in_order ms) ≡ marks_in_order (filter p ms) → (b : Bool)
+        → cond b (with_in_order m (filter p (marks_in_order ms))) (filter p (marks_in_order ms)) ≡ marks_in_order (cond b (m ∷ filter p ms) (filter p ms))
+    by_case rest true = ap (with_in_order m) rest
     by_case rest false = rest
 
 -- ---- removing
@@ -89,11 +91,11 @@ map-without m ns id (k ∷ ks) = by_case (map-without m ns id ks) (is_set ns id 
     by_case rest false = ap (λ (l : List Mark). mark_of m k ∷ l) rest
 
 -- the marks that are left, in order
-left_in_order : (b : Present) (m : ModelBuffer) (ns id : ℕ) → StandsFor b m
+left_in_order : (b : Content) (m : ModelBuffer) (ns id : ℕ) → StandsFor b m
     → IsInOrder (map (mark_of m) (without_set ns id m.marks)) (without ns id b.marks.marks)
 unfolding marks_of
 left_in_order b m ns id is =
-    let now : without ns id b.marks.marks ≡ in_order (without ns id (map (mark_of m) m.marks)) =
+    let now : without ns id b.marks.marks ≡ marks_in_order (without ns id (map (mark_of m) m.marks)) =
     ap (without ns id) (marks_same b m is) ∙ filter-in_order (λ (k : Mark). not (is_named ns id k)) (map (mark_of m) m.marks) in
     let ordered = in_order_is (without ns id (map (mark_of m) m.marks)) in
     subst (λ (l : List Mark). IsInOrder l (without ns id b.marks.marks)) (sym (map-without m ns id m.marks))
@@ -148,23 +150,23 @@ apart-with k ks apart =
     other_name l other = grind (arith, nat_tests)
 
 -- an offset set now stays where it was set
-offset-now : (ss : List Splice) (right : Bool) (offset : ℕ) → offset_of ss (length ss) right offset ≡ offset
-unfolding offset_of
+offset-now : (ss : List Splice) (right : Bool) (offset : ℕ) → offset_now ss (length ss) right offset ≡ offset
+unfolding offset_now
 offset-now ss right offset = ap (λ (l : List Splice). fold (moved_by right) offset l) (drop_all (length ss) ss (omega arith))
 
 place-now : (text : List ℕ) (lines : List (List ℕ)) (ss : List Splice) (right : Bool) (p : Pos) → flat lines ≡ text → All IsLine lines
-    → IsPlaceIn lines p → place_of text (offset_of ss (length ss) right (place_offset (lines_of text) p)) ≡ p
+    → IsPlaceIn lines p → place_of text (offset_now ss (length ss) right (offset_of (lines_of text) p)) ≡ p
 place-now text lines ss right p is are there =
-    ap (place_of text) (offset-now ss right (place_offset (lines_of text) p))
-    ∙ subst (λ (t : List ℕ). place_of t (place_offset (lines_of t) p) ≡ p) is
-    (ap (λ (ls : List (List ℕ)). place_of (flat lines) (place_offset ls p)) (lines_of-flat lines are) ∙ (place-offset lines p are there).1)
+    ap (place_of text) (offset-now ss right (offset_of (lines_of text) p))
+    ∙ subst (λ (t : List ℕ). place_of t (offset_of (lines_of t) p) ≡ p) is
+    (ap (λ (ls : List (List ℕ)). place_of (flat lines) (offset_of ls p)) (lines_of-flat lines are) ∙ (place-offset lines p are there).1)
 
 in-now : (text : List ℕ) (lines : List (List ℕ)) (ss : List Splice) (right : Bool) (p : Pos) → flat lines ≡ text → All IsLine lines
-    → IsPlaceIn lines p → offset_of ss (length ss) right (place_offset (lines_of text) p) ≤ length text
+    → IsPlaceIn lines p → offset_now ss (length ss) right (offset_of (lines_of text) p) ≤ length text
 in-now text lines ss right p is are there =
-    subst (λ (n : ℕ). n ≤ length text) (sym (offset-now ss right (place_offset (lines_of text) p)))
-    (subst (λ (t : List ℕ). place_offset (lines_of t) p ≤ length t) is
-    (subst (λ (ls : List (List ℕ)). place_offset ls p ≤ length (flat lines)) (sym (lines_of-flat lines are)) (place-offset lines p are there).0))
+    subst (λ (n : ℕ). n ≤ length text) (sym (offset-now ss right (offset_of (lines_of text) p)))
+    (subst (λ (t : List ℕ). offset_of (lines_of t) p ≤ length t) is
+    (subst (λ (ls : List (List ℕ)). offset_of ls p ≤ length (flat lines)) (sym (lines_of-flat lines are)) (place-offset lines p are there).0))
 
 stop-now : (m : ModelBuffer) (lines : List (List ℕ)) (o : Option Far) → flat lines ≡ text_of m → All IsLine lines
     → IfSome o (λ far. IsPlaceIn lines far.pos)
@@ -175,7 +177,7 @@ stop-now m lines (Some far) is are there =
 
 stop-in-now : (m : ModelBuffer) (lines : List (List ℕ)) (o : Option Far) → flat lines ≡ text_of m → All IsLine lines
     → IfSome o (λ far. IsPlaceIn lines far.pos)
-    → IfSome (option_map (set_far (lines_of (text_of m))) o) (λ far. offset_of m.splices (length m.splices) far.right far.offset ≤ length (text_of m))
+    → IfSome (option_map (set_far (lines_of (text_of m))) o) (λ far. offset_now m.splices (length m.splices) far.right far.offset ≤ length (text_of m))
 stop-in-now m lines None is are there = tt
 stop-in-now m lines (Some far) is are there = in-now (text_of m) lines m.splices far.right far.pos is are there
 
@@ -195,9 +197,19 @@ greatest-now g key top ns =
     by_case true = refl
     by_case false = refl
 
+-- the greatest id of a namespace, told of the one that is set
+greatest-named : (g : List (ℕ × ℕ)) (key id ns : ℕ)
+    → cond (eqb ns key) (max (greatest_id g ns) id) (greatest_id g ns) ≡ cond (eqb ns key) (max (greatest_id g key) id) (greatest_id g ns)
+greatest-named g key id ns = by_case (eqb ns key) refl
+  where
+    by_case : (b : Bool) → eqb ns key ≡ b
+        → cond b (max (greatest_id g ns) id) (greatest_id g ns) ≡ cond b (max (greatest_id g key) id) (greatest_id g ns)
+    by_case true same = let is : ns ≡ key = grind (arith, nat_tests) in ap (λ (n : ℕ). max (greatest_id g n) id) is
+    by_case false other = refl
+
 pub mark_is_kept : MarkIsKept
 unfolding text_of
-mark_is_kept b later k m marked at stop is = record {
+mark_is_kept b later k m marked places is = record {
   first = is.first;
   text = is.text;
   lines = is.lines;
@@ -205,6 +217,7 @@ mark_is_kept b later k m marked at stop is = record {
   marks = marks_now;
   greatest = λ ns.
       marked.greatest ns
+      ∙ greatest-named b.marks.greatest k.ns k.id ns
       ∙ (λ i. cond (eqb ns k.ns) (max (is.greatest k.ns i) k.id) (is.greatest ns i))
       ∙ sym (greatest-now m.greatest k.ns (max (greatest_id m.greatest k.ns) k.id) ns);
   tree = is.tree;
@@ -228,8 +241,8 @@ mark_is_kept b later k m marked at stop is = record {
         All-cons (IsSetIn (text_of m) m.splices) (set_now m k) (without_set k.ns k.id m.marks)
         (record {
           since = omega arith;
-          start = in-now (text_of m) b.content.text m.splices k.right k.start is.text is.lines at;
-          stop = stop-in-now m b.content.text k.stop is.text is.lines stop;
+          start = in-now (text_of m) b.text m.splices k.right k.start is.text is.lines places.start;
+          stop = stop-in-now m b.text k.stop is.text is.lines places.stop;
         })
         (All-filter (λ (l : SetMark). not (is_set k.ns k.id l)) (IsSetIn (text_of m) m.splices) m.marks is.valid.marks);
   };
@@ -250,4 +263,4 @@ mark_is_kept b later k m marked at stop is = record {
     marks_now : IsInOrder (mark_of m (set_now m k) ∷ map (mark_of m) (without_set k.ns k.id m.marks)) later.marks
     marks_now =
         subst (λ (x : Mark). IsInOrder (x ∷ map (mark_of m) (without_set k.ns k.id m.marks)) later.marks)
-        (sym (mark-now m b.content.text k is.text is.lines at stop)) with_k
+        (sym (mark-now m b.text k is.text is.lines places.start places.stop)) with_k

@@ -9,13 +9,14 @@ use Rattle.nv_undo.specs.Tree.{no_changes, numbered, change_of}
 use Rattle.nv_undo.proofs.StepLemmas.{first_tree}
 use Rattle.nv_buffer.specs.declared.edit.Edit.{Edit}
 use Rattle.nv_buffer.proofs.KeptTexts.{text_at-first}
+use Rattle.nv_buffer.specs.Content.{Content}
 use Rattle.nv_model.specs.Buffers.{Kept, ModelBuffer, text_of}
-use Rattle.nv_model.specs.Standing.{Present, IsSetIn, StandsFor, same_set}
+use Rattle.nv_model.specs.Standing.{IsSetIn, StandsFor, same_set}
 use Rattle.nv_model.specs.Keeping.{OptionsAreKept, FreshIsKept}
 
-with_options : (b : Present) (m : ModelBuffer) → StandsFor b m
+with_options : (b : Content) (m : ModelBuffer) → StandsFor b m
     → (n o : List ℕ) → n ≡ o → (x y : Bool) → x ≡ y → (u v : Bool) → u ≡ v → (k l : Bool) → k ≡ l → (s t : ℕ) → s ≡ t
-    → StandsFor (record b { content = record b.content { name = n; modifiable = x; modified = u; listed = k; tabstop = s } })
+    → StandsFor (record b { name = n; modifiable = x; modified = u; listed = k; tabstop = s })
     (record m { name = o; modifiable = y; modified = v; listed = l; tabstop = t })
 unfolding text_of
 with_options b m is n o name x y modifiable u v modified k l listed s t tabstop = record {
@@ -49,20 +50,20 @@ with_options b m is n o name x y modifiable u v modified k l listed s t tabstop 
 pub options_are_kept : OptionsAreKept
 options_are_kept = record {
   name = λ b m name is.
-      with_options b m is name name refl b.content.modifiable m.modifiable is.modifiable b.content.modified m.modified is.modified
-      b.content.listed m.listed is.listed b.content.tabstop m.tabstop is.tabstop;
+      with_options b m is name name refl b.modifiable m.modifiable is.modifiable b.modified m.modified is.modified
+      b.listed m.listed is.listed b.tabstop m.tabstop is.tabstop;
   modifiable = λ b m on is.
-      with_options b m is b.content.name m.name is.name on on refl b.content.modified m.modified is.modified
-      b.content.listed m.listed is.listed b.content.tabstop m.tabstop is.tabstop;
+      with_options b m is b.name m.name is.name on on refl b.modified m.modified is.modified
+      b.listed m.listed is.listed b.tabstop m.tabstop is.tabstop;
   modified = λ b m on is.
-      with_options b m is b.content.name m.name is.name b.content.modifiable m.modifiable is.modifiable on on refl
-      b.content.listed m.listed is.listed b.content.tabstop m.tabstop is.tabstop;
+      with_options b m is b.name m.name is.name b.modifiable m.modifiable is.modifiable on on refl
+      b.listed m.listed is.listed b.tabstop m.tabstop is.tabstop;
   listed = λ b m on is.
-      with_options b m is b.content.name m.name is.name b.content.modifiable m.modifiable is.modifiable
-      b.content.modified m.modified is.modified on on refl b.content.tabstop m.tabstop is.tabstop;
+      with_options b m is b.name m.name is.name b.modifiable m.modifiable is.modifiable
+      b.modified m.modified is.modified on on refl b.tabstop m.tabstop is.tabstop;
   tabstop = λ b m cells is.
-      with_options b m is b.content.name m.name is.name b.content.modifiable m.modifiable is.modifiable
-      b.content.modified m.modified is.modified b.content.listed m.listed is.listed cells cells refl;
+      with_options b m is b.name m.name is.name b.modifiable m.modifiable is.modifiable
+      b.modified m.modified is.modified b.listed m.listed is.listed cells cells refl;
 }
 
 none_there : (n : ℕ) (c : ℕ × Kept) → numbered no_changes n ≡ Some c → ⊥

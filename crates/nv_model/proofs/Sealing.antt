@@ -9,12 +9,13 @@ use Rattle.nv_places.specs.Flat.{flat}
 use Rattle.nv_undo.specs.Tree.{Undo, tree_of, IsTree, last, numbered, change_of, pushed}
 use Rattle.nv_undo.proofs.NumberLemmas.{numbered-old, numbered-new, within_numbered, last-pushed}
 use Rattle.nv_undo.proofs.StepLemmas.{push_tree}
-use Rattle.nv_buffer.specs.Content.{sealed_with as content_sealed_with}
-use Rattle.nv_buffer.specs.Changes.{text_at, origin}
+use Rattle.nv_buffer.specs.Content.{Content, after_seal_of}
+use Rattle.nv_buffer.specs.Changes.{text_at}
+use Rattle.nv_undo.specs.Ways.{origin}
 use Rattle.nv_buffer.specs.declared.edit.Edit.{Edit}
 use Rattle.nv_buffer.proofs.KeptTexts.{numbered-of, text_at-stays, text_at-pushed}
-use Rattle.nv_model.specs.Buffers.{Splice, Kept, ModelBuffer, text_of, kept_text, closed_with, sealed}
-use Rattle.nv_model.specs.Standing.{Present, splices_of, kept_change, kept_changes, kept_undo, LeadTo, IsChangeOf, StandsFor}
+use Rattle.nv_model.specs.Buffers.{Splice, Kept, ModelBuffer, text_of, kept_text, closed_with, with_seal}
+use Rattle.nv_model.specs.Standing.{splices_of, kept_change, kept_changes, kept_undo, LeadTo, IsChangeOf, StandsFor}
 use Rattle.nv_model.specs.Keeping.{SealIsKept}
 
 -- ---- the trees
@@ -103,43 +104,43 @@ edits_stay undo edits tree are since n es here =
     ]
 
 -- ---- one more change
-module _ (b : Present) (m : ModelBuffer) (is : StandsFor b m) where
+module _ (b : Content) (m : ModelBuffer) (is : StandsFor b m) where
   new_change : (k : Kept) → k ≡ record { splices = m.unsealed; text = text_of m }
-      → kept_change (pushed b.content.unsealed b.content.undo) (1 + last b.content.undo) (b.content.undo.current, b.content.unsealed)
-      ≡ (b.content.undo.current, k)
+      → kept_change (pushed b.unsealed b.undo) (1 + last b.undo) (b.undo.current, b.unsealed)
+      ≡ (b.undo.current, k)
   new_change k k_is =
-      let base = text_at-stays b.content.undo b.content.unsealed b.content.undo.current is.tree.within in
-      let splices = ap (λ (t : List (List ℕ)). splices_of t b.content.unsealed) base ∙ is.unsealed in
-      let next : 1 + last b.content.undo ≡ suc (last b.content.undo) = omega arith in
+      let base = text_at-stays b.undo b.unsealed b.undo.current is.tree.within in
+      let splices = ap (λ (t : List (List ℕ)). splices_of t b.unsealed) base ∙ is.unsealed in
+      let next : 1 + last b.undo ≡ suc (last b.undo) = omega arith in
       let text =
-      ap (λ (n : ℕ). flat (text_at (pushed b.content.unsealed b.content.undo) n)) next
-      ∙ ap flat (text_at-pushed b.content.undo b.content.unsealed ∙ sym is.since)
+      ap (λ (n : ℕ). flat (text_at (pushed b.unsealed b.undo) n)) next
+      ∙ ap flat (text_at-pushed b.undo b.unsealed ∙ sym is.since)
       ∙ is.text in
-      (λ i. (b.content.undo.current, record { splices = splices i; text = text i })) ∙ ap (λ (x : Kept). (b.content.undo.current, x)) (sym k_is)
+      (λ i. (b.undo.current, record { splices = splices i; text = text i })) ∙ ap (λ (x : Kept). (b.undo.current, x)) (sym k_is)
 
   trees_agree : (k : Kept) → k ≡ record { splices = m.unsealed; text = text_of m }
-      → kept_undo (pushed b.content.unsealed b.content.undo) ≡ pushed k m.undo
+      → kept_undo (pushed b.unsealed b.undo) ≡ pushed k m.undo
   trees_agree k k_is =
-      let whole : Undo (List Edit) = pushed b.content.unsealed b.content.undo in
-      let change : ℕ × List Edit = (b.content.undo.current, b.content.unsealed) in
+      let whole : Undo (List Edit) = pushed b.unsealed b.undo in
+      let change : ℕ × List Edit = (b.undo.current, b.unsealed) in
       let all =
-      kept-push whole 1 b.content.undo.changes change
-      ∙ ap (λ (l : List (ℕ × Kept)). l ++ kept_change whole (1 + last b.content.undo) change ∷ [])
-      (kept-stay b.content.undo b.content.unsealed 1 b.content.undo.changes (omega arith) (parents_low b.content.undo is.tree))
-      ∙ ap (λ (c : ℕ × Kept). kept_changes b.content.undo 1 b.content.undo.changes ++ c ∷ []) (new_change k k_is) in
-      let count : suc (last b.content.undo) ≡ suc (last (kept_undo b.content.undo)) =
-      ap (λ n. suc n) (sym (length-kept b.content.undo 1 b.content.undo.changes)) in
+      kept-push whole 1 b.undo.changes change
+      ∙ ap (λ (l : List (ℕ × Kept)). l ++ kept_change whole (1 + last b.undo) change ∷ [])
+      (kept-stay b.undo b.unsealed 1 b.undo.changes (omega arith) (parents_low b.undo is.tree))
+      ∙ ap (λ (c : ℕ × Kept). kept_changes b.undo 1 b.undo.changes ++ c ∷ []) (new_change k k_is) in
+      let count : suc (last b.undo) ≡ suc (last (kept_undo b.undo)) =
+      ap (λ n. suc n) (sym (length-kept b.undo 1 b.undo.changes)) in
       joined all count ∙ ap (pushed k) is.undo
     where
       joined : {l : List (ℕ × Kept)} {n o : ℕ}
-          → kept_changes (pushed b.content.unsealed b.content.undo) 1 (b.content.undo.changes ++ (b.content.undo.current, b.content.unsealed) ∷ []) ≡ l
+          → kept_changes (pushed b.unsealed b.undo) 1 (b.undo.changes ++ (b.undo.current, b.unsealed) ∷ []) ≡ l
           → n ≡ o
-          → tree_of (kept_changes (pushed b.content.unsealed b.content.undo) 1 (b.content.undo.changes ++ (b.content.undo.current, b.content.unsealed) ∷ [])) n (slice_set b.content.undo.entered b.content.undo.current n ++ 0 ∷ [])
-          ≡ tree_of l o (slice_set b.content.undo.entered b.content.undo.current o ++ 0 ∷ [])
-      joined all count = λ i. tree_of (all i) (count i) (slice_set b.content.undo.entered b.content.undo.current (count i) ++ 0 ∷ [])
+          → tree_of (kept_changes (pushed b.unsealed b.undo) 1 (b.undo.changes ++ (b.undo.current, b.unsealed) ∷ [])) n (slice_set b.undo.entered b.undo.current n ++ 0 ∷ [])
+          ≡ tree_of l o (slice_set b.undo.entered b.undo.current o ++ 0 ∷ [])
+      joined all count = λ i. tree_of (all i) (count i) (slice_set b.undo.entered b.undo.current (count i) ++ 0 ∷ [])
 
-  push_stands : (k : Kept) → k ≡ record { splices = m.unsealed; text = text_of m } → 0 < length b.content.unsealed
-      → StandsFor (record b { content = record b.content { undo = pushed b.content.unsealed b.content.undo; unsealed = [] } })
+  push_stands : (k : Kept) → k ≡ record { splices = m.unsealed; text = text_of m } → 0 < length b.unsealed
+      → StandsFor (record b { undo = pushed b.unsealed b.undo; unsealed = [] })
       (record m { undo = pushed k m.undo; unsealed = [] })
   unfolding text_of
   push_stands k k_is some = record {
@@ -149,12 +150,12 @@ module _ (b : Present) (m : ModelBuffer) (is : StandsFor b m) where
     tick = is.tick;
     marks = is.marks;
     greatest = is.greatest;
-    tree = push_tree b.content.unsealed b.content.undo is.tree;
+    tree = push_tree b.unsealed b.undo is.tree;
     undo = trees_agree k k_is;
     unsealed = refl;
-    since = is.since ∙ sym (text_at-pushed b.content.undo b.content.unsealed);
+    since = is.since ∙ sym (text_at-pushed b.undo b.unsealed);
     edits = tt;
-    changes = edits_stay b.content.undo b.content.unsealed is.tree is.changes (record { some = some; edits = is.edits });
+    changes = edits_stay b.undo b.unsealed is.tree is.changes (record { some = some; edits = is.edits });
     name = is.name;
     modifiable = is.modifiable;
     modified = is.modified;
@@ -174,13 +175,13 @@ module _ (b : Present) (m : ModelBuffer) (is : StandsFor b m) where
       leads = subst (λ (x : Kept). LeadTo (kept_text m.first m.undo m.undo.current) x.splices x.text) (sym k_is) is.valid.since
 
 -- where nothing is open, nothing changes
-none_open : (b : Present) (m : ModelBuffer) → StandsFor b m → m.unsealed ≡ [] → StandsFor b (sealed m)
+none_open : (b : Content) (m : ModelBuffer) → StandsFor b m → m.unsealed ≡ [] → StandsFor b (with_seal m)
 none_open b m is none = subst (λ (x : ModelBuffer). StandsFor b x) same is
   where
     undo : m.undo ≡ closed_with m.unsealed (text_of m) m.undo
     undo = sym (ap (λ (ss : List Splice). closed_with ss (text_of m) m.undo) none)
 
-    same : m ≡ sealed m
+    same : m ≡ with_seal m
     same = λ i. record m { undo = undo i; unsealed = none i }
 
 closed_some : (ss rest : List Splice) (s : Splice) (text : List ℕ) (undo : Undo Kept) → ss ≡ s ∷ rest
@@ -189,18 +190,18 @@ closed_some ss rest s text undo is =
     subst (λ (l : List Splice). pushed (record { splices = l; text = text }) undo ≡ closed_with l text undo) (sym is) refl
 
 pub seal_is_kept : SealIsKept
-seal_is_kept b m is = by_case b.content.unsealed refl
+seal_is_kept b m is = by_case b.unsealed refl
   where
-    by_case : (es : List Edit) → b.content.unsealed ≡ es → StandsFor (record b { content = content_sealed_with b.content es }) (sealed m)
+    by_case : (es : List Edit) → b.unsealed ≡ es → StandsFor (after_seal_of b es) (with_seal m)
     by_case [] none =
-        none_open b m is (sym is.unsealed ∙ ap (splices_of (text_at b.content.undo b.content.undo.current)) none)
+        none_open b m is (sym is.unsealed ∙ ap (splices_of (text_at b.undo b.undo.current)) none)
     by_case (e ∷ es) some =
-        let open_now : m.unsealed ≡ splices_of (text_at b.content.undo b.content.undo.current) (e ∷ es) =
-        sym is.unsealed ∙ ap (splices_of (text_at b.content.undo b.content.undo.current)) some in
+        let open_now : m.unsealed ≡ splices_of (text_at b.undo b.undo.current) (e ∷ es) =
+        sym is.unsealed ∙ ap (splices_of (text_at b.undo b.undo.current)) some in
         let trees = closed_some m.unsealed _ _ (text_of m) m.undo open_now in
         let stands = push_stands b m is (record { splices = m.unsealed; text = text_of m }) refl (subst (λ (l : List Edit). 0 < length l) (sym some) (omega arith)) in
-        subst (λ (u : Undo Kept). StandsFor (record b { content = content_sealed_with b.content (e ∷ es) }) (record m { undo = u; unsealed = [] })) trees
+        subst (λ (u : Undo Kept). StandsFor (after_seal_of b (e ∷ es)) (record m { undo = u; unsealed = [] })) trees
         (subst (λ (l : List Edit).
-        StandsFor (record b { content = record b.content { undo = pushed l b.content.undo; unsealed = [] } })
+        StandsFor (record b { undo = pushed l b.undo; unsealed = [] })
         (record m { undo = pushed (record { splices = m.unsealed; text = text_of m }) m.undo; unsealed = [] }))
         some stands)

@@ -4,23 +4,25 @@ use Rattle.std.specs.Prelude.{option_map, nat_abs}
 use Rattle.nv_places.specs.Flat.{lines_of}
 use Rattle.nv_places.proofs.FlatLemmas.{lines_of-flat}
 use Rattle.nv_marks.proofs.UniqueLemmas.{order_is_unique}
+use Rattle.nv_buffer.specs.Content.{Content}
 use Rattle.nv_model.specs.Buffers.{ModelBuffer, text_of, tick_of, mark_of, marks_of}
 use Rattle.nv_model.specs.Editors.{at_handle}
 use Rattle.nv_model.specs.Seen.{seen_buffer}
-use Rattle.nv_model.specs.Standing.{Present, StandsFor, Both, seen_buffer_now}
+use Rattle.nv_model.specs.Standing.{StandsFor, Both, seen_buffer_now}
 use Rattle.nv_model.specs.Keeping.{SeenIsSame}
-use Rattle.nv_model.proofs.MarkOrders.{in_order_is, names_apart}
+use Rattle.nv_model.proofs.MarkOrders.{names_apart}
+use Rattle.nv_buffer.proofs.MarkOrders.{in_order_is}
 
-pub marks_same : (b : Present) (m : ModelBuffer) → StandsFor b m → b.marks.marks ≡ marks_of m
+pub marks_same : (b : Content) (m : ModelBuffer) → StandsFor b m → b.marks.marks ≡ marks_of m
 unfolding marks_of
 marks_same b m is =
     order_is_unique (map (mark_of m) m.marks) b.marks.marks (marks_of m) (names_apart m m.marks is.valid.named) is.marks
     (in_order_is (map (mark_of m) m.marks))
 
-buffer_same : (b : Present) (m : ModelBuffer) → StandsFor b m → seen_buffer_now b ≡ seen_buffer m
+buffer_same : (b : Content) (m : ModelBuffer) → StandsFor b m → seen_buffer_now b ≡ seen_buffer m
 buffer_same b m is =
-    let lines : b.content.text ≡ lines_of (text_of m) = sym (lines_of-flat b.content.text is.lines) ∙ ap lines_of is.text in
-    let tick : nat_abs b.content.tick ≡ tick_of m = ap nat_abs is.tick in
+    let lines : b.text ≡ lines_of (text_of m) = sym (lines_of-flat b.text is.lines) ∙ ap lines_of is.text in
+    let tick : nat_abs b.tick ≡ tick_of m = ap nat_abs is.tick in
     let marks : b.marks.marks ≡ marks_of m = marks_same b m is in
     let first = sym is.first in
     λ i. record {
@@ -38,7 +40,7 @@ buffer_same b m is =
       tabstop = is.tabstop i;
     }
 
-both_same : (o : Option Present) (p : Option ModelBuffer) → Both StandsFor o p → option_map seen_buffer_now o ≡ option_map seen_buffer p
+both_same : (o : Option Content) (p : Option ModelBuffer) → Both StandsFor o p → option_map seen_buffer_now o ≡ option_map seen_buffer p
 both_same None None is = refl
 both_same None (Some m) is = absurd is
 both_same (Some b) None is = absurd is

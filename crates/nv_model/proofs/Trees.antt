@@ -4,15 +4,15 @@ use Rattle.std.specs.Prelude.{option_map, unwrap_or}
 use Rattle.std.specs.Option.{option_map_or}
 use Rattle.std.proofs.lemmas.List.Elements.{All-nil, All-cons}
 use Rattle.nv_places.specs.Flat.{flat, IsLine}
-use Rattle.nv_undo.specs.Tree.{Undo, IsTree, last, numbered, parent_of, change_of, gone}
+use Rattle.nv_undo.specs.Tree.{Undo, IsTree, last, numbered, parent_of, change_of, tree_after_leg}
 use Rattle.nv_undo.specs.declared.legs.Leg.{Leg}
 use Rattle.nv_undo.specs.declared.legs.Leg.TheVariants.{Back, Ahead}
 use Rattle.nv_undo.proofs.NumberLemmas.{some_numbered, within_numbered, parent_some}
-use Rattle.nv_buffer.specs.Changes.{text_at, first_text, origin, edits_of, leg_edits, applied as applied_rows, inverses as inverses_rows}
-use Rattle.nv_buffer.specs.Steps.{IsNext}
+use Rattle.nv_buffer.specs.Changes.{text_at, first_text, edits_of, leg_edits, lines_after, inverse_edits}
+use Rattle.nv_undo.specs.Ways.{origin, IsNext}
 use Rattle.nv_buffer.specs.declared.edit.Edit.{Edit}
 use Rattle.nv_buffer.proofs.KeptTexts.{text_at-first, text_at-change}
-use Rattle.nv_model.specs.Buffers.{Splice, Kept, applied, inverse, inverses, kept_text}
+use Rattle.nv_model.specs.Buffers.{Splice, Kept, text_after, inverse_splice, inverse_splices, kept_text}
 use Rattle.nv_model.specs.Undoing.{splices_at, leg_splices}
 use Rattle.nv_model.specs.Standing.{splices_of, kept_change, kept_changes, kept_undo, AreEditsOf, IsChangeOf}
 use Rattle.nv_model.proofs.Edits.{way_back, lines-edits}
@@ -64,19 +64,19 @@ lines-below undo tree changes (suc bound) (suc i) low within =
 -- ---- a leg
 pub record IsLeg (undo : Undo (List Edit)) (leg : Leg) : Type 0 where
   pub edits : AreEditsOf (text_at undo undo.current) (leg_edits undo leg)
-  pub text : fold applied_rows (text_at undo undo.current) (leg_edits undo leg) ≡ text_at undo (gone leg undo).current
+  pub text : fold lines_after (text_at undo undo.current) (leg_edits undo leg) ≡ text_at undo (tree_after_leg leg undo).current
   pub splices : splices_of (text_at undo undo.current) (leg_edits undo leg) ≡ leg_splices (flat first_text) (kept_undo undo) leg
   pub some : 0 < length (splices_of (text_at undo undo.current) (leg_edits undo leg))
-  pub within : (gone leg undo).current ≤ last undo
+  pub within : (tree_after_leg leg undo).current ≤ last undo
 
 pub length-splices : (t : List (List ℕ)) (es : List Edit) → length (splices_of t es) ≡ length es
 length-splices t [] = refl
-length-splices t (e ∷ es) = ap (λ n. suc n) (length-splices (applied_rows t e) es)
+length-splices t (e ∷ es) = ap (λ n. suc n) (length-splices (lines_after t e) es)
 
-length-inverses : (text : List ℕ) (ss : List Splice) → length (inverses text ss) ≡ length ss
+length-inverses : (text : List ℕ) (ss : List Splice) → length (inverse_splices text ss) ≡ length ss
 length-inverses text [] = refl
 length-inverses text (s ∷ ss) =
-    omega (arith, length-inverses (applied text s) ss, length-append (inverses (applied text s) ss) (inverse text s ∷ []))
+    omega (arith, length-inverses (text_after text s) ss, length-append (inverse_splices (text_after text s) ss) (inverse_splice text s ∷ []))
 
 -- what stands at a number that a leg speaks of
 pub record IsAt (undo : Undo (List Edit)) (n : ℕ) (c : ℕ × List Edit) : Type 0 where
@@ -110,8 +110,8 @@ module _ (undo : Undo (List Edit)) (tree : IsTree undo)
       record {
         edits = subst (λ (es : List Edit). AreEditsOf (text_at undo undo.current) es) (sym at.edits) are;
         text =
-            ap (λ (es : List Edit). fold applied_rows (text_at undo undo.current) es) at.edits
-            ∙ ap (λ (t : List (List ℕ)). fold applied_rows t c.1) (sym start)
+            ap (λ (es : List Edit). fold lines_after (text_at undo undo.current) es) at.edits
+            ∙ ap (λ (t : List (List ℕ)). fold lines_after t c.1) (sym start)
             ∙ sym (text_at-change undo n c.1 tree change);
         splices =
             ap (splices_of (text_at undo undo.current)) at.edits
@@ -136,23 +136,23 @@ module _ (undo : Undo (List Edit)) (tree : IsTree undo)
       let are : AreEditsOf (text_at undo c.0) c.1 = subst (λ (t : List (List ℕ)). AreEditsOf t c.1) start made.edits in
       let lines : All IsLine (text_at undo c.0) = lines-below undo tree changes (suc c.0) c.0 (omega arith) (omega arith) in
       let back = way_back (text_at undo c.0) c.1 lines are in
-      let now : text_at undo undo.current ≡ fold applied_rows (text_at undo c.0) c.1 =
-      text_at-change undo undo.current c.1 tree change ∙ ap (λ (t : List (List ℕ)). fold applied_rows t c.1) start in
-      let legs : leg_edits undo (Back undo.current) ≡ inverses_rows (text_at undo c.0) c.1 =
-      λ i. inverses_rows (start i) (at.edits i) in
-      let target : (gone (Back undo.current) undo).current ≡ c.0 =
+      let now : text_at undo undo.current ≡ fold lines_after (text_at undo c.0) c.1 =
+      text_at-change undo undo.current c.1 tree change ∙ ap (λ (t : List (List ℕ)). fold lines_after t c.1) start in
+      let legs : leg_edits undo (Back undo.current) ≡ inverse_edits (text_at undo c.0) c.1 =
+      λ i. inverse_edits (start i) (at.edits i) in
+      let target : (tree_after_leg (Back undo.current) undo).current ≡ c.0 =
       ap (λ (o : Option (ℕ × List Edit)). unwrap_or (option_map (λ d. d.0) o) undo.current) here in
-      let splices : splices_of (text_at undo undo.current) (leg_edits undo (Back undo.current)) ≡ inverses (flat (text_at undo c.0)) (splices_of (text_at undo c.0) c.1) =
+      let splices : splices_of (text_at undo undo.current) (leg_edits undo (Back undo.current)) ≡ inverse_splices (flat (text_at undo c.0)) (splices_of (text_at undo c.0) c.1) =
       (λ i. splices_of (now i) (legs i)) ∙ back.splices in
       record {
         edits =
             subst (λ (t : List (List ℕ)). AreEditsOf t (leg_edits undo (Back undo.current))) (sym now)
-            (subst (λ (es : List Edit). AreEditsOf (fold applied_rows (text_at undo c.0) c.1) es) (sym legs) back.edits);
-        text = (λ i. fold applied_rows (now i) (legs i)) ∙ back.text ∙ ap (text_at undo) (sym target);
+            (subst (λ (es : List Edit). AreEditsOf (fold lines_after (text_at undo c.0) c.1) es) (sym legs) back.edits);
+        text = (λ i. fold lines_after (now i) (legs i)) ∙ back.text ∙ ap (text_at undo) (sym target);
         splices =
             splices
-            ∙ ap (λ (bs : List ℕ). inverses bs (splices_of (text_at undo c.0) c.1)) (sym (text-kept undo c.0 (omega arith)) ∙ ap (kept_text (flat first_text) (kept_undo undo)) (sym at.kept_parent))
-            ∙ ap (inverses (kept_text (flat first_text) (kept_undo undo) (unwrap_or (parent_of (kept_undo undo) undo.current) 0))) (sym at.splices);
+            ∙ ap (λ (bs : List ℕ). inverse_splices bs (splices_of (text_at undo c.0) c.1)) (sym (text-kept undo c.0 (omega arith)) ∙ ap (kept_text (flat first_text) (kept_undo undo)) (sym at.kept_parent))
+            ∙ ap (inverse_splices (kept_text (flat first_text) (kept_undo undo) (unwrap_or (parent_of (kept_undo undo) undo.current) 0))) (sym at.splices);
         some =
             subst (λ (ss : List Splice). 0 < length ss) (sym splices)
             (omega (arith, made.some, length-inverses (flat (text_at undo c.0)) (splices_of (text_at undo c.0) c.1), length-splices (text_at undo c.0) c.1));

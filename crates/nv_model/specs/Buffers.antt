@@ -1,22 +1,23 @@
--- A buffer of the model: its first text with all splices made in it since, and its marks as they were set.
+-- A buffer of the model: its first text with all splices made in it since, and its marks as they
+-- were set.
 use Rattle.std.specs.Prelude.{ℕ, ◌+◌, ◌-◌, ◌==◌, if◌then◌else◌, Bool, true, false, not, ◌&&◌, pos, List, [], ◌∷◌, ◌++◌, length, take, drop, map, fold, filter, max, Option, option_map}
 use Rattle.std.specs.Option.{option_map_or}
 use Rattle.std.specs.List.{splice, join_with_byte}
-use Rattle.std.specs.Ordering.{is_lt}
 use Rattle.nv_places.specs.Flat.{flat, lines_of, row_start}
-use Rattle.nv_places.specs.Places.{place_of, offset_of as place_offset}
+use Rattle.nv_places.specs.Places.{place_of, extent_of, offset_of}
 use Rattle.nv_places.specs.Moves.{moved_offset}
 use Rattle.nv_places.specs.declared.place.Pos.{Pos}
 use Rattle.nv_marks.specs.declared.extmark.Far.{Far}
 use Rattle.nv_marks.specs.declared.extmark.Mark.{Mark}
 use Rattle.nv_marks.specs.declared.extmark.Paint.{Paint}
 use Rattle.nv_marks.specs.Marks.{greatest_id}
-use Rattle.nv_marks.specs.Order.{mark_order}
 use Rattle.nv_undo.specs.Tree.{Undo, no_changes, change_of, pushed}
+use Rattle.nv_buffer.specs.Marks.{marks_in_order}
 use Rattle.nv_buffer.specs.declared.buffer.Spliced.{Spliced}
 
--- bytes `from` up to before `until` of the flat text become `bytes`; `rows` where whole lines were put
--- (help: nvim_buf_set_lines()), and not where text was put between two places (help: nvim_buf_set_text())
+-- bytes `from` up to before `until` of the flat text become `bytes`; `rows` where whole lines were
+-- put (help: nvim_buf_set_lines()), and not where text was put between two places (help:
+-- nvim_buf_set_text())
 pub record Splice : Type 0 where
   pub from : ℕ
   pub until : ℕ
@@ -28,7 +29,8 @@ pub record SetFar : Type 0 where
   pub offset : ℕ
   pub right : Bool
 
--- a mark as it was set, at an offset of the flat text, after so many splices of its buffer (help: nvim_buf_set_extmark())
+-- a mark as it was set, at an offset of the flat text, after so many splices of its buffer (help:
+-- nvim_buf_set_extmark())
 pub record SetMark : Type 0 where
   pub ns : ℕ
   pub id : ℕ
@@ -44,8 +46,9 @@ pub record Kept : Type 0 where
   pub splices : List Splice
   pub text : List ℕ
 
--- a buffer: its first flat text, all its splices, its marks as set, for each namespace the greatest id ever set, its tree of
--- changes, the splices of the change that is still open, its name and its options (help: api-buffer, options)
+-- a buffer: its first flat text, all its splices, its marks as set, for each namespace the greatest
+-- id ever set, its tree of changes, the splices of the change that is still open, its name and its
+-- options (help: api-buffer, options)
 pub record ModelBuffer : Type 0 where
   pub first : List ℕ
   pub splices : List Splice
@@ -61,28 +64,34 @@ pub record ModelBuffer : Type 0 where
 
 -- lines put in place of the rows `from` up to before `to` (help: nvim_buf_set_lines())
 abbrev pub rows_splice : List (List ℕ) → ℕ → ℕ → List (List ℕ) → Splice
-rows_splice lines from to new = record { from = row_start lines from; until = row_start lines to; bytes = flat new; rows = true }
+rows_splice lines from to new =
+    record {
+      from = row_start lines from;
+      until = row_start lines to;
+      bytes = flat new;
+      rows = true;
+    }
 
 -- lines put between two places, the second one exclusive (help: nvim_buf_set_text())
 abbrev pub text_splice : List (List ℕ) → Pos → Pos → List (List ℕ) → Splice
 text_splice lines start stop new = record {
-  from = place_offset lines start;
-  until = place_offset lines stop;
+  from = offset_of lines start;
+  until = offset_of lines stop;
   bytes = join_with_byte 10 new;
   rows = false;
 }
 
 -- a splice that removes nothing and puts nothing, which isn't made (own rule)
-abbrev pub is_nothing : Splice → Bool
-is_nothing s = s.from == s.until && length s.bytes == 0
+abbrev pub is_empty_splice : Splice → Bool
+is_empty_splice s = s.from == s.until && length s.bytes == 0
 
 -- a flat text after a splice
-abbrev pub applied : List ℕ → Splice → List ℕ
-applied text s = splice text s.from s.until s.bytes
+abbrev pub text_after : List ℕ → Splice → List ℕ
+text_after text s = splice text s.from s.until s.bytes
 
 -- a buffer's text: its first text with its splices
 unfoldable pub text_of : ModelBuffer → List ℕ
-text_of m = fold applied m.first m.splices
+text_of m = fold text_after m.first m.splices
 
 -- the changedtick: 2 at first, and one more after each splice (help: changetick)
 abbrev pub tick_of : ModelBuffer → ℕ
@@ -92,43 +101,38 @@ tick_of m = 2 + length m.splices
 abbrev pub moved_by : Bool → ℕ → Splice → ℕ
 moved_by right offset s = moved_offset right s.from s.until (length s.bytes) offset
 
--- where an offset stands now that was set after the first `since` of these splices: moved by each splice after those
-unfoldable pub offset_of : List Splice → ℕ → Bool → ℕ → ℕ
-offset_of splices since right offset = fold (moved_by right) offset (drop since splices)
+-- where an offset stands now that was set after the first `since` of these splices: moved by each
+-- splice after those
+unfoldable pub offset_now : List Splice → ℕ → Bool → ℕ → ℕ
+offset_now splices since right offset = fold (moved_by right) offset (drop since splices)
 
 -- the end of a mark now
 abbrev pub far_of : ModelBuffer → ℕ → SetFar → Far
-far_of m since far = record { pos = place_of (text_of m) (offset_of m.splices since far.right far.offset); right = far.right }
+far_of m since far = record {
+  pos = place_of (text_of m)
+      (offset_now m.splices since far.right far.offset);
+  right = far.right;
+}
 
 -- a mark now: start and end are moved each by itself (help: api-extended-marks)
 abbrev pub mark_of : ModelBuffer → SetMark → Mark
 mark_of m k = record {
   ns = k.ns;
   id = k.id;
-  start = place_of (text_of m) (offset_of m.splices k.since k.right k.offset);
+  start = place_of (text_of m) (offset_now m.splices k.since k.right k.offset);
   right = k.right;
   stop = option_map (far_of m k.since) k.stop;
   paint = k.paint;
   priority = k.priority;
 }
 
--- a mark put among marks in order
-abbrev pub put_in_order : Mark → List Mark → List Mark
-put_in_order k [] = k ∷ []
-put_in_order k (m ∷ ms) = if is_lt (mark_order m k) then m ∷ put_in_order k ms else k ∷ m ∷ ms
-
--- marks in order
-abbrev pub in_order : List Mark → List Mark
-in_order [] = []
-in_order (m ∷ ms) = put_in_order m (in_order ms)
-
 -- the marks of a buffer now, in their order (help: nvim_buf_get_extmarks())
 unfoldable pub marks_of : ModelBuffer → List Mark
-marks_of m = in_order (map (mark_of m) m.marks)
+marks_of m = marks_in_order (map (mark_of m) m.marks)
 
 -- what takes a splice of this text back: of the same form
-abbrev pub inverse : List ℕ → Splice → Splice
-inverse text s = record {
+abbrev pub inverse_splice : List ℕ → Splice → Splice
+inverse_splice text s = record {
   from = s.from;
   until = s.from + length s.bytes;
   bytes = take (s.until - s.from) (drop s.from text);
@@ -136,33 +140,49 @@ inverse text s = record {
 }
 
 -- what takes splices made one after another from this text on back, the last one first
-abbrev pub inverses : List ℕ → List Splice → List Splice
-inverses text [] = []
-inverses text (s ∷ ss) = inverses (applied text s) ss ++ inverse text s ∷ []
+abbrev pub inverse_splices : List ℕ → List Splice → List Splice
+inverse_splices text [] = []
+inverse_splices text (s ∷ ss) = inverse_splices (text_after text s) ss ++ inverse_splice text s ∷ []
 
--- the row behind the last one that a splice touches: for text between two places the row of the second is one of them
+-- the row behind the last one that a splice touches: for text between two places the row of the
+-- second is one of them
 abbrev pub row_behind : List ℕ → Splice → ℕ
 row_behind text s = (place_of text s.until).row + (if s.rows then 0 else 1)
 
--- what is told of a splice of this text that makes the changedtick `tick`: rows of the text before, and all lines that
--- now stand in their place (help: nvim_buf_lines_event)
-abbrev pub event_of : List ℕ → ℕ → Splice → Spliced
-event_of text tick s = record {
+-- the lines that stand after a splice of this text in place of the rows that it touches: those from
+-- the row where it begins on, but for as many as stood behind it
+abbrev pub lines_in_place : List ℕ → Splice → List (List ℕ)
+lines_in_place text s =
+    take
+    (length (lines_of (text_after text s)) - (length (lines_of text) - row_behind text s)
+    - (place_of text s.from).row)
+    (drop (place_of text s.from).row (lines_of (text_after text s)))
+
+-- what is told of a splice of this text that makes the changedtick `tick`: rows of the text before,
+-- and all lines that now stand in their place (help: nvim_buf_lines_event)
+abbrev pub splice_event : List ℕ → ℕ → Splice → Spliced
+splice_event text tick s = record {
   tick = pos tick;
-  first = (place_of text s.from).row;
-  last = row_behind text s;
-  lines =
-      take (length (lines_of (applied text s)) - (length (lines_of text) - row_behind text s) - (place_of text s.from).row)
-      (drop (place_of text s.from).row (lines_of (applied text s)));
-  at = s.from;
-  old = s.until - s.from;
-  new = length s.bytes;
+  edit = record {
+    first = (place_of text s.from).row;
+    last = row_behind text s;
+    lines = lines_in_place text s;
+    at = s.from;
+    old = s.until - s.from;
+    new = length s.bytes;
+    start = place_of text s.from;
+    removed = extent_of (inverse_splice text s).bytes;
+    put = extent_of s.bytes;
+    rows = s.rows;
+  };
 }
 
--- what is told of splices made one after another, the changedtick being `tick` before the first of them
-abbrev pub events_of : List ℕ → ℕ → List Splice → List Spliced
-events_of text tick [] = []
-events_of text tick (s ∷ ss) = event_of text (tick + 1) s ∷ events_of (applied text s) (tick + 1) ss
+-- what is told of splices made one after another, the changedtick being `tick` before the first of
+-- them
+abbrev pub splice_events : List ℕ → ℕ → List Splice → List Spliced
+splice_events text tick [] = []
+splice_events text tick (s ∷ ss) =
+    splice_event text (tick + 1) s ∷ splice_events (text_after text s) (tick + 1) ss
 
 -- the text that is kept of a number of the tree of changes: the first text for 0 (help: undo-tree)
 abbrev pub kept_text : List ℕ → Undo Kept → ℕ → List ℕ
@@ -184,7 +204,8 @@ fresh_buffer listed = record {
   tabstop = 8;
 }
 
--- the tree of changes once the open change, where it has splices, is closed at this text (help: undo-blocks)
+-- the tree of changes once the open change, where it has splices, is closed at this text (help:
+-- undo-blocks)
 abbrev pub closed_with : List Splice → List ℕ → Undo Kept → Undo Kept
 closed_with [] text undo = undo
 closed_with (s ∷ ss) text undo = pushed (record { splices = s ∷ ss; text = text }) undo
@@ -195,12 +216,13 @@ with_splice_back s m = record m { splices = m.splices ++ s ∷ []; modified = tr
 
 -- after a splice, which belongs to the open change
 abbrev pub with_splice : Splice → ModelBuffer → ModelBuffer
-with_splice s m = record m { splices = m.splices ++ s ∷ []; modified = true; unsealed = m.unsealed ++ s ∷ [] }
+with_splice s m =
+    record m { splices = m.splices ++ s ∷ []; modified = true; unsealed = m.unsealed ++ s ∷ [] }
 
--- after the open change, where it has splices, is closed: it gets the next number, with the current one as its parent, and
--- becomes the current one (help: undo-blocks)
-abbrev pub sealed : ModelBuffer → ModelBuffer
-sealed m = record m { undo = closed_with m.unsealed (text_of m) m.undo; unsealed = [] }
+-- after the open change, where it has splices, is closed: it gets the next number, with the current
+-- one as its parent, and becomes the current one (help: undo-blocks)
+abbrev pub with_seal : ModelBuffer → ModelBuffer
+with_seal m = record m { undo = closed_with m.unsealed (text_of m) m.undo; unsealed = [] }
 
 -- a mark as set has this namespace and id
 abbrev pub is_set : ℕ → ℕ → SetMark → Bool

@@ -6,7 +6,8 @@ use Rattle.nv_model.specs.Buffers.{ModelBuffer, fresh_buffer}
 use Rattle.nv_model.specs.Stage.{Stage, fresh_stage}
 use Rattle.nv_model.specs.declared.parts.Limits.{Limits}
 
--- an editor: its live buffers by rising handles, the deleted ones, whose splices are kept, and all else
+-- an editor: its live buffers by rising handles, the deleted ones, whose splices are kept, and all
+-- else
 pub record ModelEditor : Type 0 where
   pub buffers : List (ℤ × ModelBuffer)
   pub deleted : List (ℤ × ModelBuffer)
@@ -16,9 +17,9 @@ pub record ModelEditor : Type 0 where
 abbrev pub at_handle : {A : Type 0} → List (ℤ × A) → ℤ → Option A
 at_handle entries n = lookup (λ k. int_eq k n) entries
 
--- the entries, changed where they stand under this handle
-abbrev pub changed_at : {A : Type 0} → ℤ → (A → A) → List (ℤ × A) → List (ℤ × A)
-changed_at n change entries = map (λ e. if int_eq e.0 n then (e.0, change e.1) else e) entries
+-- the entries, updated where they stand under this handle
+abbrev pub updated_at : {A : Type 0} → ℤ → (A → A) → List (ℤ × A) → List (ℤ × A)
+updated_at n update entries = map (λ e. if int_eq e.0 n then (e.0, update e.1) else e) entries
 
 -- the handles, in the entries' order
 abbrev pub handles_of : {A : Type 0} → List (ℤ × A) → List ℤ

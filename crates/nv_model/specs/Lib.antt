@@ -1,10 +1,9 @@
 pub mod Buffers
 pub mod Undoing
 pub mod Stage
-pub mod Windows
 pub mod Editors
 pub mod Seen
-pub mod Changes
+pub mod Operations
 pub mod Answers
 pub mod Standing
 pub mod Laws

@@ -8,8 +8,8 @@ use Rattle.nv_model.specs.Buffers.{Splice, Kept, ModelBuffer, text_of, tick_of, 
 use Rattle.nv_model.specs.Stage.{Stage}
 use Rattle.nv_model.specs.Editors.{ModelEditor, at_handle, handles_of}
 
--- what is seen of a buffer: its lines, changedtick, marks in their order, the greatest id ever set in each namespace, its
--- changes and the open one, its name and its options
+-- what is seen of a buffer: its lines, changedtick, marks in their order, the greatest id ever set
+-- in each namespace, its changes and the open one, its name and its options
 pub record SeenBuffer : Type 0 where
   pub lines : List (List ℕ)
   pub tick : ℕ
@@ -54,6 +54,7 @@ seen_of m = record {
   stage = m.stage;
 }
 
--- the tree of changes of a buffer once its open change is closed, as the undo commands find it (help: undo-blocks)
+-- the tree of changes of a buffer once its open change is closed, as the undo commands find it
+-- (help: undo-blocks)
 abbrev pub sealed_undo : SeenBuffer → Undo Kept
 sealed_undo b = closed_with b.unsealed (flat b.lines) b.undo

@@ -1,32 +1,34 @@
 //! Laws of the definitions, each the contract of a function that does nothing.
 
-ghost use Rattle.nv_model.specs.Keeping.{SeenIsSame, MarksAreInOrder, MarksMove, SpliceIsKept, SpliceTellsText, RowsAreSpliced, TextIsSpliced, LegLeadsToKept, SealIsKept, LegIsKept, MarkIsKept, UnmarkIsKept, OptionsAreKept, FreshIsKept, BufferChangeIsKept, EditorSpliceIsKept, StageChangeIsKept, NewBufferIsKept, DroppedBufferIsKept, EditorLegIsKept, FreshEditorIsKept};
-ghost use Rattle.nv_model.specs.Laws.{ChangesAddSplices, SpliceRaisesOneTick, ChangesMakeTexts, DeletedAreKept, HandlesStayBelow, NoHandleTwice, RefusedChangesNothing, FirstIsAnswered, EventsCountUp, InversesTakeBack};
+ghost use Rattle.nv_model.specs.Keeping.{SeenIsSame, MarksAreInOrder, MarksMove, SpliceIsKept, SpliceTellsText, RowsAreSpliced, TextIsSpliced, LegLeadsToKept, SealIsKept, LegIsKept, MarkIsKept, UnmarkIsKept, OptionsAreKept, FreshIsKept, BufferUpdateIsKept, EditorSpliceIsKept, StageUpdateIsKept, NewBufferIsKept, DroppedBufferIsKept, EditorLegIsKept, FreshEditorIsKept};
+ghost use Rattle.nv_model.specs.Laws.{OperationsAddSplices, SpliceRaisesOneTick, OperationsMakeTexts, DeletedAreKept, HandlesStayBelow, NoHandleTwice, RefusedKeepsEditor, FirstIsAnswered, EventsCountUp, InversesTakeBack};
 
-/// A change adds to each buffer the splices that it makes in it and no other, each splice raises the changedtick of its
-/// buffer by one and that of no other, and after changes one after another a buffer's text is that before with all of
-/// these. A deleted buffer is kept as it was.
+/// An operation adds to each buffer the splices that it makes in it and no other, each splice
+/// raises the changedtick of its buffer by one and that of no other, and after operations one after
+/// another a buffer's text is that before with all of these. A deleted buffer is kept as it was.
 pub fn text_laws()
-    ensures splices { ChangesAddSplices }
+    ensures splices { OperationsAddSplices }
     ensures ticks { SpliceRaisesOneTick }
-    ensures texts { ChangesMakeTexts }
+    ensures texts { OperationsMakeTexts }
     ensures deleted { DeletedAreKept }
 {}
 
-/// All that has a handle has one below the next one, and changes one after another give no handle twice.
+/// All that has a handle has one below the next one, and operations one after another give no
+/// handle twice.
 pub fn handle_laws()
     ensures below { HandlesStayBelow }
     ensures once { NoHandleTwice }
 {}
 
-/// A refused call leaves the editor as it was, and of some conditions the first that holds is answered.
+/// A refused call leaves the editor as it was, and of some conditions the first that holds is
+/// answered.
 pub fn answer_laws()
-    ensures unchanged { RefusedChangesNothing }
+    ensures unchanged { RefusedKeepsEditor }
     ensures first { FirstIsAnswered }
 {}
 
-/// Splices are told one by one with the changedtick counted up, inverses in reverse order take splices back, and a leg in
-/// the tree of changes leads to the text that is kept of its number.
+/// Splices are told one by one with the changedtick counted up, inverses in reverse order take
+/// splices back, and a leg in the tree of changes leads to the text that is kept of its number.
 pub fn splice_laws()
     ensures told { EventsCountUp }
     ensures back { InversesTakeBack }
@@ -44,9 +46,9 @@ pub fn seen_law()
     ensures { SeenIsSame }
 {}
 
-/// What is kept of a buffer goes on standing for the model: after a splice, which is told as the model tells it, once the
-/// open change is closed, after a leg in the tree of changes, after a mark is set or removed and after a name or an option
-/// is put. So does a fresh buffer.
+/// What is kept of a buffer goes on standing for the model: after a splice, which is told as the
+/// model tells it, once the open change is closed, after a leg in the tree of changes, after a mark
+/// is set or removed and after a name or an option is put. So does a fresh buffer.
 pub fn buffer_laws()
     ensures splice { SpliceIsKept }
     ensures seal { SealIsKept }
@@ -57,21 +59,21 @@ pub fn buffer_laws()
     ensures fresh { FreshIsKept }
 {}
 
-/// Edits of a buffer by lines and between places are splices of its flat text, and what is told of a splice, applied to
-/// the lines before, gives the lines after.
+/// Edits of a buffer by lines and between places are splices of its flat text, and what is told of
+/// a splice, applied to the lines before, gives the lines after.
 pub fn edit_laws()
     ensures rows { RowsAreSpliced }
     ensures text { TextIsSpliced }
     ensures told { SpliceTellsText }
 {}
 
-/// What is kept of an editor goes on standing for the model: after a change of one buffer, after a splice of one with the
-/// windows that show it, after a leg in the tree of changes of one, after a change of all but the buffers, and once a buffer is made or deleted.
-/// So does a fresh editor.
+/// What is kept of an editor goes on standing for the model: after an update of one buffer, after a
+/// splice of one with the windows that show it, after a leg in the tree of changes of one, after an
+/// update of all but the buffers, and once a buffer is made or deleted. So does a fresh editor.
 pub fn editor_laws()
-    ensures buffer { BufferChangeIsKept }
+    ensures buffer { BufferUpdateIsKept }
     ensures splice { EditorSpliceIsKept }
-    ensures stage { StageChangeIsKept }
+    ensures stage { StageUpdateIsKept }
     ensures made { NewBufferIsKept }
     ensures dropped { DroppedBufferIsKept }
     ensures leg { EditorLegIsKept }

@@ -1,19 +1,5 @@
 //! Parts of an editor that are the same in what is kept and in the model.
 
-use nv_places::Pos;
-
-/// A window: a buffer, seen from a row on (help: windows).
-#[derive(Clone, Copy, Debug, PartialEq, Eq)]
-pub struct Window {
-    pub handle: i64,
-    /// The handle of the buffer that it shows.
-    pub buffer: i64,
-    /// Row and column in bytes, both from 0.
-    pub cursor: Pos,
-    /// The first row that it shows, from 0.
-    pub top: u32,
-}
-
 /// What a session has attached as its screen (help: nvim_ui_attach()).
 #[derive(Clone, Copy, Debug, PartialEq, Eq)]
 pub struct Ui {

@@ -1,33 +1,33 @@
 -- Worked examples of marks and highlight groups, computed by the definitions.
 use Rattle.std.proofs.Common.{refl}
 use Rattle.std.specs.Fmt.{digits}
-use Rattle.nv_model.specs.Buffers.{text_of, offset_of, marks_of}
-use Rattle.nv_rows.specs.WorkedMarks.{MarksMove, MarksPastEnd, MarksReverse, MarkDetails, MarkFaults, Namespaces, HighlightGroups}
+use Rattle.nv_model.specs.Buffers.{text_of, offset_now, marks_of}
+use Rattle.nv_rows.specs.WorkedMarks.{MarksMoveWithText, MarksPastEnd, MarksReverse, MarkDetails, MarkFaults, Namespaces, HighlightGroups}
 
-pub marks_move : MarksMove
-unfolding MarksMove text_of offset_of marks_of
+pub marks_move : MarksMoveWithText
+unfolding MarksMoveWithText text_of offset_now marks_of
 marks_move = refl
 
 pub marks_past_end : MarksPastEnd
-unfolding MarksPastEnd text_of offset_of marks_of
+unfolding MarksPastEnd text_of offset_now marks_of
 marks_past_end = refl
 
 pub marks_reverse : MarksReverse
-unfolding MarksReverse text_of offset_of marks_of
+unfolding MarksReverse text_of offset_now marks_of
 marks_reverse = refl
 
 pub mark_details : MarkDetails
-unfolding MarkDetails text_of offset_of marks_of
+unfolding MarkDetails text_of offset_now marks_of
 mark_details = refl
 
 pub mark_faults : MarkFaults
-unfolding MarkFaults digits text_of offset_of marks_of
+unfolding MarkFaults digits text_of offset_now marks_of
 mark_faults = refl
 
 pub namespaces : Namespaces
-unfolding Namespaces text_of offset_of marks_of
+unfolding Namespaces text_of offset_now marks_of
 namespaces = refl
 
 pub highlight_groups : HighlightGroups
-unfolding HighlightGroups digits text_of offset_of marks_of
+unfolding HighlightGroups digits text_of offset_now marks_of
 highlight_groups = refl

@@ -2,41 +2,41 @@
 use Rattle.std.proofs.Common.{refl}
 use Rattle.std.specs.Fmt.{digits}
 use Rattle.nv_msgpack.specs.Shortest.{unsigned_spelling}
-use Rattle.nv_model.specs.Buffers.{text_of, offset_of, marks_of}
+use Rattle.nv_model.specs.Buffers.{text_of, offset_now, marks_of}
 use Rattle.nv_rows.specs.Worked.{EmptyText, IndexBounds, StartAboveEnd, TextPlaces, UndoBranches, SecondBuffer, NotModifiable, FaultTexts, CallsInOne}
 
 pub empty_text : EmptyText
-unfolding EmptyText unsigned_spelling text_of offset_of marks_of
+unfolding EmptyText unsigned_spelling text_of offset_now marks_of
 empty_text = refl
 
 pub index_bounds : IndexBounds
-unfolding IndexBounds text_of offset_of marks_of
+unfolding IndexBounds text_of offset_now marks_of
 index_bounds = refl
 
 pub start_above_end : StartAboveEnd
-unfolding StartAboveEnd text_of offset_of marks_of
+unfolding StartAboveEnd text_of offset_now marks_of
 start_above_end = refl
 
 pub text_places : TextPlaces
-unfolding TextPlaces text_of offset_of marks_of
+unfolding TextPlaces text_of offset_now marks_of
 text_places = refl
 
 pub undo_branches : UndoBranches
-unfolding UndoBranches text_of offset_of marks_of
+unfolding UndoBranches text_of offset_now marks_of
 undo_branches = refl
 
 pub second_buffer : SecondBuffer
-unfolding SecondBuffer text_of offset_of marks_of
+unfolding SecondBuffer text_of offset_now marks_of
 second_buffer = refl
 
 pub not_modifiable : NotModifiable
-unfolding NotModifiable text_of offset_of marks_of
+unfolding NotModifiable text_of offset_now marks_of
 not_modifiable = refl
 
 pub fault_texts : FaultTexts
-unfolding FaultTexts digits text_of offset_of marks_of
+unfolding FaultTexts digits text_of offset_now marks_of
 fault_texts = refl
 
 pub calls_in_one : CallsInOne
-unfolding CallsInOne text_of offset_of marks_of
+unfolding CallsInOne text_of offset_now marks_of
 calls_in_one = refl

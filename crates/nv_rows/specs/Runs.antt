@@ -4,21 +4,23 @@ use Rattle.nv_value.specs.Content.{Tree}
 use Rattle.nv_value.specs.declared.fault.ApiFault.{ApiFault}
 use Rattle.nv_model.specs.Editors.{ModelEditor, fresh_editor}
 use Rattle.nv_model.specs.declared.parts.Limits.{Limits}
-use Rattle.nv_rows.specs.Calls.{Outcome, left, call}
+use Rattle.nv_rows.specs.Calls.{CallOutcome, editor_after, outcome_of_call}
 
 -- a call: a method's name and its arguments
-pub record Asked : Type 0 where
+pub record NamedCall : Type 0 where
   pub name : List ℕ
   pub given : List Tree
 
 -- the results of whole calls, each in the editor that those before it left
-abbrev pub with_rest : ModelEditor → Outcome → (ModelEditor → List (Result Tree ApiFault)) → List (Result Tree ApiFault)
-with_rest m o rest = o.result ∷ rest (left m o)
+abbrev pub results_with_rest : ModelEditor → CallOutcome
+    → (ModelEditor → List (Result Tree ApiFault)) → List (Result Tree ApiFault)
+results_with_rest m o rest = o.result ∷ rest (editor_after m o)
 
-abbrev pub results_from : ModelEditor → ℕ → List Asked → List (Result Tree ApiFault)
+abbrev pub results_from : ModelEditor → ℕ → List NamedCall → List (Result Tree ApiFault)
 results_from m session [] = []
 results_from m session (asked ∷ calls) =
-    with_rest m (call m session asked.name asked.given) (λ after. results_from after session calls)
+    results_with_rest m (outcome_of_call m session asked.name asked.given)
+    (λ after. results_from after session calls)
 
 -- the limits of the server (own rule)
 abbrev pub usual_limits : Limits
@@ -36,5 +38,5 @@ usual_limits = record {
 }
 
 -- the results of calls of session 1 to a fresh editor
-abbrev pub results_of : List Asked → List (Result Tree ApiFault)
+abbrev pub results_of : List NamedCall → List (Result Tree ApiFault)
 results_of calls = results_from (fresh_editor usual_limits) 1 calls

@@ -1,7 +1,7 @@
 //! Laws of calls, each the contract of a function that does nothing.
 
 ghost use Rattle.nv_rows.specs.Laws.{AtomicIsOneByOne, AtomicStops, EachSpliceIsOneFact, NamesStandOnce, RefusedLeavesAll, RowsStandInTable, TicksCountFacts};
-ghost use Rattle.nv_rows.specs.WorkedMarks.{MarksMove, MarksPastEnd, MarksReverse, MarkDetails, MarkFaults, Namespaces, HighlightGroups};
+ghost use Rattle.nv_rows.specs.WorkedMarks.{MarksMoveWithText, MarksPastEnd, MarksReverse, MarkDetails, MarkFaults, Namespaces, HighlightGroups};
 ghost use Rattle.nv_rows.specs.WorkedWindows.{SplitRight, WidthWish, CloseSplit, TabNewClose, CursorMoves, OpeningFaults};
 ghost use Rattle.nv_rows.specs.Worked.{EmptyText, IndexBounds, StartAboveEnd, TextPlaces, UndoBranches, SecondBuffer, NotModifiable, FaultTexts, CallsInOne};
 
@@ -20,7 +20,7 @@ pub fn worked_runs()
 
 /// What calls on marks and highlight groups of a fresh editor answer, by the definitions alone.
 pub fn worked_marks()
-    ensures marks_move { MarksMove }
+    ensures marks_move { MarksMoveWithText }
     ensures marks_past_end { MarksPastEnd }
     ensures marks_reverse { MarksReverse }
     ensures mark_details { MarkDetails }
@@ -39,14 +39,15 @@ pub fn worked_windows()
     ensures opening_faults { OpeningFaults }
 {}
 
-/// The method of each name stands at one place of the table, and each row is that of a method of the table.
+/// The method of each name stands at one place of the table, and each row is that of a method of
+/// the table.
 pub fn table_laws()
     ensures once { NamesStandOnce }
     ensures rows { RowsStandInTable }
 {}
 
-/// A refused call leaves the editor as it was and tells nothing; each splice that a call makes is one fact, and raises the
-/// changedtick of its buffer by one.
+/// A refused call leaves the editor as it was and tells nothing; each splice that a call makes is
+/// one fact, and raises the changedtick of its buffer by one.
 pub fn call_laws()
     ensures refused { RefusedLeavesAll }
     ensures facts { EachSpliceIsOneFact }

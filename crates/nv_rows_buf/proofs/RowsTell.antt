@@ -4,40 +4,42 @@ use Rattle.std.specs.Prelude.{if◌then◌else◌, bytes_eq, option_map, option_
 use Rattle.std.proofs.lemmas.Option.{none-some, same_Some}
 use Rattle.std.specs.List.{AllByRecursion}
 use Rattle.nv_value.specs.Content.{Tree, nil, truth}
-use Rattle.nv_args.specs.Arguments.{truth_in, integer_in}
-use Rattle.nv_model.specs.Stage.{Stage, showing}
+use Rattle.nv_msgpack.specs.Handle.{integer_of}
+use Rattle.nv_args.specs.Arguments.{truth_in}
+use Rattle.nv_windows.specs.Workspace.{showing}
+use Rattle.nv_windows.specs.declared.window.Window.{Window}
+use Rattle.nv_model.specs.Stage.{Stage}
 use Rattle.nv_model.specs.Seen.{Seen}
-use Rattle.nv_model.specs.Changes.{Change, named, shown, buffer_dropped, buffer_made, tab_made, tab_closed, modifiable_put, modified_put, listed_put, tabstop_put}
+use Rattle.nv_model.specs.Operations.{Operation, name_put, shown, buffer_dropped, buffer_made, tab_made, tab_closed, modifiable_put, modified_put, listed_put, tabstop_put}
 use Rattle.nv_model.specs.Answers.{replied, deleted, attached, detached, quit}
 use Rattle.nv_model.specs.Laws.{splices_in, splices_among}
-use Rattle.nv_model.specs.declared.parts.Window.{Window}
 use Rattle.nv_rows_buf.specs.TextRows.{nvim_buf_line_count, nvim_buf_get_changedtick, nvim_buf_get_offset, nvim_buf_get_lines, nvim_buf_set_lines, nvim_buf_get_text, nvim_buf_set_text}
-use Rattle.nv_rows_buf.specs.BufferRows.{dropped, showing_instead, nvim_list_bufs, nvim_get_current_buf, nvim_set_current_buf, nvim_create_buf, nvim_buf_delete, nvim_buf_is_valid, nvim_buf_get_name, nvim_buf_set_name, nvim_buf_attach, nvim_buf_detach}
+use Rattle.nv_rows_buf.specs.BufferRows.{dropping_operations, showing_operations, nvim_list_bufs, nvim_get_current_buf, nvim_set_current_buf, nvim_create_buf, nvim_buf_delete, nvim_buf_is_valid, nvim_buf_get_name, nvim_buf_set_name, nvim_buf_attach, nvim_buf_detach}
 use Rattle.nv_rows_buf.specs.OptionRows.{BufferOption, buffer_options, option_among, option_named, tabstop_of, nvim_get_option_value, nvim_set_option_value}
 use Rattle.nv_rows_buf.specs.Commands.{Command, undo, redo, undo_to, tabnew, tabclose, quit_all}
-use Rattle.nv_rows_buf.specs.CommandRows.{commanded, nvim_command}
+use Rattle.nv_rows_buf.specs.CommandRows.{command_answer, nvim_command}
 use Rattle.nv_rows_buf.specs.Metadata.{nvim_get_api_info, nvim_set_client_info}
 use Rattle.nv_rows_buf.specs.Laws.{TellsSplices, RowTells, EachSpliceIsTold}
 use Rattle.nv_rows_buf.proofs.Telling.{tells_none, tells_splice, tells_answers, tells_unless, tells_barred, tells_found, tells_on_buffer, tells_legs}
 
 -- windows that show another buffer make no splice
-none_among_shown : (k n : ℤ) (windows : List Window) (more : List Change) → splices_among k (showing_instead n windows ++ more) ≡ splices_among k more
+none_among_shown : (k n : ℤ) (windows : List Window) (more : List Operation) → splices_among k (showing_operations n windows ++ more) ≡ splices_among k more
 none_among_shown k n [] more = refl
 none_among_shown k n (w ∷ ws) more = none_among_shown k n ws more
 
-none_among_dropped : (k : ℤ) (stage : Stage) (n : ℤ) (other : Option ℤ) → splices_among k (dropped stage n other) ≡ []
-none_among_dropped k stage n None = none_among_shown k stage.next_buffer (showing n stage.windows) (buffer_dropped n ∷ [])
-none_among_dropped k stage n (Some other) = none_among_shown k other (showing n stage.windows) (buffer_dropped n ∷ [])
+none_among_dropped : (k : ℤ) (stage : Stage) (n : ℤ) (other : Option ℤ) → splices_among k (dropping_operations stage n other) ≡ []
+none_among_dropped k stage n None = none_among_shown k stage.next_buffer (showing n stage.workspace.windows) (buffer_dropped n ∷ [])
+none_among_dropped k stage n (Some other) = none_among_shown k other (showing n stage.workspace.windows) (buffer_dropped n ∷ [])
 
 -- what is put for an option is no splice
-abbrev IsNoSplice : Option Change → Type 0
+abbrev IsNoSplice : Option Operation → Type 0
 IsNoSplice None = Unit {0}
 IsNoSplice (Some c) = (k : ℤ) → splices_in k c ≡ []
 
 abbrev PutsNoSplice : BufferOption → Type 0
 PutsNoSplice o = (n : ℤ) (t : Tree) → IsNoSplice (o.put n t)
 
-no_splice-map : {A : Type 0} (f : A → Change) → ((a : A) → (k : ℤ) → splices_in k (f a) ≡ []) → (x : Option A) → IsNoSplice (option_map f x)
+no_splice-map : {A : Type 0} (f : A → Operation) → ((a : A) → (k : ℤ) → splices_in k (f a) ≡ []) → (x : Option A) → IsNoSplice (option_map f x)
 no_splice-map f none None = tt
 no_splice-map f none (Some a) = none a
 
@@ -49,7 +51,7 @@ options_put_no_splice = (
     (
       λ n t. no_splice-map (listed_put n) (λ a k. refl) (truth_in t),
       (
-        λ n t. no_splice-map (tabstop_put n) (λ a k. refl) (option_and_then tabstop_of (integer_in t)),
+        λ n t. no_splice-map (tabstop_put n) (λ a k. refl) (option_and_then tabstop_of (integer_of t)),
         tt,
       ),
     ),
@@ -74,7 +76,7 @@ tells_tab_made s n = tells_none s nil (buffer_made true ∷ tab_made n ∷ []) [
 tells_tab_closed : (s : Seen) (t : ℤ) → TellsSplices s (replied nil (tab_closed t ∷ []) [])
 tells_tab_closed s t = tells_none s nil (tab_closed t ∷ []) [] (λ k. refl) (λ k. refl)
 
-tells_commands : (s : Seen) (c : Command) → TellsSplices s (commanded s c)
+tells_commands : (s : Seen) (c : Command) → TellsSplices s (command_answer s c)
 tells_commands s undo = search words
 tells_commands s redo = search words
 tells_commands s (undo_to k) = search words
@@ -94,12 +96,12 @@ command s session args = search (words, tells_commands)
 get_option : RowTells nvim_get_option_value
 get_option s session args = search words
 
-put_is_no_splice : (s : Seen) (o : BufferOption) (n : ℤ) (t : Tree) (c : Change) → PutsNoSplice o → o.put n t ≡ Some c → TellsSplices s (replied nil (c ∷ []) [])
+put_is_no_splice : (s : Seen) (o : BufferOption) (n : ℤ) (t : Tree) (c : Operation) → PutsNoSplice o → o.put n t ≡ Some c → TellsSplices s (replied nil (c ∷ []) [])
 put_is_no_splice s o n t c none is =
     let no_splice : IsNoSplice (Some c) = subst IsNoSplice is (none n t) in
     tells_none s nil (c ∷ []) [] (λ k. append-nil (splices_in k c) ∙ no_splice k) (λ k. refl)
 
-tells_option : (s : Seen) (name : List ℕ) (o : BufferOption) (n : ℤ) (t : Tree) (c : Change) → option_named name ≡ Some o → o.put n t ≡ Some c → TellsSplices s (replied nil (c ∷ []) [])
+tells_option : (s : Seen) (name : List ℕ) (o : BufferOption) (n : ℤ) (t : Tree) (c : Operation) → option_named name ≡ Some o → o.put n t ≡ Some c → TellsSplices s (replied nil (c ∷ []) [])
 tells_option s name o n t c known is = put_is_no_splice s o n t c (found PutsNoSplice buffer_options name o options_put_no_splice known) is
 
 set_option : RowTells nvim_set_option_value
@@ -123,8 +125,8 @@ tells_made s t listed = tells_none s t (buffer_made listed ∷ []) [] (λ k. ref
 create_buf : RowTells nvim_create_buf
 create_buf s session args = search (words, tells_made)
 
-tells_dropped : (s : Seen) (n : ℤ) (other : Option ℤ) → TellsSplices s (replied nil (dropped s.stage n other) (deleted n ∷ []))
-tells_dropped s n other = tells_none s nil (dropped s.stage n other) (deleted n ∷ []) (λ k. none_among_dropped k s.stage n other) (λ k. refl)
+tells_dropped : (s : Seen) (n : ℤ) (other : Option ℤ) → TellsSplices s (replied nil (dropping_operations s.stage n other) (deleted n ∷ []))
+tells_dropped s n other = tells_none s nil (dropping_operations s.stage n other) (deleted n ∷ []) (λ k. none_among_dropped k s.stage n other) (λ k. refl)
 
 delete_buf : RowTells nvim_buf_delete
 delete_buf s session args = search (words, tells_dropped)
@@ -135,8 +137,8 @@ is_valid s session args = search words
 get_name : RowTells nvim_buf_get_name
 get_name s session args = search words
 
-tells_named : (s : Seen) (n : ℤ) (name : List ℕ) → TellsSplices s (replied nil (named n name ∷ []) [])
-tells_named s n name = tells_none s nil (named n name ∷ []) [] (λ k. refl) (λ k. refl)
+tells_named : (s : Seen) (n : ℤ) (name : List ℕ) → TellsSplices s (replied nil (name_put n name ∷ []) [])
+tells_named s n name = tells_none s nil (name_put n name ∷ []) [] (λ k. refl) (λ k. refl)
 
 set_name : RowTells nvim_buf_set_name
 set_name s session args = search (words, tells_named)

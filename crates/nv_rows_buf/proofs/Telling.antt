@@ -10,16 +10,16 @@ use Rattle.nv_value.specs.declared.fault.ApiFault.{ApiFault}
 use Rattle.nv_buffer.specs.declared.buffer.Spliced.{Spliced}
 use Rattle.nv_undo.specs.Tree.{Undo}
 use Rattle.nv_undo.specs.declared.legs.Leg.{Leg}
-use Rattle.nv_model.specs.Buffers.{Splice, Kept, is_nothing, events_of}
+use Rattle.nv_model.specs.Buffers.{Splice, Kept, is_empty_splice, splice_events}
 use Rattle.nv_model.specs.Undoing.{leg_splices, legs_splices}
 use Rattle.nv_model.specs.Seen.{Seen, SeenBuffer, sealed_undo}
-use Rattle.nv_model.specs.Changes.{Change, spliced, spliced_back, stepped}
-use Rattle.nv_model.specs.Answers.{Answer, Fact, refused, replied, edited, unless, or_refused, on_buffer, edits, leg_changes, undo_changes, undo_splices}
+use Rattle.nv_model.specs.Operations.{Operation, spliced, spliced_back, stepped}
+use Rattle.nv_model.specs.Answers.{Answer, Fact, refused, replied, edited, unless, or_refused, on_buffer, edits, leg_operations, undo_operations, undo_splices}
 use Rattle.nv_model.specs.Laws.{splices_in, splices_among}
-use Rattle.nv_rows_buf.specs.Answering.{barred, answers}
-use Rattle.nv_rows_buf.specs.Texts.{event_in}
-use Rattle.nv_rows_buf.specs.TextRows.{makes_splice}
-use Rattle.nv_rows_buf.specs.CommandRows.{goes_by}
+use Rattle.nv_rows_buf.specs.Answering.{fault_or, reply_of}
+use Rattle.nv_rows_buf.specs.Texts.{event_of_splice}
+use Rattle.nv_rows_buf.specs.TextRows.{splice_answer}
+use Rattle.nv_rows_buf.specs.CommandRows.{legs_answer}
 use Rattle.nv_rows_buf.specs.Laws.{edits_among, text_seen, tick_seen, TellsSplices}
 
 -- ---- the words that rows are made of keep what is said of each fault and of the answer
@@ -40,7 +40,7 @@ keeps_or_refused Q r None f next h = r f
 keeps_or_refused Q r (Some a) f next h = h a refl
 
 pub keeps_barred :
-    (Q : Answer → Type 0) → ((f : ApiFault) → Q (refused f)) → (o : Option ApiFault) (a : Answer) → Q a → Q (barred o a)
+    (Q : Answer → Type 0) → ((f : ApiFault) → Q (refused f)) → (o : Option ApiFault) (a : Answer) → Q a → Q (fault_or o a)
 keeps_barred Q r None a q = q
 keeps_barred Q r (Some f) a q = r f
 
@@ -72,7 +72,7 @@ among-edited n k [] = sym (where_true-none (int_eq n k))
 among-edited n k (e ∷ es) =
     ap (λ (l : List Spliced). where_true (int_eq n k) (e ∷ []) ++ l) (among-edited n k es) ∙ where_true-cons (int_eq n k) e es
 
-among-leg : (n k : ℤ) (first : List ℕ) (undo : Undo Kept) (leg : Leg) → splices_among k (leg_changes n first undo leg) ≡ where_true (int_eq n k) (leg_splices first undo leg)
+among-leg : (n k : ℤ) (first : List ℕ) (undo : Undo Kept) (leg : Leg) → splices_among k (leg_operations n first undo leg) ≡ where_true (int_eq n k) (leg_splices first undo leg)
 among-leg n k first undo leg =
     flat_map-append (splices_in k) (map (spliced_back n) (leg_splices first undo leg)) (stepped n leg ∷ [])
     ∙ append-nil (splices_among k (map (spliced_back n) (leg_splices first undo leg)))
@@ -80,58 +80,58 @@ among-leg n k first undo leg =
 
 among-legs :
     (n k : ℤ) (first : List ℕ) (undo : Undo Kept) (legs : List Leg)
-    → splices_among k (flat_map (leg_changes n first undo) legs) ≡ where_true (int_eq n k) (legs_splices first undo legs)
+    → splices_among k (flat_map (leg_operations n first undo) legs) ≡ where_true (int_eq n k) (legs_splices first undo legs)
 among-legs n k first undo [] = sym (where_true-none (int_eq n k))
 among-legs n k first undo (leg ∷ legs) =
-    flat_map-append (splices_in k) (leg_changes n first undo leg) (flat_map (leg_changes n first undo) legs)
-    ∙ ap (λ (l : List Splice). l ++ splices_among k (flat_map (leg_changes n first undo) legs)) (among-leg n k first undo leg)
+    flat_map-append (splices_in k) (leg_operations n first undo leg) (flat_map (leg_operations n first undo) legs)
+    ∙ ap (λ (l : List Splice). l ++ splices_among k (flat_map (leg_operations n first undo) legs)) (among-leg n k first undo leg)
     ∙ ap (λ (l : List Splice). where_true (int_eq n k) (leg_splices first undo leg) ++ l) (among-legs n k first undo legs)
     ∙ where_true-append (int_eq n k) (leg_splices first undo leg) (legs_splices first undo legs)
 
 -- what is told of splices of one buffer, seen from any buffer
 told_in :
     (s : Seen) (n k : ℤ) (b : SeenBuffer) (ss : List Splice) (c : Bool) → s.buffer n ≡ Some b → int_eq n k ≡ c
-    → where_true c (events_of (flat b.lines) b.tick ss) ≡ events_of (text_seen s k) (tick_seen s k) (where_true c ss)
+    → where_true c (splice_events (flat b.lines) b.tick ss) ≡ splice_events (text_seen s k) (tick_seen s k) (where_true c ss)
 told_in s n k b ss false is e = refl
 told_in s n k b ss true is e =
-    subst (λ (k : ℤ). events_of (flat b.lines) b.tick ss ≡ events_of (text_seen s k) (tick_seen s k) ss) ((Decides-int_eq n k).0 e) (rw is refl)
+    subst (λ (k : ℤ). splice_events (flat b.lines) b.tick ss ≡ splice_events (text_seen s k) (tick_seen s k) ss) ((Decides-int_eq n k).0 e) (rw is refl)
 
--- changes that make some splices in one buffer alone, told by their events
+-- operations that make some splices in one buffer alone, told by their events
 pub tells_edits :
-    (s : Seen) (n : ℤ) (b : SeenBuffer) (ss : List Splice) (t : Tree) (changes : List Change) → s.buffer n ≡ Some b
-    → ((k : ℤ) → splices_among k changes ≡ where_true (int_eq n k) ss) → TellsSplices s (replied t changes (edits n b ss))
+    (s : Seen) (n : ℤ) (b : SeenBuffer) (ss : List Splice) (t : Tree) (operations : List Operation) → s.buffer n ≡ Some b
+    → ((k : ℤ) → splices_among k operations ≡ where_true (int_eq n k) ss) → TellsSplices s (replied t operations (edits n b ss))
 unfolding TellsSplices
-tells_edits s n b ss t changes is made k =
-    among-edited n k (events_of (flat b.lines) b.tick ss)
+tells_edits s n b ss t operations is made k =
+    among-edited n k (splice_events (flat b.lines) b.tick ss)
     ∙ told_in s n k b ss (int_eq n k) is refl
-    ∙ ap (events_of (text_seen s k) (tick_seen s k)) (sym (made k))
+    ∙ ap (splice_events (text_seen s k) (tick_seen s k)) (sym (made k))
 
--- changes that make no splice, and facts that tell of none
+-- operations that make no splice, and facts that tell of none
 pub tells_none :
-    (s : Seen) (t : Tree) (changes : List Change) (facts : List Fact)
-    → ((k : ℤ) → splices_among k changes ≡ []) → ((k : ℤ) → edits_among k facts ≡ []) → TellsSplices s (replied t changes facts)
+    (s : Seen) (t : Tree) (operations : List Operation) (facts : List Fact)
+    → ((k : ℤ) → splices_among k operations ≡ []) → ((k : ℤ) → edits_among k facts ≡ []) → TellsSplices s (replied t operations facts)
 unfolding TellsSplices
-tells_none s t changes facts none untold k = untold k ∙ ap (events_of (text_seen s k) (tick_seen s k)) (sym (none k))
+tells_none s t operations facts none untold k = untold k ∙ ap (splice_events (text_seen s k) (tick_seen s k)) (sym (none k))
 
 pub tells_fault : (s : Seen) (f : ApiFault) → TellsSplices s (refused f)
 unfolding TellsSplices
 tells_fault s f = tt
 
-pub tells_splice : (s : Seen) (n : ℤ) (b : SeenBuffer) (p : Splice) → s.buffer n ≡ Some b → TellsSplices s (makes_splice n b p)
+pub tells_splice : (s : Seen) (n : ℤ) (b : SeenBuffer) (p : Splice) → s.buffer n ≡ Some b → TellsSplices s (splice_answer n b p)
 tells_splice s n b p is =
-    chosen (TellsSplices s) (is_nothing p) (answers nil) (replied nil (spliced n p ∷ []) (edited n (event_in b p) ∷ []))
+    chosen (TellsSplices s) (is_empty_splice p) (reply_of nil) (replied nil (spliced n p ∷ []) (edited n (event_of_splice b p) ∷ []))
     (tells_none s nil [] [] (λ k. refl) (λ k. refl))
     (tells_edits s n b (p ∷ []) nil (spliced n p ∷ []) is (λ k. append-nil (where_true (int_eq n k) (p ∷ []))))
 
 -- ---- what is told by the words that rows are made of
 
-pub tells_answers : (s : Seen) (t : Tree) → TellsSplices s (answers t)
+pub tells_answers : (s : Seen) (t : Tree) → TellsSplices s (reply_of t)
 tells_answers s t = tells_none s t [] [] (λ k. refl) (λ k. refl)
 
 pub tells_unless : (s : Seen) (fs : List (Bool × ApiFault)) (a : Answer) → TellsSplices s a → TellsSplices s (unless fs a)
 tells_unless s fs a = keeps_unless (TellsSplices s) (tells_fault s) fs a
 
-pub tells_barred : (s : Seen) (o : Option ApiFault) (a : Answer) → TellsSplices s a → TellsSplices s (barred o a)
+pub tells_barred : (s : Seen) (o : Option ApiFault) (a : Answer) → TellsSplices s a → TellsSplices s (fault_or o a)
 tells_barred s o a = keeps_barred (TellsSplices s) (tells_fault s) o a
 
 pub tells_found :
@@ -146,9 +146,9 @@ tells_on_buffer s n next h = keeps_or_refused (TellsSplices s) (tells_fault s) _
 
 made_by_legs :
     (s : Seen) (n : ℤ) (b : SeenBuffer) (legs : List Leg) → s.buffer n ≡ Some b
-    → TellsSplices s (replied nil (undo_changes n b legs) (edits n b (undo_splices b legs)))
+    → TellsSplices s (replied nil (undo_operations n b legs) (edits n b (undo_splices b legs)))
 made_by_legs s n b legs is =
-    tells_edits s n b (undo_splices b legs) nil (undo_changes n b legs) is (λ k. among-legs n k b.first (sealed_undo b) legs)
+    tells_edits s n b (undo_splices b legs) nil (undo_operations n b legs) is (λ k. among-legs n k b.first (sealed_undo b) legs)
 
-pub tells_legs : (s : Seen) (n : ℤ) (b : SeenBuffer) (legs : List Leg) → s.buffer n ≡ Some b → TellsSplices s (goes_by s n b legs)
+pub tells_legs : (s : Seen) (n : ℤ) (b : SeenBuffer) (legs : List Leg) → s.buffer n ≡ Some b → TellsSplices s (legs_answer s n b legs)
 tells_legs s n b legs is = search (tells_unless, made_by_legs)

@@ -1,24 +1,24 @@
--- The methods on buffers as a whole: making, deleting, naming and listing them, and telling of them (help: api-buffer; the help tag of each is its name).
-use Rattle.std.specs.Prelude.{ℕ, ℤ, pos, ◌==◌, ◌^◌, Bool, true, false, not, ◌&&◌, nat_le, int_lt, List, [], ◌∷◌, ◌++◌, length, map, codes, bytes_eq, Option, Some, None, is_some, option_and_then, unwrap_or, slice_get, if◌then◌else◌}
+-- The methods on buffers as a whole: making, deleting, naming and listing them, and telling of them
+-- (help: api-buffer; the help tag of each is its name).
+use Rattle.std.specs.Prelude.{ℕ, ℤ, pos, ◌==◌, ◌^◌, Bool, true, false, not, ◌&&◌, nat_le, int_lt, List, [], ◌∷◌, ◌++◌, length, map, codes, bytes_eq, Option, Some, None, is_some, slice_get, if◌then◌else◌}
 use Rattle.std.specs.List.{list_any}
 use Rattle.std.specs.Ordering.{int_eq}
-use Rattle.nv_value.specs.Content.{Tree, nil, truth, text}
+use Rattle.nv_value.specs.Content.{nil, truth, text}
 use Rattle.nv_rpc.specs.Messages.{buffer_handle}
 use Rattle.nv_args.specs.Faults.{newline_inside, no_id_left, name_in_use, unsaved_changes, limit_reached}
-use Rattle.nv_args.specs.Arguments.{truth_in, last_pairs}
+use Rattle.nv_args.specs.Arguments.{last_pairs}
 use Rattle.nv_args.specs.Reading.{Arg, number_at, flag_at, string_at, pairs_at}
 use Rattle.nv_args.specs.Texts.{has_newline}
-use Rattle.nv_args.specs.Maps.{Key, map_fault, value_of}
-use Rattle.nv_model.specs.Stage.{Stage, current_buffer, current_window, or_current, showing}
+use Rattle.nv_args.specs.Maps.{map_fault}
+use Rattle.nv_windows.specs.Workspace.{current_buffer, current_window, showing}
+use Rattle.nv_windows.specs.Rooms.{last_handle}
+use Rattle.nv_windows.specs.declared.window.Window.{Window}
+use Rattle.nv_model.specs.Stage.{Stage, or_current}
 use Rattle.nv_model.specs.Seen.{Seen, SeenBuffer}
-use Rattle.nv_model.specs.Changes.{Change, named, buffer_made, buffer_dropped, shown}
+use Rattle.nv_model.specs.Operations.{Operation, name_put, buffer_made, buffer_dropped, shown}
 use Rattle.nv_model.specs.Answers.{Answer, attached, detached, deleted, replied, unless, on_buffer}
-use Rattle.nv_model.specs.declared.parts.Window.{Window}
-use Rattle.nv_rows_buf.specs.Answering.{answers, barred, array_of}
-
--- the greatest handle (own rule)
-abbrev pub last_handle : ℤ
-last_handle = pos (2 ^ 62)
+use Rattle.nv_rows_buf.specs.Answering.{reply_of, fault_or, array_of}
+use Rattle.nv_rows_buf.specs.Dicts.{flag_key, flag_or}
 
 -- whether no handle of a buffer is left
 abbrev pub no_buffer_left : Stage → Bool
@@ -30,16 +30,16 @@ buffers_are_full s = nat_le s.stage.limits.buffers (length s.handles)
 
 -- nvim_list_bufs(): the live buffers, rising
 abbrev pub nvim_list_bufs : Seen → ℕ → List Arg → Answer
-nvim_list_bufs s session args = answers (array_of (map buffer_handle s.handles))
+nvim_list_bufs s session args = reply_of (array_of (map buffer_handle s.handles))
 
 -- nvim_get_current_buf(): the buffer of the current window
 abbrev pub nvim_get_current_buf : Seen → ℕ → List Arg → Answer
-nvim_get_current_buf s session args = answers (buffer_handle (current_buffer s.stage))
+nvim_get_current_buf s session args = reply_of (buffer_handle (current_buffer s.stage.workspace))
 
 -- nvim_set_current_buf(buffer): the current window shows it, at row 0
 abbrev pub nvim_set_current_buf : Seen → ℕ → List Arg → Answer
 nvim_set_current_buf s session args = on_buffer s (number_at args 0) (λ n b.
-    replied nil (shown (current_window s.stage) n ∷ []) [])
+    replied nil (shown (current_window s.stage.workspace) n ∷ []) [])
 
 -- nvim_create_buf(listed, scratch): a new empty buffer; `scratch` has no effect (own rule)
 abbrev pub nvim_create_buf : Seen → ℕ → List Arg → Answer
@@ -51,47 +51,50 @@ nvim_create_buf s session args =
     (replied (buffer_handle s.stage.next_buffer) (buffer_made (flag_at args 0) ∷ []) [])
 
 -- the live buffers but one
-abbrev pub others : ℤ → List ℤ → List ℤ
-others n [] = []
-others n (k ∷ ks) = if int_eq k n then others n ks else k ∷ others n ks
+abbrev pub other_handles : ℤ → List ℤ → List ℤ
+other_handles n [] = []
+other_handles n (k ∷ ks) = if int_eq k n then other_handles n ks else k ∷ other_handles n ks
 
 -- the least buffer but one
 abbrev pub least_other : Seen → ℤ → Option ℤ
-least_other s n = slice_get (others n s.handles) 0
+least_other s n = slice_get (other_handles n s.handles) 0
 
--- what is changed where a buffer is deleted: the windows that showed it show the least other one, or a new empty one where there is none, at row 0 (own rule)
-abbrev pub showing_instead : ℤ → List Window → List Change
-showing_instead n windows = map (λ w. shown w.handle n) windows
+-- what is done where a buffer is deleted: the windows that showed it show the least other one, or a
+-- new empty one where there is none, at row 0 (own rule)
+abbrev pub showing_operations : ℤ → List Window → List Operation
+showing_operations n windows = map (λ w. shown w.handle n) windows
 
-abbrev pub dropped : Stage → ℤ → Option ℤ → List Change
-dropped stage n (Some other) = showing_instead other (showing n stage.windows) ++ buffer_dropped n ∷ []
-dropped stage n None = buffer_made true ∷ showing_instead stage.next_buffer (showing n stage.windows) ++ buffer_dropped n ∷ []
+abbrev pub dropping_operations : Stage → ℤ → Option ℤ → List Operation
+dropping_operations stage n (Some other) =
+    showing_operations other (showing n stage.workspace.windows) ++ buffer_dropped n ∷ []
+dropping_operations stage n None =
+    buffer_made true
+    ∷ showing_operations stage.next_buffer (showing n stage.workspace.windows) ++ buffer_dropped n
+    ∷ []
 
--- a key that takes a Boolean
-abbrev pub flag_key : List ℕ → Key
-flag_key name = record { name = name; takes = λ t. is_some (truth_in t); required = false }
-
--- whether a key among pairs that count is there and true
-abbrev pub has_flag : List ℕ → List (Tree × Tree) → Bool
-has_flag name pairs = unwrap_or (option_and_then truth_in (value_of name pairs)) false
-
--- nvim_buf_delete(buffer, opts): key `force`; a modified buffer needs it (own rule: a buffer is deleted whole, and another one may have to be made for its windows)
+-- nvim_buf_delete(buffer, opts): key `force`; a modified buffer needs it (own rule: a buffer is
+-- deleted whole, and another one may have to be made for its windows)
 abbrev pub nvim_buf_delete : Seen → ℕ → List Arg → Answer
 nvim_buf_delete s session args = on_buffer s (number_at args 0) (λ n b.
-    barred (map_fault (flag_key (codes "force") ∷ []) (last_pairs (pairs_at args 1))) (
+    fault_or (map_fault (flag_key (codes "force") ∷ []) (last_pairs (pairs_at args 1))) (
     unless (
     (length s.handles == 1 && no_buffer_left s.stage, no_id_left)
-    ∷ (b.modified && not (has_flag (codes "force") (last_pairs (pairs_at args 1))), unsaved_changes)
+    ∷ (
+      b.modified && not (flag_or false (codes "force") (last_pairs (pairs_at args 1))),
+      unsaved_changes,
+    )
     ∷ [])
-    (replied nil (dropped s.stage n (least_other s n)) (deleted n ∷ []))))
+    (replied nil (dropping_operations s.stage n (least_other s n)) (deleted n ∷ []))))
 
 -- nvim_buf_is_valid(buffer): whether a buffer of this handle is live
 abbrev pub nvim_buf_is_valid : Seen → ℕ → List Arg → Answer
-nvim_buf_is_valid s session args = answers (truth (is_some (s.buffer (or_current (current_buffer s.stage) (number_at args 0)))))
+nvim_buf_is_valid s session args =
+    reply_of (truth (is_some (s.buffer (or_current (current_buffer s.stage.workspace)
+    (number_at args 0)))))
 
 -- nvim_buf_get_name(buffer): the name as it was given
 abbrev pub nvim_buf_get_name : Seen → ℕ → List Arg → Answer
-nvim_buf_get_name s session args = on_buffer s (number_at args 0) (λ n b. answers (text b.name))
+nvim_buf_get_name s session args = on_buffer s (number_at args 0) (λ n b. reply_of (text b.name))
 
 -- whether a live buffer but this one has this name
 abbrev pub is_name_of : List ℕ → Option SeenBuffer → Bool
@@ -99,7 +102,9 @@ is_name_of name None = false
 is_name_of name (Some b) = bytes_eq b.name name
 
 abbrev pub is_taken : Seen → ℤ → List ℕ → Bool
-is_taken s n name = not (length name == 0) && list_any (λ k. is_name_of name (s.buffer k)) (others n s.handles)
+is_taken s n name =
+    not (length name == 0)
+    && list_any (λ k. is_name_of name (s.buffer k)) (other_handles n s.handles)
 
 -- nvim_buf_set_name(buffer, name): the name, which no other buffer has unless it is empty
 abbrev pub nvim_buf_set_name : Seen → ℕ → List Arg → Answer
@@ -108,14 +113,17 @@ nvim_buf_set_name s session args = on_buffer s (number_at args 0) (λ n b.
     (has_newline (string_at args 1), newline_inside)
     ∷ (is_taken s n (string_at args 1), name_in_use)
     ∷ [])
-    (replied nil (named n (string_at args 1) ∷ []) []))
+    (replied nil (name_put n (string_at args 1) ∷ []) []))
 
--- nvim_buf_attach(buffer, send_buffer, opts): the session is told of the buffer's splices, and first its lines where `send_buffer` is true, else its changedtick
+-- nvim_buf_attach(buffer, send_buffer, opts): the session is told of the buffer's splices, and
+-- first its lines where `send_buffer` is true, else its changedtick
 abbrev pub nvim_buf_attach : Seen → ℕ → List Arg → Answer
 nvim_buf_attach s session args = on_buffer s (number_at args 0) (λ n b.
-    barred (map_fault [] (last_pairs (pairs_at args 2)))
-    (replied (truth true) [] (attached n b.tick (if flag_at args 1 then Some b.lines else None) ∷ [])))
+    fault_or (map_fault [] (last_pairs (pairs_at args 2)))
+    (replied (truth true) []
+    (attached n b.tick (if flag_at args 1 then Some b.lines else None) ∷ [])))
 
 -- nvim_buf_detach(buffer): the session is no longer told of the buffer
 abbrev pub nvim_buf_detach : Seen → ℕ → List Arg → Answer
-nvim_buf_detach s session args = on_buffer s (number_at args 0) (λ n b. replied (truth true) [] (detached n ∷ []))
+nvim_buf_detach s session args =
+    on_buffer s (number_at args 0) (λ n b. replied (truth true) [] (detached n ∷ []))

@@ -1,6 +1,6 @@
 -- The texts of commands (help: nvim_command(), undo-commands, :tabnew, :tabclose, :qall).
 use Rattle.std.specs.Prelude.{ℕ, List, drop, take, codes, bytes_eq, Option, Some, None, option_map, if◌then◌else◌}
-use Rattle.nv_args.specs.Texts.{number_in}
+use Rattle.nv_args.specs.Texts.{decimal_number}
 
 -- the commands that are known
 pub data Command : Type 0 where
@@ -13,7 +13,9 @@ pub data Command : Type 0 where
 
 -- `undo N`: one space, and 1 to 18 decimal digits (help: :undo N; own rule for their number)
 abbrev pub undo_number : List ℕ → Option Command
-undo_number words = if bytes_eq (take 5 words) (codes "undo ") then option_map undo_to (number_in (drop 5 words)) else None
+undo_number words =
+    if bytes_eq (take 5 words) (codes "undo ")
+    then option_map undo_to (decimal_number (drop 5 words)) else None
 
 -- the command of a text, and none where it isn't known
 abbrev pub command_of : List ℕ → Option Command

@@ -6,7 +6,7 @@ use Rattle.std.specs.Ordering.{int_eq}
 use Rattle.nv_places.specs.Flat.{flat}
 use Rattle.nv_args.specs.Reading.{Arg}
 use Rattle.nv_buffer.specs.declared.buffer.Spliced.{Spliced}
-use Rattle.nv_model.specs.Buffers.{events_of}
+use Rattle.nv_model.specs.Buffers.{splice_events}
 use Rattle.nv_model.specs.Seen.{Seen}
 use Rattle.nv_model.specs.Answers.{Answer, Fact, refused, replied, edited}
 use Rattle.nv_model.specs.Laws.{splices_among}
@@ -28,11 +28,13 @@ text_seen s n = option_map_or (λ b. flat b.lines) (s.buffer n) []
 abbrev pub tick_seen : Seen → ℤ → ℕ
 tick_seen s n = option_map_or (λ b. b.tick) (s.buffer n) 0
 
--- what an answer tells of each buffer is its splices, one event for each, in order, with the changedtick counted up
+-- what an answer tells of each buffer is its splices, one event for each, in order, with the
+-- changedtick counted up
 unfoldable pub TellsSplices : Seen → Answer → Type 0
 TellsSplices s (refused fault) = ⊤
-TellsSplices s (replied result changes facts) =
-    (n : ℤ) → edits_among n facts ≡ events_of (text_seen s n) (tick_seen s n) (splices_among n changes)
+TellsSplices s (replied result operations facts) =
+    (n : ℤ) → edits_among n facts
+    ≡ splice_events (text_seen s n) (tick_seen s n) (splices_among n operations)
 
 -- so does each answer of a row
 abbrev pub RowTells : Row → Type 0

@@ -1,4 +1,5 @@
 pub mod Answering
+pub mod Dicts
 pub mod Texts
 pub mod TextRows
 pub mod BufferRows

@@ -1,44 +1,34 @@
--- What the server tells of its API (help: api-metadata, nvim_get_api_info(), ui-events). Its version numbers, those of `since` and the choice of keys are its own.
+-- What the server tells of its API (help: api-metadata, nvim_get_api_info(), ui-events). Its
+-- version numbers, those of `since` and the choice of keys are its own.
 use Prim.Native.String.{String}
-use Rattle.std.specs.Prelude.{ℕ, pos, Bool, false, ◌||◌, List, [], ◌∷◌, ◌++◌, length, take, map, codes, bytes_eq}
-use Rattle.nv_value.specs.Content.{Tree, nil, truth, integer, text, pairs, in_turn}
+use Rattle.std.specs.Prelude.{ℕ, Bool, false, ◌||◌, List, [], ◌∷◌, ◌++◌, length, take, map, codes, bytes_eq}
+use Rattle.nv_value.specs.Content.{Tree, nil, truth, text}
 use Rattle.nv_args.specs.Table.{Parameter, Signature, type_name, result_name, table}
 use Rattle.nv_args.specs.Reading.{Arg}
 use Rattle.nv_model.specs.Seen.{Seen}
 use Rattle.nv_model.specs.Answers.{Answer}
-use Rattle.nv_rows_buf.specs.Answering.{answers, array_of}
+use Rattle.nv_rows_buf.specs.Answering.{reply_of, array_of, natural, word, key_value, dict_of}
 
--- a key with its value, and a Dict of some
-abbrev pub entry : String → Tree → Tree × Tree
-entry key value = (text (codes key), value)
-
-abbrev pub dict_of : List (Tree × Tree) → Tree
-dict_of entries = pairs (in_turn entries)
-
-abbrev pub number : ℕ → Tree
-number n = integer (pos n)
-
-abbrev pub word : String → Tree
-word w = text (codes w)
-
+-- the server's version
 abbrev pub version : Tree
 version =
     dict_of (
-    entry "major" (number 0)
-    ∷ entry "minor" (number 11)
-    ∷ entry "patch" (number 0)
-    ∷ entry "api_level" (number 13)
-    ∷ entry "api_compatible" (number 0)
-    ∷ entry "api_prerelease" (truth false)
+    key_value "major" (natural 0)
+    ∷ key_value "minor" (natural 11)
+    ∷ key_value "patch" (natural 0)
+    ∷ key_value "api_level" (natural 13)
+    ∷ key_value "api_compatible" (natural 0)
+    ∷ key_value "api_prerelease" (truth false)
     ∷ [])
 
 -- whether a name begins so
-abbrev pub begins : List ℕ → String → Bool
-begins name front = bytes_eq (take (length (codes front)) name) (codes front)
+abbrev pub begins_with : List ℕ → String → Bool
+begins_with name front = bytes_eq (take (length (codes front)) name) (codes front)
 
 -- whether a method is one of a buffer, a window or a tabpage, by its name
 abbrev pub is_method : List ℕ → Bool
-is_method name = begins name "nvim_buf_" || begins name "nvim_win_" || begins name "nvim_tabpage_"
+is_method name =
+    begins_with name "nvim_buf_" || begins_with name "nvim_win_" || begins_with name "nvim_tabpage_"
 
 -- a parameter: its type and its name
 abbrev pub parameter : Parameter → Tree
@@ -47,60 +37,67 @@ parameter p = array_of (text (type_name p.kind) ∷ text p.name ∷ [])
 abbrev pub function : Signature → Tree
 function f =
     dict_of (
-    entry "name" (text f.name)
-    ∷ entry "since" (number 1)
-    ∷ entry "method" (truth (is_method f.name))
-    ∷ entry "parameters" (array_of (map parameter f.parameters))
-    ∷ entry "return_type" (text (result_name f.result))
+    key_value "name" (text f.name)
+    ∷ key_value "since" (natural 1)
+    ∷ key_value "method" (truth (is_method f.name))
+    ∷ key_value "parameters" (array_of (map parameter f.parameters))
+    ∷ key_value "return_type" (text (result_name f.result))
     ∷ [])
 
 -- an event of a UI: its name, and its parameters as their types and names
-abbrev pub typed : String → List String → List Tree
-typed kind [] = []
-typed kind (name ∷ names) = array_of (word kind ∷ word name ∷ []) ∷ typed kind names
+abbrev pub event_parameters : String → List String → List Tree
+event_parameters kind [] = []
+event_parameters kind (name ∷ names) =
+    array_of (word kind ∷ word name ∷ []) ∷ event_parameters kind names
 
-abbrev pub event : String → List Tree → Tree
-event name parameters =
-    dict_of (entry "name" (word name) ∷ entry "since" (number 1) ∷ entry "parameters" (array_of parameters) ∷ [])
+abbrev pub ui_event : String → List Tree → Tree
+ui_event name parameters =
+    dict_of (key_value "name" (word name) ∷ key_value "since" (natural 1)
+    ∷ key_value "parameters" (array_of parameters) ∷ [])
 
 abbrev pub ui_events : List Tree
 ui_events =
-    event "grid_resize" (typed "Integer" ("grid" ∷ "width" ∷ "height" ∷ []))
-    ∷ event "default_colors_set" (typed "Integer" ("rgb_fg" ∷ "rgb_bg" ∷ "rgb_sp" ∷ "cterm_fg" ∷ "cterm_bg" ∷ []))
-    ∷ event "hl_attr_define" (typed "Integer" ("id" ∷ []) ++ typed "Dict" ("rgb_attr" ∷ "cterm_attr" ∷ []) ++ typed "Array" ("info" ∷ []))
-    ∷ event "grid_clear" (typed "Integer" ("grid" ∷ []))
-    ∷ event "grid_scroll" (typed "Integer" ("grid" ∷ "top" ∷ "bot" ∷ "left" ∷ "right" ∷ "rows" ∷ "cols" ∷ []))
-    ∷ event "grid_line" (typed "Integer" ("grid" ∷ "row" ∷ "col_start" ∷ []) ++ typed "Array" ("cells" ∷ []) ++ typed "Boolean" ("wrap" ∷ []))
-    ∷ event "grid_cursor_goto" (typed "Integer" ("grid" ∷ "row" ∷ "col" ∷ []))
-    ∷ event "flush" []
+    ui_event "grid_resize" (event_parameters "Integer" ("grid" ∷ "width" ∷ "height" ∷ []))
+    ∷ ui_event "default_colors_set"
+    (event_parameters "Integer" ("rgb_fg" ∷ "rgb_bg" ∷ "rgb_sp" ∷ "cterm_fg" ∷ "cterm_bg" ∷ []))
+    ∷ ui_event "hl_attr_define" (event_parameters "Integer" ("id" ∷ [])
+    ++ event_parameters "Dict" ("rgb_attr" ∷ "cterm_attr" ∷ [])
+    ++ event_parameters "Array" ("info" ∷ []))
+    ∷ ui_event "grid_clear" (event_parameters "Integer" ("grid" ∷ []))
+    ∷ ui_event "grid_scroll" (event_parameters "Integer"
+    ("grid" ∷ "top" ∷ "bot" ∷ "left" ∷ "right" ∷ "rows" ∷ "cols" ∷ []))
+    ∷ ui_event "grid_line" (event_parameters "Integer" ("grid" ∷ "row" ∷ "col_start" ∷ [])
+    ++ event_parameters "Array" ("cells" ∷ []) ++ event_parameters "Boolean" ("wrap" ∷ []))
+    ∷ ui_event "grid_cursor_goto" (event_parameters "Integer" ("grid" ∷ "row" ∷ "col" ∷ []))
+    ∷ ui_event "flush" []
     ∷ []
 
 -- a type of handles: its number, and how the names of its methods begin
 abbrev pub handle_type : ℕ → String → Tree
-handle_type n prefix = dict_of (entry "id" (number n) ∷ entry "prefix" (word prefix) ∷ [])
+handle_type n prefix = dict_of (key_value "id" (natural n) ∷ key_value "prefix" (word prefix) ∷ [])
 
 abbrev pub metadata : Tree
 metadata =
     dict_of (
-    entry "version" version
-    ∷ entry "functions" (array_of (map function table))
-    ∷ entry "ui_events" (array_of ui_events)
-    ∷ entry "ui_options" (array_of (word "rgb" ∷ word "ext_linegrid" ∷ []))
-    ∷ entry "types" (dict_of (
-    entry "Buffer" (handle_type 0 "nvim_buf_")
-    ∷ entry "Window" (handle_type 1 "nvim_win_")
-    ∷ entry "Tabpage" (handle_type 2 "nvim_tabpage_")
+    key_value "version" version
+    ∷ key_value "functions" (array_of (map function table))
+    ∷ key_value "ui_events" (array_of ui_events)
+    ∷ key_value "ui_options" (array_of (word "rgb" ∷ word "ext_linegrid" ∷ []))
+    ∷ key_value "types" (dict_of (
+    key_value "Buffer" (handle_type 0 "nvim_buf_")
+    ∷ key_value "Window" (handle_type 1 "nvim_win_")
+    ∷ key_value "Tabpage" (handle_type 2 "nvim_tabpage_")
     ∷ []))
-    ∷ entry "error_types" (dict_of (
-    entry "Exception" (dict_of (entry "id" (number 0) ∷ []))
-    ∷ entry "Validation" (dict_of (entry "id" (number 1) ∷ []))
+    ∷ key_value "error_types" (dict_of (
+    key_value "Exception" (dict_of (key_value "id" (natural 0) ∷ []))
+    ∷ key_value "Validation" (dict_of (key_value "id" (natural 1) ∷ []))
     ∷ []))
     ∷ [])
 
 -- nvim_get_api_info(): the session's number and the metadata
 abbrev pub nvim_get_api_info : Seen → ℕ → List Arg → Answer
-nvim_get_api_info s session args = answers (array_of (number session ∷ metadata ∷ []))
+nvim_get_api_info s session args = reply_of (array_of (natural session ∷ metadata ∷ []))
 
 -- nvim_set_client_info(name, version, type, methods, attributes): nothing is kept (own rule)
 abbrev pub nvim_set_client_info : Seen → ℕ → List Arg → Answer
-nvim_set_client_info s session args = answers nil
+nvim_set_client_info s session args = reply_of nil

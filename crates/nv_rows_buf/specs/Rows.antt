@@ -18,6 +18,7 @@ Row = Seen → ℕ → List Arg → Answer
 abbrev pub row : String → Row → List ℕ × Row
 row name answer = (codes name, answer)
 
+-- the methods on buffers, options, commands and the API itself
 abbrev pub buffer_rows : List (List ℕ × Row)
 buffer_rows =
     row "nvim_get_api_info" nvim_get_api_info

@@ -5,7 +5,7 @@ use Rattle.nv_places.specs.Flat.{flat, lines_of, line_at}
 use Rattle.nv_places.specs.declared.place.Pos.{Pos}
 use Rattle.nv_args.specs.Arguments.{text_row, text_col}
 use Rattle.nv_buffer.specs.declared.buffer.Spliced.{Spliced}
-use Rattle.nv_model.specs.Buffers.{Splice, applied, is_nothing, event_of}
+use Rattle.nv_model.specs.Buffers.{Splice, text_after, is_empty_splice, splice_event}
 use Rattle.nv_model.specs.Seen.{SeenBuffer}
 use Rattle.nv_model.specs.declared.parts.Limits.{Limits}
 
@@ -16,21 +16,26 @@ is_no_index (negsuc index) lines = true
 
 -- the place of a text that two arguments name, in a line of it (help: nvim_buf_get_text())
 abbrev pub place_in_row : List (List ℕ) → ℤ → ℕ → Option Pos
-place_in_row lines col row = option_map (λ c. record { row = row; col = c }) (text_col col (length (line_at lines row)))
+place_in_row lines col row =
+    option_map (λ c. record { row = row; col = c }) (text_col col (length (line_at lines row)))
 
 abbrev pub place_named : List (List ℕ) → ℤ → ℤ → Option Pos
 place_named lines row col = option_and_then (place_in_row lines col) (text_row row (length lines))
 
--- whether an event would pass a limit: the number of lines afterwards, the length of a line that now stands there, or the changedtick
+-- whether an event would pass a limit: the number of lines afterwards, the length of a line that
+-- now stands there, or the changedtick
 abbrev pub event_passes : Limits → ℕ → Spliced → Bool
 event_passes limits lines event =
-    nat_lt limits.lines lines || list_any (λ line. nat_lt limits.line_bytes (length line)) event.lines || int_lt limits.ticks event.tick
+    nat_lt limits.lines lines
+    || list_any (λ line. nat_lt limits.line_bytes (length line)) event.edit.lines
+    || int_lt limits.ticks event.tick
 
 -- what is told of a splice of a buffer
-abbrev pub event_in : SeenBuffer → Splice → Spliced
-event_in b s = event_of (flat b.lines) (b.tick + 1) s
+abbrev pub event_of_splice : SeenBuffer → Splice → Spliced
+event_of_splice b s = splice_event (flat b.lines) (b.tick + 1) s
 
 -- whether a splice would pass a limit
-abbrev pub passes_limit : Limits → SeenBuffer → Splice → Bool
-passes_limit limits b s =
-    not (is_nothing s) && event_passes limits (length (lines_of (applied (flat b.lines) s))) (event_in b s)
+abbrev pub splice_passes_limit : Limits → SeenBuffer → Splice → Bool
+splice_passes_limit limits b s =
+    not (is_empty_splice s)
+    && event_passes limits (length (lines_of (text_after (flat b.lines) s))) (event_of_splice b s)

@@ -13,22 +13,23 @@ use Rattle.nv_hl.specs.declared.linking.Group.TheVariants.{Plain, Link}
 use Rattle.nv_hl.specs.declared.linking.Group.{Group}
 use Rattle.nv_model.specs.Stage.{Stage}
 use Rattle.nv_model.specs.Seen.{Seen}
-use Rattle.nv_model.specs.Changes.{Change, group_put}
+use Rattle.nv_model.specs.Operations.{Operation, group_put}
 use Rattle.nv_model.specs.Answers.{Answer, replied, unless}
-use Rattle.nv_rows_buf.specs.Answering.{answers, barred}
-use Rattle.nv_rows_buf.specs.Metadata.{number, dict_of}
-use Rattle.nv_rows_mark.specs.Groups.{is_group_name, misnamed, wrong_value_of, naming_fault, makes_group, groups_with, id_among}
-use Rattle.nv_rows_mark.specs.Setting.{flag_or}
-use Rattle.nv_rows_mark.specs.Highlights.{highlight_keys, linking_keys, attr_in, group_told}
+use Rattle.nv_rows_buf.specs.Answering.{reply_of, fault_or, natural, dict_of}
+use Rattle.nv_rows_buf.specs.Dicts.{flag_or}
+use Rattle.nv_rows_mark.specs.Groups.{is_group_name, bad_name_fault, wrong_value_of, naming_fault, group_operations, groups_with, id_among}
+use Rattle.nv_rows_mark.specs.Highlights.{highlight_keys, linking_keys, attr_in, group_entries}
 
 -- the fault of an argument that is no group's name
 abbrev pub name_fault : List ℕ → Option ApiFault
-name_fault name = if is_group_name name then None else Some misnamed
+name_fault name = if is_group_name name then None else Some bad_name_fault
 
--- the fault of a group's name and the Dict behind it: unknown keys, then the name, then the values in their order
+-- the fault of a group's name and the Dict behind it: unknown keys, then the name, then the values
+-- in their order
 abbrev pub highlight_fault : List ℕ → List (Tree × Tree) → Option ApiFault
 highlight_fault name pairs =
-    or_else (unknown_key highlight_keys pairs) (or_else (name_fault name) (wrong_value_of linking_keys highlight_keys pairs))
+    or_else (unknown_key highlight_keys pairs)
+    (or_else (name_fault name) (wrong_value_of linking_keys highlight_keys pairs))
 
 -- the name that is linked to, where there is one
 abbrev pub link_in : List (Tree × Tree) → Option (List ℕ)
@@ -40,53 +41,71 @@ group_in groups name pairs None = Plain (attr_in pairs)
 group_in groups name pairs (Some link) = Link (id_among (groups_with groups name) link)
 
 -- the groups that are made for it: of its name, and then of the one that it links to
-abbrev pub link_made : List NamedGroup → Option (List ℕ) → List Change
-link_made groups None = []
-link_made groups (Some link) = makes_group groups link
+abbrev pub link_operations : List NamedGroup → Option (List ℕ) → List Operation
+link_operations groups None = []
+link_operations groups (Some link) = group_operations groups link
 
-abbrev pub groups_made : List NamedGroup → List ℕ → Option (List ℕ) → List Change
-groups_made groups name link = makes_group groups name ++ link_made (groups_with groups name) link
+abbrev pub groups_operations : List NamedGroup → List ℕ → Option (List ℕ) → List Operation
+groups_operations groups name link =
+    group_operations groups name ++ link_operations (groups_with groups name) link
 
 -- a group stays where `default` is true and it was put before, or isn't empty at first
 abbrev pub stays : List NamedGroup → List ℕ → List (Tree × Tree) → Bool
-stays groups name pairs = flag_or false (codes "default") pairs && option_map_or (was_put_at groups) (known_id groups name) false
+stays groups name pairs = flag_or false (codes "default") pairs
+    && option_map_or (was_put_at groups) (known_id groups name) false
 
 -- a group put, with those that are made for it
-abbrev pub puts_group : Stage → List ℕ → List (Tree × Tree) → Answer
-puts_group stage name pairs =
-    unless ((nat_lt stage.limits.groups (length stage.groups + length (groups_made stage.groups name (link_in pairs))), limit_reached) ∷ [])
-    (replied nil (groups_made stage.groups name (link_in pairs) ++ group_put (id_among stage.groups name) (group_in stage.groups name pairs (link_in pairs)) ∷ []) [])
+abbrev pub group_put_answer : Stage → List ℕ → List (Tree × Tree) → Answer
+group_put_answer stage name pairs =
+    unless ((
+      nat_lt stage.limits.groups
+          (length stage.groups + length (groups_operations stage.groups name (link_in pairs))),
+      limit_reached,
+    ) ∷ [])
+    (replied nil (groups_operations stage.groups name (link_in pairs)
+    ++ group_put (id_among stage.groups name) (group_in stage.groups name pairs (link_in pairs))
+    ∷ []) [])
 
-abbrev pub sets_group : Stage → ℤ → List ℕ → List (Tree × Tree) → Answer
-sets_group stage namespace name pairs =
-    barred (highlight_fault name pairs) (
+abbrev pub group_answer : Stage → ℤ → List ℕ → List (Tree × Tree) → Answer
+group_answer stage namespace name pairs =
+    fault_or (highlight_fault name pairs) (
     unless ((not (int_eq namespace (pos 0)), out_of_bounds) ∷ [])
-    (if stays stage.groups name pairs then answers nil else puts_group stage name pairs))
+    (if stays stage.groups name pairs then reply_of nil else group_put_answer stage name pairs))
 
--- nvim_set_hl(ns_id, name, val): the group of a name is put, made where it isn't known; with `default` only where it wasn't put before
+-- nvim_set_hl(ns_id, name, val): the group of a name is put, made where it isn't known; with
+-- `default` only where it wasn't put before
 abbrev pub nvim_set_hl : Seen → ℕ → List Arg → Answer
-nvim_set_hl s session args = sets_group s.stage (number_at args 0) (string_at args 1) (last_pairs (pairs_at args 2))
+nvim_set_hl s session args =
+    group_answer s.stage (number_at args 0) (string_at args 1) (last_pairs (pairs_at args 2))
 
 -- the key `name`, which is required
 abbrev pub name_keys : List Key
-name_keys = (record { name = codes "name"; takes = λ t. is_some (string_in t); required = true }) ∷ []
+name_keys = (record { name = codes "name"; takes = λ t. is_some (string_in t); required = true })
+    ∷ []
 
-abbrev pub name_in : List (Tree × Tree) → List ℕ
-name_in pairs = unwrap_or (option_and_then string_in (value_of (codes "name") pairs)) []
+abbrev pub given_name : List (Tree × Tree) → List ℕ
+given_name pairs = unwrap_or (option_and_then string_in (value_of (codes "name") pairs)) []
 
-abbrev pub tells_group : Stage → ℤ → List (Tree × Tree) → Answer
-tells_group stage namespace pairs =
-    barred (naming_fault (codes "name" ∷ []) name_keys pairs) (
+abbrev pub group_reply : Stage → ℤ → List (Tree × Tree) → Answer
+group_reply stage namespace pairs =
+    fault_or (naming_fault (codes "name" ∷ []) name_keys pairs) (
     unless ((not (int_eq namespace (pos 0)), out_of_bounds) ∷ [])
-    (answers (dict_of (group_told stage.groups (option_and_then (group_at stage.groups) (known_id stage.groups (name_in pairs)))))))
+    (reply_of (dict_of (group_entries stage.groups
+    (option_and_then (group_at stage.groups) (known_id stage.groups (given_name pairs)))))))
 
--- nvim_get_hl(ns_id, opts): the group of the key `name`: what it links to, or its colours and flags; nothing of an unknown one
+-- nvim_get_hl(ns_id, opts): the group of the key `name`: what it links to, or its colours and
+-- flags; nothing of an unknown one
 abbrev pub nvim_get_hl : Seen → ℕ → List Arg → Answer
-nvim_get_hl s session args = tells_group s.stage (number_at args 0) (last_pairs (pairs_at args 1))
+nvim_get_hl s session args = group_reply s.stage (number_at args 0) (last_pairs (pairs_at args 1))
 
 -- nvim_get_hl_id_by_name(name): the id of a group, which is made empty where it isn't known
 abbrev pub nvim_get_hl_id_by_name : Seen → ℕ → List Arg → Answer
 nvim_get_hl_id_by_name s session args =
-    barred (name_fault (string_at args 0)) (
-    unless ((nat_lt s.stage.limits.groups (length s.stage.groups + length (makes_group s.stage.groups (string_at args 0))), limit_reached) ∷ [])
-    (replied (number (id_among s.stage.groups (string_at args 0))) (makes_group s.stage.groups (string_at args 0)) []))
+    fault_or (name_fault (string_at args 0)) (
+    unless ((
+      nat_lt s.stage.limits.groups
+          (length s.stage.groups + length (group_operations s.stage.groups (string_at args 0))),
+      limit_reached,
+    ) ∷ [])
+    (replied (natural (id_among s.stage.groups (string_at args 0)))
+    (group_operations s.stage.groups (string_at args 0)) []))

@@ -4,38 +4,42 @@ use Rattle.std.specs.Char.{is_ascii_hexdigit}
 use Rattle.std.specs.List.{list_all}
 use Rattle.std.specs.Str.Parse.{digits_value}
 use Rattle.nv_value.specs.Content.{Tree, truth, text}
-use Rattle.nv_args.specs.Arguments.{integer_in, string_in}
+use Rattle.nv_msgpack.specs.Handle.{integer_of}
+use Rattle.nv_args.specs.Arguments.{string_in}
 use Rattle.nv_args.specs.Maps.{Key, value_of}
 use Rattle.nv_hl.specs.Groups.{NamedGroup, name_at}
 use Rattle.nv_hl.specs.declared.attribute.Attr.{Attr}
 use Rattle.nv_hl.specs.declared.linking.Group.{Group}
 use Rattle.nv_hl.specs.declared.linking.Group.TheVariants.{Plain, Link}
-use Rattle.nv_rows_buf.specs.Metadata.{number, entry}
-use Rattle.nv_rows_mark.specs.Setting.{between, flag_or, optional, takes_flag}
+use Rattle.nv_rows_buf.specs.Answering.{natural, key_value}
+use Rattle.nv_rows_buf.specs.Dicts.{number_between, takes_flag, optional_key, flag_or}
 
 -- a colour by six hexadecimal digits behind a number sign
 abbrev pub colour_of_digits : List ℕ → Option ℕ
-colour_of_digits digits = if length digits == 6 && list_all is_ascii_hexdigit digits then Some (digits_value 16 digits) else None
+colour_of_digits digits =
+    if length digits == 6 && list_all is_ascii_hexdigit digits
+    then Some (digits_value 16 digits) else None
 
 -- a colour by its words: none of its own, or its digits
 abbrev pub colour_in_words : List ℕ → Option (Option ℕ)
 colour_in_words words =
     if bytes_eq words (codes "NONE") then Some None
-    else if bytes_eq (take 1 words) (codes "#") then option_map Some (colour_of_digits (drop 1 words))
+    else if bytes_eq (take 1 words) (codes "#")
+    then option_map Some (colour_of_digits (drop 1 words))
     else None
 
 -- a colour as a value: as words, or as a number
 abbrev pub colour_by : Option (List ℕ) → Option ℤ → Option (Option ℕ)
 colour_by (Some words) given = colour_in_words words
-colour_by None (Some n) = option_map Some (between 0 16777215 n)
+colour_by None (Some n) = option_map Some (number_between 0 16777215 n)
 colour_by None None = None
 
 abbrev pub colour_in : Tree → Option (Option ℕ)
-colour_in t = colour_by (string_in t) (integer_in t)
+colour_in t = colour_by (string_in t) (integer_of t)
 
 -- a terminal's colour
 abbrev pub terminal_colour_in : Tree → Option ℕ
-terminal_colour_in t = option_and_then (between 0 255) (integer_in t)
+terminal_colour_in t = option_and_then (number_between 0 255) (integer_of t)
 
 -- values that a key takes
 abbrev takes_colour : Tree → Bool
@@ -50,19 +54,19 @@ takes_string t = is_some (string_in t)
 -- the keys
 abbrev pub highlight_keys : List Key
 highlight_keys =
-    optional (codes "fg") takes_colour
-    ∷ optional (codes "bg") takes_colour
-    ∷ optional (codes "sp") takes_colour
-    ∷ optional (codes "ctermfg") takes_terminal_colour
-    ∷ optional (codes "ctermbg") takes_terminal_colour
-    ∷ optional (codes "reverse") takes_flag
-    ∷ optional (codes "italic") takes_flag
-    ∷ optional (codes "bold") takes_flag
-    ∷ optional (codes "underline") takes_flag
-    ∷ optional (codes "undercurl") takes_flag
-    ∷ optional (codes "strikethrough") takes_flag
-    ∷ optional (codes "link") takes_string
-    ∷ optional (codes "default") takes_flag
+    optional_key (codes "fg") takes_colour
+    ∷ optional_key (codes "bg") takes_colour
+    ∷ optional_key (codes "sp") takes_colour
+    ∷ optional_key (codes "ctermfg") takes_terminal_colour
+    ∷ optional_key (codes "ctermbg") takes_terminal_colour
+    ∷ optional_key (codes "reverse") takes_flag
+    ∷ optional_key (codes "italic") takes_flag
+    ∷ optional_key (codes "bold") takes_flag
+    ∷ optional_key (codes "underline") takes_flag
+    ∷ optional_key (codes "undercurl") takes_flag
+    ∷ optional_key (codes "strikethrough") takes_flag
+    ∷ optional_key (codes "link") takes_string
+    ∷ optional_key (codes "default") takes_flag
     ∷ []
 
 -- the key that names a group
@@ -71,7 +75,8 @@ linking_keys = codes "link" ∷ []
 
 -- a colour by its key among pairs that count
 abbrev pub colour_at : List ℕ → List (Tree × Tree) → Option ℕ
-colour_at name pairs = option_and_then (λ colour. colour) (option_and_then colour_in (value_of name pairs))
+colour_at name pairs =
+    option_and_then (λ colour. colour) (option_and_then colour_in (value_of name pairs))
 
 abbrev pub terminal_colour_at : List ℕ → List (Tree × Tree) → Option ℕ
 terminal_colour_at name pairs = option_and_then terminal_colour_in (value_of name pairs)
@@ -93,33 +98,33 @@ attr_in pairs = record {
 }
 
 -- what is told of a colour where there is one, and of a flag where it is set
-abbrev pub told_colour : Tree × Tree → Option ℕ → List (Tree × Tree)
-told_colour key None = []
-told_colour key (Some colour) = (key.0, number colour) ∷ []
+abbrev pub colour_entry : Tree × Tree → Option ℕ → List (Tree × Tree)
+colour_entry key None = []
+colour_entry key (Some colour) = (key.0, natural colour) ∷ []
 
-abbrev pub told_flag : Tree × Tree → Bool → List (Tree × Tree)
-told_flag key set = if set then key ∷ [] else []
+abbrev pub flag_entry : Tree × Tree → Bool → List (Tree × Tree)
+flag_entry key is_set = if is_set then key ∷ [] else []
 
-abbrev set : Tree
-set = truth true
+abbrev set_flag : Tree
+set_flag = truth true
 
 -- an attribute as it is told, its keys in their order
-abbrev pub attr_told : Attr → List (Tree × Tree)
-attr_told attr =
-    told_colour (entry "fg" set) attr.fg
-    ++ (told_colour (entry "bg" set) attr.bg
-    ++ (told_colour (entry "sp" set) attr.sp
-    ++ (told_colour (entry "ctermfg" set) attr.ctermfg
-    ++ (told_colour (entry "ctermbg" set) attr.ctermbg
-    ++ (told_flag (entry "reverse" set) attr.reverse
-    ++ (told_flag (entry "italic" set) attr.italic
-    ++ (told_flag (entry "bold" set) attr.bold
-    ++ (told_flag (entry "underline" set) attr.underline
-    ++ (told_flag (entry "undercurl" set) attr.undercurl
-    ++ told_flag (entry "strikethrough" set) attr.strikethrough)))))))))
+abbrev pub attr_entries : Attr → List (Tree × Tree)
+attr_entries attr =
+    colour_entry (key_value "fg" set_flag) attr.fg
+    ++ (colour_entry (key_value "bg" set_flag) attr.bg
+    ++ (colour_entry (key_value "sp" set_flag) attr.sp
+    ++ (colour_entry (key_value "ctermfg" set_flag) attr.ctermfg
+    ++ (colour_entry (key_value "ctermbg" set_flag) attr.ctermbg
+    ++ (flag_entry (key_value "reverse" set_flag) attr.reverse
+    ++ (flag_entry (key_value "italic" set_flag) attr.italic
+    ++ (flag_entry (key_value "bold" set_flag) attr.bold
+    ++ (flag_entry (key_value "underline" set_flag) attr.underline
+    ++ (flag_entry (key_value "undercurl" set_flag) attr.undercurl
+    ++ flag_entry (key_value "strikethrough" set_flag) attr.strikethrough)))))))))
 
 -- a group as it is told: the name that it links to, or its attribute
-abbrev pub group_told : List NamedGroup → Option Group → List (Tree × Tree)
-group_told groups None = []
-group_told groups (Some (Plain attr)) = attr_told attr
-group_told groups (Some (Link id)) = entry "link" (text (name_at groups id)) ∷ []
+abbrev pub group_entries : List NamedGroup → Option Group → List (Tree × Tree)
+group_entries groups None = []
+group_entries groups (Some (Plain attr)) = attr_entries attr
+group_entries groups (Some (Link id)) = key_value "link" (text (name_at groups id)) ∷ []

@@ -6,5 +6,5 @@ use Rattle.nv_rows_buf.specs.Laws.{RowTells}
 use Rattle.nv_rows_mark.specs.Rows.{mark_rows}
 
 -- no row makes a splice, and none tells of one
-abbrev pub NoSpliceIsTold : Type 0
-NoSpliceIsTold = AllByRecursion (λ (entry : List ℕ × Row). RowTells entry.1) mark_rows
+abbrev pub MarkRowsTell : Type 0
+MarkRowsTell = AllByRecursion (λ (entry : List ℕ × Row). RowTells entry.1) mark_rows

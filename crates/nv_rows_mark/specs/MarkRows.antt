@@ -16,24 +16,24 @@ use Rattle.nv_marks.specs.declared.extmark.Mark.{Mark}
 use Rattle.nv_marks.specs.declared.extmark.Paint.{Paint}
 use Rattle.nv_model.specs.Stage.{Stage}
 use Rattle.nv_model.specs.Seen.{Seen, SeenBuffer}
-use Rattle.nv_model.specs.Changes.{Change, mark_set, mark_removed}
+use Rattle.nv_model.specs.Operations.{Operation, mark_set, mark_removed}
 use Rattle.nv_model.specs.Answers.{Answer, replied, unless, or_refused, on_buffer}
-use Rattle.nv_rows_buf.specs.Answering.{answers, barred, array_of}
-use Rattle.nv_rows_buf.specs.BufferRows.{flag_key, has_flag}
-use Rattle.nv_rows_buf.specs.Metadata.{number, entry, dict_of}
-use Rattle.nv_rows_mark.specs.Namespaces.{made_namespace}
-use Rattle.nv_rows_mark.specs.Groups.{naming_fault, makes_group}
-use Rattle.nv_rows_mark.specs.Setting.{greatest_mark, mark_id_in, priority_in, has_end, mark_keys, naming_keys, flag_or, mark_place, end_place, far_at, group_name, group_number, paint_of}
+use Rattle.nv_rows_buf.specs.Answering.{reply_of, fault_or, array_of, natural, key_value, dict_of}
+use Rattle.nv_rows_buf.specs.Dicts.{flag_key, flag_or}
+use Rattle.nv_rows_mark.specs.Namespaces.{namespace_of_id}
+use Rattle.nv_rows_mark.specs.Groups.{naming_fault, group_operations}
+use Rattle.nv_rows_mark.specs.Setting.{greatest_mark_id, mark_id_in, priority_in, has_end, mark_keys, naming_keys, place_by_numbers, end_place, far_at, group_name, group_number, paint_of}
 
--- the id that a mark gets: the one that is given, else one more than the greatest that was ever set there (own rule)
-abbrev pub next_mark : SeenBuffer → ℕ → Option ℕ → ℕ
-next_mark b ns (Some id) = id
-next_mark b ns None = suc (b.greatest ns)
+-- the id that a mark gets: the one that is given, else one more than the greatest that was ever set
+-- there (own rule)
+abbrev pub next_mark_id : SeenBuffer → ℕ → Option ℕ → ℕ
+next_mark_id b ns (Some id) = id
+next_mark_id b ns None = suc (b.greatest ns)
 
 -- whether no id is left for a mark without one
 abbrev pub no_mark_left : SeenBuffer → ℕ → Option ℕ → Bool
 no_mark_left b ns (Some id) = false
-no_mark_left b ns None = nat_le greatest_mark (b.greatest ns)
+no_mark_left b ns None = nat_le greatest_mark_id (b.greatest ns)
 
 -- whether a number is no group's
 abbrev pub is_no_group : List NamedGroup → Option ℤ → Bool
@@ -46,15 +46,16 @@ group_words None = []
 group_words (Some id) = signed_decimal id
 
 -- how many groups are made for a name
-abbrev pub groups_made : List NamedGroup → Option (List ℕ) → List Change
-groups_made groups None = []
-groups_made groups (Some name) = makes_group groups name
+abbrev pub wanted_group_operations : List NamedGroup → Option (List ℕ) → List Operation
+wanted_group_operations groups None = []
+wanted_group_operations groups (Some name) = group_operations groups name
 
 -- whether a further mark, or a further group, would pass its limit
-abbrev pub passes_limit : Stage → SeenBuffer → ℕ → ℕ → Option (List ℕ) → Bool
-passes_limit stage b ns id name =
+abbrev pub mark_passes_limit : Stage → SeenBuffer → ℕ → ℕ → Option (List ℕ) → Bool
+mark_passes_limit stage b ns id name =
     (is_none (mark_at b.marks ns id) && nat_le stage.limits.marks (length b.marks))
-    || nat_lt stage.limits.groups (length stage.groups + length (groups_made stage.groups name))
+    || nat_lt stage.limits.groups
+    (length stage.groups + length (wanted_group_operations stage.groups name))
 
 -- the mark
 abbrev pub mark_with : List NamedGroup → ℕ → ℕ → Pos → Option Far → List (Tree × Tree) → Mark
@@ -73,35 +74,43 @@ abbrev pub given_id : List (Tree × Tree) → Option ℕ
 given_id pairs = option_and_then mark_id_in (value_of (codes "id") pairs)
 
 -- a mark set at a start, with an end that may lie before it
-abbrev pub sets_mark : Seen → ℤ → SeenBuffer → ℕ → Pos → Option Far → List (Tree × Tree) → Answer
-sets_mark s n b ns start stop pairs =
-    let id = next_mark b ns (given_id pairs) in
+abbrev pub mark_answer : Seen → ℤ → SeenBuffer → ℕ → Pos → Option Far → List (Tree × Tree) → Answer
+mark_answer s n b ns start stop pairs =
+    let id = next_mark_id b ns (given_id pairs) in
     unless (
     (option_map_or (λ far. is_before far.pos start) stop false, start_after_end)
     ∷ (no_mark_left b ns (given_id pairs), no_id_left)
-    ∷ (is_no_group s.stage.groups (group_number pairs), unknown_name (group_words (group_number pairs)))
-    ∷ (passes_limit s.stage b ns id (group_name pairs), limit_reached)
+    ∷ (
+      is_no_group s.stage.groups (group_number pairs),
+      unknown_name (group_words (group_number pairs)),
+    )
+    ∷ (mark_passes_limit s.stage b ns id (group_name pairs), limit_reached)
     ∷ [])
-    (replied (number id) (groups_made s.stage.groups (group_name pairs) ++ mark_set n (mark_with s.stage.groups ns id start stop pairs) ∷ []) [])
+    (replied (natural id) (wanted_group_operations s.stage.groups (group_name pairs)
+    ++ mark_set n (mark_with s.stage.groups ns id start stop pairs) ∷ []) [])
 
 -- the end, where one is wanted
-abbrev pub with_end : Seen → ℤ → SeenBuffer → ℕ → Pos → List (Tree × Tree) → Answer
-with_end s n b ns start pairs =
+abbrev pub mark_answer_with_end : Seen → ℤ → SeenBuffer → ℕ → Pos → List (Tree × Tree) → Answer
+mark_answer_with_end s n b ns start pairs =
     if has_end pairs
-    then or_refused (end_place b.lines start pairs) out_of_bounds (λ place. sets_mark s n b ns start (Some (far_at pairs place)) pairs)
-    else sets_mark s n b ns start None pairs
+    then or_refused (end_place b.lines start pairs) out_of_bounds
+    (λ place. mark_answer s n b ns start (Some (far_at pairs place)) pairs)
+    else mark_answer s n b ns start None pairs
 
-abbrev pub sets_at : Seen → ℤ → ℤ → ℤ → ℤ → List (Tree × Tree) → Answer
-sets_at s buffer namespace row col pairs =
+abbrev pub mark_answer_at : Seen → ℤ → ℤ → ℤ → ℤ → List (Tree × Tree) → Answer
+mark_answer_at s buffer namespace row col pairs =
     on_buffer s buffer (λ n b.
-    barred (naming_fault naming_keys (mark_keys pairs) pairs) (
-    or_refused (made_namespace s.stage namespace) out_of_bounds (λ ns.
-    or_refused (mark_place (flag_or true (codes "strict") pairs) b.lines row col) out_of_bounds (λ start.
-    with_end s n b ns start pairs))))
+    fault_or (naming_fault naming_keys (mark_keys pairs) pairs) (
+    or_refused (namespace_of_id s.stage namespace) out_of_bounds (λ ns.
+    or_refused (place_by_numbers
+    (flag_or true (codes "strict") pairs) b.lines row col) out_of_bounds (λ start.
+    mark_answer_with_end s n b ns start pairs))))
 
--- nvim_buf_set_extmark(buffer, ns_id, line, col, opts): a mark is set, anew as a whole where its id is there; its id
+-- nvim_buf_set_extmark(buffer, ns_id, line, col, opts): a mark is set, anew as a whole where its id
+-- is there; its id
 abbrev pub nvim_buf_set_extmark : Seen → ℕ → List Arg → Answer
-nvim_buf_set_extmark s session args = sets_at s (number_at args 0) (number_at args 1) (number_at args 2) (number_at args 3) (last_pairs (pairs_at args 4))
+nvim_buf_set_extmark s session args = mark_answer_at s (number_at args 0) (number_at args 1)
+    (number_at args 2) (number_at args 3) (last_pairs (pairs_at args 4))
 
 -- the mark of a namespace and a number, where it is there
 abbrev pub mark_numbered : SeenBuffer → ℕ → ℤ → Option Mark
@@ -109,52 +118,56 @@ mark_numbered b ns (pos id) = mark_at b.marks ns id
 mark_numbered b ns (negsuc n) = None
 
 -- a mark removed, where it is there
-abbrev pub removes : ℤ → Option Mark → Answer
-removes n None = answers (truth false)
-removes n (Some m) = replied (truth true) (mark_removed n m.ns m.id ∷ []) []
+abbrev pub removal_answer : ℤ → Option Mark → Answer
+removal_answer n None = reply_of (truth false)
+removal_answer n (Some m) = replied (truth true) (mark_removed n m.ns m.id ∷ []) []
 
 -- nvim_buf_del_extmark(buffer, ns_id, id): whether it was there
 abbrev pub nvim_buf_del_extmark : Seen → ℕ → List Arg → Answer
 nvim_buf_del_extmark s session args =
     on_buffer s (number_at args 0) (λ n b.
-    or_refused (made_namespace s.stage (number_at args 1)) out_of_bounds (λ ns.
-    removes n (mark_numbered b ns (number_at args 2))))
+    or_refused (namespace_of_id s.stage (number_at args 1)) out_of_bounds (λ ns.
+    removal_answer n (mark_numbered b ns (number_at args 2))))
 
 -- what is told of the end of a mark, and of what it shows
 abbrev pub end_details : Option Far → List (Tree × Tree)
 end_details None = []
 end_details (Some far) =
-    entry "end_row" (number far.pos.row)
-    ∷ entry "end_col" (number far.pos.col)
-    ∷ entry "end_right_gravity" (truth far.right)
+    key_value "end_row" (natural far.pos.row)
+    ∷ key_value "end_col" (natural far.pos.col)
+    ∷ key_value "end_right_gravity" (truth far.right)
     ∷ []
 
 abbrev pub paint_details : List NamedGroup → Option Paint → List (Tree × Tree)
 paint_details groups None = []
-paint_details groups (Some paint) = entry "hl_group" (text (name_at groups paint.group)) ∷ entry "hl_eol" (truth paint.eol) ∷ []
+paint_details groups (Some paint) = key_value "hl_group" (text (name_at groups paint.group))
+    ∷ key_value "hl_eol" (truth paint.eol) ∷ []
 
 -- the details of a mark
 abbrev pub details_of : List NamedGroup → Mark → Tree
 details_of groups m =
     dict_of (
-    entry "ns_id" (number m.ns)
-    ∷ entry "right_gravity" (truth m.right)
-    ∷ entry "priority" (number m.priority)
+    key_value "ns_id" (natural m.ns)
+    ∷ key_value "right_gravity" (truth m.right)
+    ∷ key_value "priority" (natural m.priority)
     ∷ end_details m.stop ++ paint_details groups m.paint)
 
 -- the place of a mark, and its details where they are wanted
-abbrev pub place_told : List NamedGroup → Bool → Mark → List Tree
-place_told groups details m =
-    number m.start.row ∷ number m.start.col ∷ (if details then details_of groups m ∷ [] else [])
+abbrev pub place_values : List NamedGroup → Bool → Mark → List Tree
+place_values groups details m =
+    natural m.start.row ∷ natural m.start.col ∷ (if details then details_of groups m ∷ [] else [])
 
-abbrev pub told_if : List NamedGroup → Bool → Option Mark → List Tree
-told_if groups details None = []
-told_if groups details (Some m) = place_told groups details m
+abbrev pub place_values_if_any : List NamedGroup → Bool → Option Mark → List Tree
+place_values_if_any groups details None = []
+place_values_if_any groups details (Some m) = place_values groups details m
 
--- nvim_buf_get_extmark_by_id(buffer, ns_id, id, opts): its row and column, with key `details` the details too, and an empty Array where it isn't there
+-- nvim_buf_get_extmark_by_id(buffer, ns_id, id, opts): its row and column, with key `details` the
+-- details too, and an empty Array where it isn't there
 abbrev pub nvim_buf_get_extmark_by_id : Seen → ℕ → List Arg → Answer
 nvim_buf_get_extmark_by_id s session args =
     on_buffer s (number_at args 0) (λ n b.
-    barred (map_fault (flag_key (codes "details") ∷ []) (last_pairs (pairs_at args 3))) (
-    or_refused (made_namespace s.stage (number_at args 1)) out_of_bounds (λ ns.
-    answers (array_of (told_if s.stage.groups (has_flag (codes "details") (last_pairs (pairs_at args 3))) (mark_numbered b ns (number_at args 2)))))))
+    fault_or (map_fault (flag_key (codes "details") ∷ []) (last_pairs (pairs_at args 3))) (
+    or_refused (namespace_of_id s.stage (number_at args 1)) out_of_bounds (λ ns.
+    reply_of (array_of (place_values_if_any s.stage.groups
+    (flag_or false (codes "details") (last_pairs (pairs_at args 3)))
+    (mark_numbered b ns (number_at args 2)))))))

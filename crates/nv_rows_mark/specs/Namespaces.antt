@@ -7,47 +7,52 @@ use Rattle.nv_args.specs.Faults.{limit_reached}
 use Rattle.nv_args.specs.Reading.{Arg, string_at}
 use Rattle.nv_model.specs.Stage.{Stage}
 use Rattle.nv_model.specs.Seen.{Seen}
-use Rattle.nv_model.specs.Changes.{namespace_made}
+use Rattle.nv_model.specs.Operations.{namespace_made}
 use Rattle.nv_model.specs.Answers.{Answer, replied, unless}
-use Rattle.nv_rows_buf.specs.Answering.{answers}
-use Rattle.nv_rows_buf.specs.Metadata.{number, dict_of}
+use Rattle.nv_rows_buf.specs.Answering.{reply_of, natural, dict_of}
 
 -- the id of a namespace by its name; none has the empty name
 abbrev pub namespace_named : List ℕ → Stage → Option ℕ
-namespace_named name stage = if length name == 0 then None else option_map suc (position (bytes_eq name) stage.namespaces)
+namespace_named name stage =
+    if length name == 0 then None else option_map suc (position (bytes_eq name) stage.namespaces)
 
 -- a number that was given to a namespace (own rule: another one is out of bounds)
-abbrev pub made_namespace : Stage → ℤ → Option ℕ
-made_namespace stage (pos ns) = if nat_le 1 ns && nat_le ns (length stage.namespaces) then Some ns else None
-made_namespace stage (negsuc n) = None
+abbrev pub namespace_of_id : Stage → ℤ → Option ℕ
+namespace_of_id stage (pos ns) =
+    if nat_le 1 ns && nat_le ns (length stage.namespaces) then Some ns else None
+namespace_of_id stage (negsuc n) = None
 
 -- the next namespace
-abbrev pub makes_namespace : Stage → List ℕ → Answer
-makes_namespace stage name =
+abbrev pub new_namespace_answer : Stage → List ℕ → Answer
+new_namespace_answer stage name =
     unless ((nat_le stage.limits.namespaces (length stage.namespaces), limit_reached) ∷ [])
-    (replied (number (length stage.namespaces + 1)) (namespace_made name ∷ []) [])
+    (replied (natural (length stage.namespaces + 1)) (namespace_made name ∷ []) [])
 
-abbrev pub known_or_made : Stage → List ℕ → Option ℕ → Answer
-known_or_made stage name (Some ns) = answers (number ns)
-known_or_made stage name None = makes_namespace stage name
+abbrev pub namespace_answer : Stage → List ℕ → Option ℕ → Answer
+namespace_answer stage name (Some ns) = reply_of (natural ns)
+namespace_answer stage name None = new_namespace_answer stage name
 
 -- nvim_create_namespace(name): the id of a known name, and else a new one, from 1
 abbrev pub nvim_create_namespace : Seen → ℕ → List Arg → Answer
-nvim_create_namespace s session args = known_or_made s.stage (string_at args 0) (namespace_named (string_at args 0) s.stage)
+nvim_create_namespace s session args =
+    namespace_answer s.stage (string_at args 0) (namespace_named (string_at args 0) s.stage)
 
 -- a name and its id put among others by the bytes of the names
-abbrev pub put_by_name : List ℕ × ℕ → List (List ℕ × ℕ) → List (List ℕ × ℕ)
-put_by_name entry [] = entry ∷ []
-put_by_name entry (other ∷ others) =
-    if is_lt (slice_cmp nat_cmp other.0 entry.0) then other ∷ put_by_name entry others else entry ∷ other ∷ others
+abbrev pub in_name_order : List ℕ × ℕ → List (List ℕ × ℕ) → List (List ℕ × ℕ)
+in_name_order entry [] = entry ∷ []
+in_name_order entry (other ∷ others) =
+    if is_lt (slice_cmp nat_cmp other.0 entry.0) then other ∷ in_name_order entry others
+    else entry ∷ other ∷ others
 
 -- the namespaces that have a name, the first of them with this id, by the bytes of their names
-abbrev pub named_from : ℕ → List (List ℕ) → List (List ℕ × ℕ)
-named_from id [] = []
-named_from id (name ∷ names) =
-    if length name == 0 then named_from (suc id) names else put_by_name (name, id) (named_from (suc id) names)
+abbrev pub named_namespaces : ℕ → List (List ℕ) → List (List ℕ × ℕ)
+named_namespaces id [] = []
+named_namespaces id (name ∷ names) =
+    if length name == 0 then named_namespaces (suc id) names
+    else in_name_order (name, id) (named_namespaces (suc id) names)
 
 -- nvim_get_namespaces(): the ids by their names
 abbrev pub nvim_get_namespaces : Seen → ℕ → List Arg → Answer
 nvim_get_namespaces s session args =
-    answers (dict_of (map (λ entry. (text entry.0, number entry.1)) (named_from 1 s.stage.namespaces)))
+    reply_of (dict_of (map (λ entry. (text entry.0, natural entry.1))
+    (named_namespaces 1 s.stage.namespaces)))

@@ -6,6 +6,7 @@ use Rattle.nv_rows_mark.specs.MarkRows.{nvim_buf_set_extmark, nvim_buf_del_extma
 use Rattle.nv_rows_mark.specs.Listing.{nvim_buf_get_extmarks, nvim_buf_clear_namespace}
 use Rattle.nv_rows_mark.specs.GroupRows.{nvim_set_hl, nvim_get_hl, nvim_get_hl_id_by_name}
 
+-- the methods on namespaces, extmarks and highlight groups
 abbrev pub mark_rows : List (List ℕ × Row)
 mark_rows =
     row "nvim_create_namespace" nvim_create_namespace

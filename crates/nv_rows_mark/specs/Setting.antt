@@ -1,94 +1,91 @@
--- How a mark is set: the keys of its options, and the places that numbers name (help: nvim_buf_set_extmark()).
+-- How a mark is set: the keys of its options, and the places that numbers name (help:
+-- nvim_buf_set_extmark()).
 use Rattle.std.specs.Prelude.{ℕ, ℤ, pos, negsuc, ◌==◌, Bool, true, false, ◌&&◌, ◌||◌, nat_le, List, [], ◌∷◌, length, codes, Option, Some, None, is_some, option_map, option_and_then, unwrap_or, if◌then◌else◌}
 use Rattle.nv_value.specs.Content.{Tree}
 use Rattle.nv_places.specs.Flat.{line_at}
 use Rattle.nv_places.specs.declared.place.Pos.{Pos}
-use Rattle.nv_args.specs.Arguments.{integer_in, truth_in, string_in}
+use Rattle.nv_msgpack.specs.Handle.{integer_of}
+use Rattle.nv_args.specs.Arguments.{string_in}
 use Rattle.nv_args.specs.Maps.{Key, value_of}
 use Rattle.nv_hl.specs.Groups.{NamedGroup}
 use Rattle.nv_marks.specs.declared.extmark.Far.{Far}
 use Rattle.nv_marks.specs.declared.extmark.Paint.{Paint}
+use Rattle.nv_rows_buf.specs.Dicts.{number_between, takes_flag, optional_key, flag_or}
 use Rattle.nv_rows_mark.specs.Groups.{id_among}
 
--- a number from a least to a greatest one
-abbrev pub between : ℕ → ℕ → ℤ → Option ℕ
-between low high (pos n) = if nat_le low n && nat_le n high then Some n else None
-between low high (negsuc n) = None
-
 -- the ids of marks, and their priorities (own rule)
-abbrev pub greatest_mark : ℕ
-greatest_mark = 4294967295
+abbrev pub greatest_mark_id : ℕ
+greatest_mark_id = 4294967295
 
 abbrev pub mark_id_in : Tree → Option ℕ
-mark_id_in t = option_and_then (between 1 greatest_mark) (integer_in t)
+mark_id_in t = option_and_then (number_between 1 greatest_mark_id) (integer_of t)
 
 abbrev pub priority_in : Tree → Option ℕ
-priority_in t = option_and_then (between 0 65535) (integer_in t)
+priority_in t = option_and_then (number_between 0 65535) (integer_of t)
 
 -- values that a key takes
 abbrev takes_integer : Tree → Bool
-takes_integer t = is_some (integer_in t)
-
-abbrev pub takes_flag : Tree → Bool
-takes_flag t = is_some (truth_in t)
+takes_integer t = is_some (integer_of t)
 
 abbrev takes_group : Tree → Bool
-takes_group t = is_some (string_in t) || is_some (integer_in t)
-
--- a key that needn't be there
-abbrev pub optional : List ℕ → (Tree → Bool) → Key
-optional name takes = record { name = name; takes = takes; required = false }
+takes_group t = is_some (string_in t) || is_some (integer_of t)
 
 -- a mark has an end where pairs that count have one of its keys
 abbrev pub has_end : List (Tree × Tree) → Bool
-has_end pairs = is_some (value_of (codes "end_row") pairs) || is_some (value_of (codes "end_col") pairs)
+has_end pairs =
+    is_some (value_of (codes "end_row") pairs) || is_some (value_of (codes "end_col") pairs)
 
 -- the keys for pairs that count: a gravity of the end isn't taken without an end
 abbrev pub mark_keys : List (Tree × Tree) → List Key
 mark_keys pairs =
-    optional (codes "id") (λ t. is_some (mark_id_in t))
-    ∷ optional (codes "end_row") takes_integer
-    ∷ optional (codes "end_col") takes_integer
-    ∷ optional (codes "hl_group") takes_group
-    ∷ optional (codes "hl_eol") takes_flag
-    ∷ optional (codes "priority") (λ t. is_some (priority_in t))
-    ∷ optional (codes "right_gravity") takes_flag
-    ∷ optional (codes "end_right_gravity") (λ t. takes_flag t && has_end pairs)
-    ∷ optional (codes "strict") takes_flag
+    optional_key (codes "id") (λ t. is_some (mark_id_in t))
+    ∷ optional_key (codes "end_row") takes_integer
+    ∷ optional_key (codes "end_col") takes_integer
+    ∷ optional_key (codes "hl_group") takes_group
+    ∷ optional_key (codes "hl_eol") takes_flag
+    ∷ optional_key (codes "priority") (λ t. is_some (priority_in t))
+    ∷ optional_key (codes "right_gravity") takes_flag
+    ∷ optional_key (codes "end_right_gravity") (λ t. takes_flag t && has_end pairs)
+    ∷ optional_key (codes "strict") takes_flag
     ∷ []
 
 -- the keys that name a group
 abbrev pub naming_keys : List (List ℕ)
 naming_keys = codes "hl_group" ∷ []
 
--- a Boolean by its key among pairs that count, and an Integer
-abbrev pub flag_or : Bool → List ℕ → List (Tree × Tree) → Bool
-flag_or other name pairs = unwrap_or (option_and_then truth_in (value_of name pairs)) other
-
+-- an Integer by its key among pairs that count, and another where it isn't there
 abbrev pub integer_or : ℤ → List ℕ → List (Tree × Tree) → ℤ
-integer_or other name pairs = unwrap_or (option_and_then integer_in (value_of name pairs)) other
+integer_or other name pairs = unwrap_or (option_and_then integer_of (value_of name pairs)) other
 
--- the row that a number names in a text of so many lines: up to the one after the last, and a greater one is that one where places aren't strict
-abbrev pub mark_row : Bool → ℕ → ℤ → Option ℕ
-mark_row strict lines (pos row) = if nat_le row lines then Some row else if strict then None else Some lines
-mark_row strict lines (negsuc n) = None
+-- the row that a number names in a text of so many lines: up to the one after the last, and a
+-- greater one is that one where places aren't strict
+abbrev pub row_by_number : Bool → ℕ → ℤ → Option ℕ
+row_by_number strict lines (pos row) =
+    if nat_le row lines then Some row else if strict then None else Some lines
+row_by_number strict lines (negsuc n) = None
 
--- the column that a number names in a line of so many bytes: -1 is its end, and a greater one is that where places aren't strict
-abbrev pub mark_col : Bool → ℕ → ℤ → Option ℕ
-mark_col strict bytes (pos col) = if nat_le col bytes then Some col else if strict then None else Some bytes
-mark_col strict bytes (negsuc n) = if n == 0 then Some bytes else None
+-- the column that a number names in a line of so many bytes: -1 is its end, and a greater one is
+-- that where places aren't strict
+abbrev pub col_by_number : Bool → ℕ → ℤ → Option ℕ
+col_by_number strict bytes (pos col) =
+    if nat_le col bytes then Some col else if strict then None else Some bytes
+col_by_number strict bytes (negsuc n) = if n == 0 then Some bytes else None
 
 -- the place that two numbers name in a text
-abbrev pub mark_place : Bool → List (List ℕ) → ℤ → ℤ → Option Pos
-mark_place strict lines row col =
+abbrev pub place_by_numbers : Bool → List (List ℕ) → ℤ → ℤ → Option Pos
+place_by_numbers strict lines row col =
     option_and_then
-    (λ r. option_map (λ c. record { row = r; col = c }) (mark_col strict (length (line_at lines r)) col))
-    (mark_row strict (length lines) row)
+    (λ r. option_map (λ c. record { row = r; col = c })
+    (col_by_number strict (length (line_at lines r)) col))
+    (row_by_number strict (length lines) row)
 
--- the place of the end: in the row of the start where no row is given, and at column 0 where no column is
+-- the place of the end: in the row of the start where no row is given, and at column 0 where no
+-- column is
 abbrev pub end_place : List (List ℕ) → Pos → List (Tree × Tree) → Option Pos
 end_place lines start pairs =
-    mark_place (flag_or true (codes "strict") pairs) lines (integer_or (pos start.row) (codes "end_row") pairs) (integer_or (pos 0) (codes "end_col") pairs)
+    place_by_numbers (flag_or true (codes "strict") pairs) lines
+    (integer_or (pos start.row) (codes "end_row") pairs)
+    (integer_or (pos 0) (codes "end_col") pairs)
 
 -- the end with its gravity
 abbrev pub far_at : List (Tree × Tree) → Pos → Far
@@ -99,7 +96,7 @@ abbrev pub group_name : List (Tree × Tree) → Option (List ℕ)
 group_name pairs = option_and_then string_in (value_of (codes "hl_group") pairs)
 
 abbrev pub group_number : List (Tree × Tree) → Option ℤ
-group_number pairs = option_and_then integer_in (value_of (codes "hl_group") pairs)
+group_number pairs = option_and_then integer_of (value_of (codes "hl_group") pairs)
 
 -- the id of the group, a name's once there is a group of it
 abbrev pub group_id : List NamedGroup → Option (List ℕ) → Option ℤ → Option ℕ
@@ -111,4 +108,5 @@ group_id groups None None = None
 -- what the mark shows; without a group nothing (own rule)
 abbrev pub paint_of : List NamedGroup → List (Tree × Tree) → Option Paint
 paint_of groups pairs =
-    option_map (λ id. record { group = id; eol = flag_or false (codes "hl_eol") pairs }) (group_id groups (group_name pairs) (group_number pairs))
+    option_map (λ id. record { group = id; eol = flag_or false (codes "hl_eol") pairs })
+    (group_id groups (group_name pairs) (group_number pairs))

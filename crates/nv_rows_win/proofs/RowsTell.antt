@@ -5,27 +5,30 @@ use Rattle.nv_args.specs.Faults.{last_one}
 use Rattle.nv_value.specs.Content.{Tree, nil}
 use Rattle.nv_places.specs.declared.place.Pos.{Pos}
 use Rattle.nv_layout.specs.declared.nodes.Axis.{Axis}
-use Rattle.nv_model.specs.Stage.{Stage, Tabpage}
+use Rattle.nv_windows.specs.Workspace.{Page}
+use Rattle.nv_windows.specs.Rooms.{has_one_window}
+use Rattle.nv_windows.specs.Operations.{has_one_tabpage}
+use Rattle.nv_windows.specs.declared.window.Window.{Window}
+use Rattle.nv_model.specs.Stage.{Stage}
 use Rattle.nv_model.specs.Seen.{Seen}
-use Rattle.nv_model.specs.Changes.{window_closed, tab_closed, went_to_window, went_to_tab, cursor_put, shown, wish_put}
+use Rattle.nv_model.specs.Operations.{window_closed, tab_closed, went_to_window, went_to_tab, cursor_put, shown, wish_put}
 use Rattle.nv_model.specs.Answers.{Answer, replied, on_window, on_tabpage}
 use Rattle.nv_model.specs.Laws.{splices_among}
-use Rattle.nv_model.specs.declared.parts.Window.{Window}
 use Rattle.nv_rows_buf.specs.Laws.{TellsSplices, RowTells}
 use Rattle.nv_rows_buf.proofs.Telling.{tells_none, tells_answers, tells_unless, tells_barred, tells_found, tells_on_buffer, chosen}
-use Rattle.nv_rows_win.specs.WindowRows.{opened, closed, has_one_window, nvim_list_wins, nvim_get_current_win, nvim_set_current_win, nvim_open_win, nvim_win_close, nvim_win_is_valid, nvim_win_get_buf, nvim_win_set_buf, nvim_win_get_cursor, nvim_win_set_cursor, nvim_win_get_height, nvim_win_get_width, nvim_win_set_height, nvim_win_set_width, nvim_win_get_position, nvim_win_get_tabpage}
+use Rattle.nv_rows_win.specs.WindowRows.{opening_operations, closing_answer, nvim_list_wins, nvim_get_current_win, nvim_set_current_win, nvim_open_win, nvim_win_close, nvim_win_is_valid, nvim_win_get_buf, nvim_win_set_buf, nvim_win_get_cursor, nvim_win_set_cursor, nvim_win_get_height, nvim_win_get_width, nvim_win_set_height, nvim_win_set_width, nvim_win_get_position, nvim_win_get_tabpage}
 use Rattle.nv_rows_win.specs.TabpageRows.{nvim_list_tabpages, nvim_get_current_tabpage, nvim_set_current_tabpage, nvim_tabpage_is_valid, nvim_tabpage_list_wins, nvim_tabpage_get_win, nvim_tabpage_get_number}
-use Rattle.nv_rows_win.specs.Laws.{NoSpliceIsTold}
+use Rattle.nv_rows_win.specs.Laws.{WindowRowsTell}
 
 tells_on_window : (s : Seen) (n : ℤ) (next : Window → Answer) → ((w : Window) → TellsSplices s (next w)) → TellsSplices s (on_window s n next)
 tells_on_window s n next h = tells_found Window s _ _ next (λ w is. h w)
 
-tells_on_tabpage : (s : Seen) (n : ℤ) (next : Tabpage → Answer) → ((t : Tabpage) → TellsSplices s (next t)) → TellsSplices s (on_tabpage s n next)
-tells_on_tabpage s n next h = tells_found Tabpage s _ _ next (λ t is. h t)
+tells_on_tabpage : (s : Seen) (n : ℤ) (next : Page → Answer) → ((t : Page) → TellsSplices s (next t)) → TellsSplices s (on_tabpage s n next)
+tells_on_tabpage s n next h = tells_found Page s _ _ next (λ t is. h t)
 
 ruleset words = (tells_on_window, tells_on_tabpage, tells_on_buffer, tells_found, tells_unless, tells_barred, tells_answers)
 
--- ---- the changes that the rows make
+-- ---- the operations that the rows make
 
 went : (s : Seen) (w : ℤ) → TellsSplices s (replied nil (went_to_window w ∷ []) [])
 went s w = tells_none s nil (went_to_window w ∷ []) [] (λ k. refl) (λ k. refl)
@@ -33,13 +36,13 @@ went s w = tells_none s nil (went_to_window w ∷ []) [] (λ k. refl) (λ k. ref
 went_tab : (s : Seen) (t : ℤ) → TellsSplices s (replied nil (went_to_tab t ∷ []) [])
 went_tab s t = tells_none s nil (went_to_tab t ∷ []) [] (λ k. refl) (λ k. refl)
 
-none_in_opened : (stage : Stage) (buffer beside : ℤ) (enter : Bool) (pairs : List (Tree × Tree)) (k : ℤ) → splices_among k (opened stage buffer beside enter pairs) ≡ []
+none_in_opened : (stage : Stage) (buffer beside : ℤ) (enter : Bool) (pairs : List (Tree × Tree)) (k : ℤ) → splices_among k (opening_operations stage buffer beside enter pairs) ≡ []
 none_in_opened stage buffer beside true pairs k = refl
 none_in_opened stage buffer beside false pairs k = refl
 
-opens : (s : Seen) (t : Tree) (buffer beside : ℤ) (enter : Bool) (pairs : List (Tree × Tree)) → TellsSplices s (replied t (opened s.stage buffer beside enter pairs) [])
+opens : (s : Seen) (t : Tree) (buffer beside : ℤ) (enter : Bool) (pairs : List (Tree × Tree)) → TellsSplices s (replied t (opening_operations s.stage buffer beside enter pairs) [])
 opens s t buffer beside enter pairs =
-    tells_none s t (opened s.stage buffer beside enter pairs) [] (none_in_opened s.stage buffer beside enter pairs) (λ k. refl)
+    tells_none s t (opening_operations s.stage buffer beside enter pairs) [] (none_in_opened s.stage buffer beside enter pairs) (λ k. refl)
 
 closes_tab : (s : Seen) (t : ℤ) → TellsSplices s (replied nil (tab_closed t ∷ []) [])
 closes_tab s t = tells_none s nil (tab_closed t ∷ []) [] (λ k. refl) (λ k. refl)
@@ -47,10 +50,10 @@ closes_tab s t = tells_none s nil (tab_closed t ∷ []) [] (λ k. refl) (λ k. r
 closes_window : (s : Seen) (w : ℤ) → TellsSplices s (replied nil (window_closed w ∷ []) [])
 closes_window s w = tells_none s nil (window_closed w ∷ []) [] (λ k. refl) (λ k. refl)
 
-closes : (s : Seen) (w : ℤ) (t : Tabpage) → TellsSplices s (closed s.stage w t)
+closes : (s : Seen) (w : ℤ) (t : Page) → TellsSplices s (closing_answer s.stage.workspace w t)
 closes s w t =
     chosen (TellsSplices s) (has_one_window t) _ _
-    (tells_unless s ((length s.stage.tabpages == 1, last_one) ∷ []) (replied nil (tab_closed t.handle ∷ []) []) (closes_tab s t.handle))
+    (tells_unless s ((has_one_tabpage s.stage.workspace, last_one) ∷ []) (replied nil (tab_closed t.handle ∷ []) []) (closes_tab s t.handle))
     (closes_window s w)
 
 shows : (s : Seen) (w n : ℤ) → TellsSplices s (replied nil (shown w n ∷ []) [])
@@ -135,7 +138,7 @@ tabpage_get_win s session args = search all_words
 tabpage_get_number : RowTells nvim_tabpage_get_number
 tabpage_get_number s session args = search all_words
 
-pub no_splice_is_told : NoSpliceIsTold
+pub no_splice_is_told : WindowRowsTell
 no_splice_is_told = (
   list_wins,
   (

@@ -6,5 +6,5 @@ use Rattle.nv_rows_buf.specs.Laws.{RowTells}
 use Rattle.nv_rows_win.specs.Rows.{window_rows}
 
 -- no row makes a splice, and none tells of one
-abbrev pub NoSpliceIsTold : Type 0
-NoSpliceIsTold = AllByRecursion (λ (entry : List ℕ × Row). RowTells entry.1) window_rows
+abbrev pub WindowRowsTell : Type 0
+WindowRowsTell = AllByRecursion (λ (entry : List ℕ × Row). RowTells entry.1) window_rows

@@ -1,27 +1,20 @@
 -- How a window is opened: the keys of its configuration (help: nvim_open_win(), api-win_config).
-use Rattle.std.specs.Prelude.{ℕ, ℤ, pos, negsuc, ◌+◌, true, false, ◌&&◌, nat_le, List, [], ◌∷◌, codes, bytes_eq, Option, Some, None, is_some, option_map, option_and_then, unwrap_or, if◌then◌else◌}
+use Rattle.std.specs.Prelude.{ℕ, ℤ, pos, ◌+◌, true, List, [], ◌∷◌, codes, bytes_eq, Option, Some, None, is_some, option_map, option_and_then, unwrap_or, if◌then◌else◌}
 use Rattle.std.specs.Option.{option_map_or}
 use Rattle.nv_value.specs.Content.{Tree}
-use Rattle.nv_msgpack.specs.Handle.{handle_in}
-use Rattle.nv_args.specs.Arguments.{integer_in, string_in}
+use Rattle.nv_msgpack.specs.Handle.{handle_in, integer_of}
+use Rattle.nv_args.specs.Arguments.{string_in}
 use Rattle.nv_args.specs.Maps.{Key, value_of}
-use Rattle.nv_layout.specs.Content.{Shape}
-use Rattle.nv_layout.specs.Changes.{split}
 use Rattle.nv_layout.specs.declared.nodes.Side.{Side}
 use Rattle.nv_layout.specs.declared.nodes.Side.TheVariants.{Left, Right, Above, Below}
-use Rattle.nv_model.specs.Stage.{Stage, tabpage_of}
-
--- a number from 1 to a greatest one
-abbrev pub size_in : ℕ → ℤ → Option ℕ
-size_in most (pos n) = if nat_le 1 n && nat_le n most then Some n else None
-size_in most (negsuc n) = None
+use Rattle.nv_rows_buf.specs.Dicts.{number_between, optional_key}
 
 -- the widths, and the heights, that a window may wish (own rule)
 abbrev pub width_in : ℤ → Option ℕ
-width_in = size_in 2000
+width_in = number_between 1 2000
 
 abbrev pub height_in : ℤ → Option ℕ
-height_in = size_in 1000
+height_in = number_between 1 1000
 
 -- the side that a word names
 abbrev pub side_named : List ℕ → Option Side
@@ -39,9 +32,9 @@ side_in t = option_and_then side_named (string_in t)
 abbrev pub opening_keys : List Key
 opening_keys =
     (record { name = codes "split"; takes = λ t. is_some (side_in t); required = true })
-    ∷ (record { name = codes "win"; takes = λ t. is_some (handle_in (pos 1) t); required = false })
-    ∷ (record { name = codes "width"; takes = λ t. is_some (option_and_then width_in (integer_in t)); required = false })
-    ∷ (record { name = codes "height"; takes = λ t. is_some (option_and_then height_in (integer_in t)); required = false })
+    ∷ optional_key (codes "win") (λ t. is_some (handle_in (pos 1) t))
+    ∷ optional_key (codes "width") (λ t. is_some (option_and_then width_in (integer_of t)))
+    ∷ optional_key (codes "height") (λ t. is_some (option_and_then height_in (integer_of t)))
     ∷ []
 
 -- the side, where pairs that count have it
@@ -50,19 +43,15 @@ side_of pairs = unwrap_or (option_and_then side_in (value_of (codes "split") pai
 
 -- the window beside which it opens, the current one where none is named
 abbrev pub beside_of : List (Tree × Tree) → ℤ
-beside_of pairs = unwrap_or (option_and_then (handle_in (pos 1)) (value_of (codes "win") pairs)) (pos 0)
+beside_of pairs =
+    unwrap_or (option_and_then (handle_in (pos 1)) (value_of (codes "win") pairs)) (pos 0)
 
 -- the width that is wished, and the height, which counts the status line; 0 for none (own rule)
 abbrev pub wished_width : List (Tree × Tree) → ℕ
-wished_width pairs = unwrap_or (option_and_then width_in (option_and_then integer_in (value_of (codes "width") pairs))) 0
+wished_width pairs = unwrap_or
+    (option_and_then width_in (option_and_then integer_of (value_of (codes "width") pairs))) 0
 
 abbrev pub wished_height : List (Tree × Tree) → ℕ
 wished_height pairs =
-    option_map_or (λ n. n + 1) (option_and_then height_in (option_and_then integer_in (value_of (codes "height") pairs))) 0
-
--- the tree of a window's tabpage once the next window is opened on a side of it
-abbrev pub tree_opened : Stage → ℤ → List (Tree × Tree) → Option Shape
-tree_opened stage beside pairs =
-    option_map
-    (λ t. split (side_of pairs) beside (record { window = stage.next_window; width = wished_width pairs; height = wished_height pairs }) t.tree)
-    (tabpage_of stage beside)
+    option_map_or (λ n. n + 1) (option_and_then height_in
+    (option_and_then integer_of (value_of (codes "height") pairs))) 0

@@ -4,6 +4,7 @@ use Rattle.nv_rows_buf.specs.Rows.{Row, row}
 use Rattle.nv_rows_win.specs.WindowRows.{nvim_list_wins, nvim_get_current_win, nvim_set_current_win, nvim_open_win, nvim_win_close, nvim_win_is_valid, nvim_win_get_buf, nvim_win_set_buf, nvim_win_get_cursor, nvim_win_set_cursor, nvim_win_get_height, nvim_win_get_width, nvim_win_set_height, nvim_win_set_width, nvim_win_get_position, nvim_win_get_tabpage}
 use Rattle.nv_rows_win.specs.TabpageRows.{nvim_list_tabpages, nvim_get_current_tabpage, nvim_set_current_tabpage, nvim_tabpage_is_valid, nvim_tabpage_list_wins, nvim_tabpage_get_win, nvim_tabpage_get_number}
 
+-- the methods on windows and tabpages
 abbrev pub window_rows : List (List ℕ × Row)
 window_rows =
     row "nvim_list_wins" nvim_list_wins

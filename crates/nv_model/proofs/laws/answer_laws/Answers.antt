@@ -1,5 +1,5 @@
-use Rattle.nv_model.proofs.Telling.{refused_changes_nothing, first_is_answered}
+use Rattle.nv_model.proofs.Telling.{refused_keeps_editor, first_is_answered}
 use Rattle.nv_model.proofs.laws.answer_laws.Goals as goal
 
 pub returns : goal.returns
-returns c = record { unchanged = refused_changes_nothing; first = first_is_answered }
+returns c = record { unchanged = refused_keeps_editor; first = first_is_answered }
