@@ -1,10 +1,13 @@
 #!/usr/bin/env python3
 """Measures `nvimd embed` over a pipe: the time from its start to its end, and its memory at its peak.
 
-Usage: bench/session.py [PROGRAM]     default: crates/nvimd/out/nvimd, as the launcher builds it
+Usage: bench/session.py [PROGRAM]            default: crates/nvimd/out/nvimd, as the launcher builds it
+       bench/session.py beside [PROGRAM]     the same requests to Neovim (`nvim` on the path) in the same run
 """
 
 import os
+import random
+import statistics
 import subprocess
 import sys
 import threading
@@ -63,7 +66,116 @@ def measured(program, stream, piece):
     return seconds, got[0], peak[0]
 
 
+# Replies to these are told by their msgid, which both servers spell in five bytes.
+SENTINEL = 0xEE000000
+
+
+class Server:
+    """A server that is asked by pipe; the time of requests is that until the reply to a last one came."""
+
+    def __init__(self, words):
+        self.child = subprocess.Popen(words, stdin=subprocess.PIPE, stdout=subprocess.PIPE, bufsize=0)
+        self.count = 0
+        self.ask(b"")
+
+    def ask(self, stream):
+        """Seconds until all of these requests are answered. They are written while replies are read."""
+        self.count += 1
+        number = SENTINEL + self.count
+        last = items([integer(0), integer(number), text(b"nvim_buf_line_count"), items([integer(0)])])
+        wanted = b"\x94\x01\xce" + number.to_bytes(4, "big") + b"\xc0"
+        start = time.perf_counter()
+        writer = threading.Thread(target=self.child.stdin.write, args=(stream + last,))
+        writer.start()
+        tail = b""
+        while wanted not in tail:
+            piece = self.child.stdout.read(1 << 20)
+            if not piece:
+                raise SystemExit("a server ended")
+            tail = (tail + piece)[-(len(piece) + 64):]
+        seconds = time.perf_counter() - start
+        writer.join()
+        return seconds
+
+    def peak(self):
+        """The greatest memory so far, in MB."""
+        with open(f"/proc/{self.child.pid}/status") as status:
+            return [int(line.split()[1]) / 1024 for line in status if line.startswith("VmHWM")][0]
+
+    def close(self):
+        self.child.stdin.close()
+        self.child.stdout.close()
+        self.child.kill()
+        self.child.wait()
+
+
+def set_rows(start, end, lines):
+    return request(1, b"nvim_buf_set_lines", integer(0), integer(start), integer(end), b"\xc3",
+                   items([text(line) for line in lines]))
+
+
+GET_ALL = request(1, b"nvim_buf_get_lines", integer(0), integer(0), integer(-1), b"\xc3")
+UNDO = request(1, b"nvim_command", text(b"undo"))
+LINE = b"y" * 40
+
+
+def edits(kind, lines, count):
+    """So many requests of one kind at random rows of a text of so many lines."""
+    rows = [random.randrange(lines) for _ in range(count)]
+    if kind == "replace":
+        return b"".join(set_rows(row, row + 1, [LINE]) for row in rows)
+    if kind == "insert, delete":
+        return b"".join(set_rows(row, row, [LINE]) + set_rows(row, row + 1, []) for row in rows[: count // 2])
+    return b"".join(request(1, b"nvim_buf_get_offset", integer(0), integer(row)) for row in rows)
+
+
+def figures(words):
+    """The figures of one run of a server, by name: a number and its unit."""
+    found = {}
+    server = Server(words)
+    whole = set_rows(0, -1, [b"x" * 40] * 100_000)
+    found["1e5 lines set, ms"] = server.ask(whole) * 1e3
+    found["1e5 lines set again, ms"] = server.ask(set_rows(0, -1, [b"z" * 40] * 100_000)) * 1e3
+    found["1e5 lines got, ms"] = server.ask(GET_ALL) * 1e3
+    found["undo of 1e5 lines, ms"] = server.ask(UNDO) * 1e3
+    server.close()
+    for lines, count in [(1_000, 10_000), (100_000, 10_000), (1_000_000, 4_000)]:
+        server = Server(words)
+        server.ask(set_rows(0, -1, [b"x" * 40] * lines))
+        for kind in ("replace", "insert, delete", "offset"):
+            found[f"{kind}, {lines} lines, us"] = server.ask(edits(kind, lines, count)) * 1e6 / count
+        server.close()
+    server = Server(words)
+    found["16 MiB set, ms"] = server.ask(set_lines(1, [b"x" * 79] * 209_715)) * 1e3
+    found["peak of it, MB"] = server.peak()
+    found["16 MiB got, ms"] = server.ask(GET_ALL) * 1e3
+    server.close()
+    server = Server(words)
+    server.ask(set_rows(0, -1, [b"x" * 40] * 1_000))
+    for _ in range(20):
+        server.ask(edits("replace", 1_000, 50_000))
+    found["peak of 1e6 one-line edits, MB"] = server.peak()
+    server.close()
+    return found
+
+
+def beside(program):
+    busy = os.getloadavg()[0] > 1
+    print(f"load {os.getloadavg()[0]:.1f}" + (": the machine is busy, so the figures are not to be relied on" if busy else ""))
+    ours, theirs = [], []
+    for _ in range(3):
+        theirs.append(figures(["nvim", "--embed", "--headless", "-u", "NONE", "-i", "NONE", "-n"]))
+        ours.append(figures([program, "embed"]))
+    print(f"    {'medians of three runs':36} {'Neovim':>9} {'nvimd':>9} {'ratio':>6}")
+    for name in theirs[0]:
+        one = statistics.median(run[name] for run in theirs)
+        other = statistics.median(run[name] for run in ours)
+        print(f"    {name:36} {one:9.1f} {other:9.1f} {other / one:6.2f}")
+
+
 def main():
+    if len(sys.argv) > 1 and sys.argv[1] == "beside":
+        return beside(sys.argv[2] if len(sys.argv) > 2 else PROGRAM)
     program = sys.argv[1] if len(sys.argv) > 1 else PROGRAM
     if not os.path.exists(program):
         raise SystemExit("build it first: ./nvimd embed </dev/null")

@@ -11,7 +11,7 @@ use Rattle.nv_places.specs.Flat.{line_at}
 use Rattle.nv_places.specs.declared.place.Pos.{Pos}
 use Rattle.nv_buffer.specs.Splices.{IsNarrowLine, IsNarrowText, with_front, with_back}
 use Rattle.nv_args.specs.Texts.{first_from, last_before, strings, text_between}
-use Rattle.nv_api_buf.specs.Parts.{part_of, joined_line}
+use Rattle.nv_api_buf.specs.inside.Parts.{part_of, joined_line}
 use Rattle.nv_api_buf.proofs.Spelled.{list-spelled}
 
 -- the first line joins what stands before it, and no other does

@@ -10,7 +10,7 @@ use Rattle.std.specs.List.{list_any}
 use Rattle.nv_buffer.specs.Splices.{IsNarrowLine, with_front, with_back}
 use Rattle.nv_buffer.proofs.Between.{length-between}
 use Rattle.nv_api_buf.specs.Limits.{is_too_long}
-use Rattle.nv_api_buf.specs.Parts.{joined_line}
+use Rattle.nv_api_buf.specs.inside.Parts.{joined_line}
 use Rattle.nv_api_buf.proofs.Between.{joined-at}
 
 pub or_false : (a b : Bool) → a || b ≡ false → (a ≡ false) × (b ≡ false)

@@ -1,10 +1,12 @@
 -- Lemmas on the places that two numbers name.
-use Rattle.std.proofs.Common.{◌≡◌, ℕ, suc, ℤ, pos, negsuc, ◌-◌, ◌<◌, ◌≤◌, Bool, true, false, cond, List, length, Some, None, Ok, slice_get, refl, sym, ap, ◌∙◌, arith, Option}
+use Rattle.std.proofs.Common.{◌≡◌, ℕ, suc, ℤ, pos, negsuc, ◌-◌, ◌^◌, ◌<◌, ◌≤◌, Bool, true, false, cond, List, [], length, Some, None, Ok, Err, slice_get, refl, sym, ap, ◌∙◌, arith, Option}
+use Rattle.std.proofs.lemmas.List.Elements.{All-get_or}
+use Rattle.std.proofs.lemmas.Option.{slice_get_within}
 use Rattle.std.proofs.lemmas.Bool.Decides.{nat_tests}
 use Rattle.std.specs.Prelude.{nat_lt}
 use Rattle.nv_places.specs.Flat.{line_at}
-use Rattle.nv_buffer.specs.Splices.{IsInLine}
-use Rattle.nv_args.specs.Arguments.{text_row, text_col, require, and_then}
+use Rattle.nv_buffer.specs.Splices.{IsInLine, IsNarrowLine, IsNarrowText}
+use Rattle.nv_args.specs.Arguments.{text_row, text_col, require, answer_after}
 use Rattle.nv_args.specs.Faults.{out_of_bounds}
 use Rattle.nv_api_buf.specs.Text.{place_in}
 use Rattle.nv_api_buf.proofs.Long.{line-is}
@@ -41,8 +43,8 @@ pub place-is : (lines : List (List ℕ)) (row col : ℤ) (r c : ℕ) (line : Lis
 place-is lines row col r c line p q e =
     let bytes : ℕ → ℕ = λ k. length (line_at lines k) in
     let found : Some c ≡ text_col col (bytes r) = e ∙ ap (λ (l : List ℕ). text_col col (length l)) (sym (line-is lines r line q)) in
-    ap (λ (o : Option ℕ). and_then {A = ℕ × ℕ} (require o out_of_bounds (λ k. require (text_col col (bytes k)) out_of_bounds (λ m. Ok (k, m)))) (λ place. Ok (record { row = place.0; col = place.1 }))) (sym p)
-    ∙ ap (λ (o : Option ℕ). and_then {A = ℕ × ℕ} (require o out_of_bounds (λ m. Ok (r, m))) (λ place. Ok (record { row = place.0; col = place.1 }))) (sym found)
+    ap (λ (o : Option ℕ). answer_after {A = ℕ × ℕ} (require o out_of_bounds (λ k. require (text_col col (bytes k)) out_of_bounds (λ m. Ok (k, m)))) (λ place. Ok (record { row = place.0; col = place.1 }))) (sym p)
+    ∙ ap (λ (o : Option ℕ). answer_after {A = ℕ × ℕ} (require o out_of_bounds (λ m. Ok (r, m))) (λ place. Ok (record { row = place.0; col = place.1 }))) (sym found)
 
 pub place-within : (lines : List (List ℕ)) (row col : ℤ) (r c : ℕ) (line : List ℕ) → Some r ≡ text_row row (length lines) → Some line ≡ slice_get lines r
     → Some c ≡ text_col col (length line) → IsInLine lines (record { row = r; col = c })
@@ -50,3 +52,18 @@ place-within lines row col r c line p q e = record {
   row = row-within row (length lines) r p;
   col = omega (arith, col-within col (length line) c e, ap (length {A = ℕ}) (line-is lines r line q));
 }
+
+-- a row that is named, and no column of it
+pub place-none : (lines : List (List ℕ)) (row col : ℤ) (r : ℕ) (line : List ℕ) → Some r ≡ text_row row (length lines) → Some line ≡ slice_get lines r
+    → None ≡ text_col col (length line) → place_in row col lines ≡ Err out_of_bounds
+place-none lines row col r line p q e =
+    let bytes : ℕ → ℕ = λ k. length (line_at lines k) in
+    let found : None ≡ text_col col (bytes r) = e ∙ ap (λ (l : List ℕ). text_col col (length l)) (sym (line-is lines r line q)) in
+    ap (λ (o : Option ℕ). answer_after {A = ℕ × ℕ} (require o out_of_bounds (λ k. require (text_col col (bytes k)) out_of_bounds (λ m. Ok (k, m)))) (λ place. Ok (record { row = place.0; col = place.1 }))) (sym p)
+    ∙ ap (λ (o : Option ℕ). answer_after {A = ℕ × ℕ} (require o out_of_bounds (λ m. Ok (r, m))) (λ place. Ok (record { row = place.0; col = place.1 }))) (sym found)
+
+-- a column of a narrow line fits 32 bits
+pub col-narrow : (lines : List (List ℕ)) (col : ℤ) (r c : ℕ) (line : List ℕ) → IsNarrowText lines → Some line ≡ slice_get lines r → Some c ≡ text_col col (length line) → c < 2 ^ 32
+col-narrow lines col r c line narrow q e =
+    let short : length (line_at lines r) < 2 ^ 32 = All-get_or IsNarrowLine lines r [] (slice_get_within lines r line (sym q)) narrow.columns in
+    omega (arith, col-within col (length line) c e, ap (length {A = ℕ}) (line-is lines r line q))

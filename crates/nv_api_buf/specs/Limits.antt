@@ -4,9 +4,9 @@ use Rattle.std.specs.Ordering.{int_eq}
 use Rattle.std.specs.List.{list_any, splice}
 use Rattle.nv_value.specs.Content.{Tree}
 use Rattle.nv_value.specs.declared.fault.ApiFault.{ApiFault}
-use Rattle.nv_buffer.specs.Content.{Content, edited}
+use Rattle.nv_buffer.specs.Content.{Content, after_edit}
 use Rattle.nv_buffer.specs.declared.edit.Edit.{Edit}
-use Rattle.nv_args.specs.Arguments.{counted, buffer_argument, and_then, refuse}
+use Rattle.nv_args.specs.Arguments.{full_arguments, buffer_argument, answer_after, refuse}
 use Rattle.nv_args.specs.Faults.{no_buffer, not_modifiable, limit_reached}
 
 -- whether the handle names this buffer: its own, or 0 for the current one (Neovim help `api-types`)
@@ -19,7 +19,8 @@ the_buffer handle buffer = refuse (not (is_live handle buffer)) (no_buffer handl
 
 -- the handle in the first argument of a method of so many parameters
 abbrev pub first_handle : List ℕ → ℕ → List Tree → Result ℤ ApiFault
-first_handle method expected arguments = and_then (counted expected arguments) (λ given. buffer_argument method given 0)
+first_handle method expected arguments =
+    answer_after (full_arguments expected arguments) (λ given. buffer_argument method given 0)
 
 -- how many lines a text may have (own rule)
 abbrev pub most_lines : ℕ
@@ -41,34 +42,36 @@ is_too_long line = nat_lt most_line_bytes (length line)
 abbrev pub tick_passes : ℤ → ℕ → Bool
 tick_passes tick splices = int_lt most_tick (tick +ℤ pos splices)
 
--- whether lines in place of rows would pass a limit: by the lines of the text afterwards, by the bytes of one of these lines, or by the
--- changedtick
-abbrev pub passes : ℕ → ℕ → List (List ℕ) → Content → Bool
-passes first last lines buffer =
-    nat_lt most_lines (length (splice buffer.text first last lines)) || (list_any is_too_long lines || tick_passes buffer.tick 1)
+-- whether lines in place of rows would pass a limit: by the lines of the text afterwards, by the
+-- bytes of one of these lines, or by the changedtick
+abbrev pub passes_limits : ℕ → ℕ → List (List ℕ) → Content → Bool
+passes_limits first last lines buffer =
+    nat_lt most_lines (length (splice buffer.text first last lines))
+    || (list_any is_too_long lines || tick_passes buffer.tick 1)
 
 -- the buffer, where lines may be put in place of its rows
 abbrev pub may_put : ℕ → ℕ → List (List ℕ) → Content → Result Content ApiFault
 may_put first last lines buffer =
     refuse (not buffer.modifiable) not_modifiable (
-    refuse (passes first last lines buffer) limit_reached (
+    refuse (passes_limits first last lines buffer) limit_reached (
     Ok buffer))
 
 -- whether an edit removes nothing and puts nothing
-abbrev pub is_nothing : Edit → Bool
-is_nothing edit = edit.old == 0 && edit.new == 0
+abbrev pub changes_nothing : Edit → Bool
+changes_nothing edit = edit.old == 0 && edit.new == 0
 
 -- the buffer once an edit is made, where it may be
 abbrev pub put_edit : Edit → Content → Result Content ApiFault
 put_edit edit buffer =
-    and_then (may_put edit.first edit.last edit.lines buffer) (λ b.
-    Ok (edited b edit))
+    answer_after (may_put edit.first edit.last edit.lines buffer) (λ b.
+    Ok (after_edit b edit))
 
 -- the buffer once an edit is made; one that removes nothing and puts nothing isn't made
-abbrev pub made : Edit → Content → Result Content ApiFault
-made edit buffer = if is_nothing edit then Ok buffer else put_edit edit buffer
+abbrev pub buffer_with_edit : Edit → Content → Result Content ApiFault
+buffer_with_edit edit buffer = if changes_nothing edit then Ok buffer else put_edit edit buffer
 
--- the buffer, where so many splices may be made that undo or redo it; where there is none nothing is refused
+-- the buffer, where so many splices may be made that undo or redo it; where there is none nothing
+-- is refused
 abbrev pub may_move : ℕ → Content → Result Content ApiFault
 may_move splices buffer =
     refuse (nat_lt 0 splices && not buffer.modifiable) not_modifiable (

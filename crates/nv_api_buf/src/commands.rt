@@ -2,16 +2,16 @@
 ghost use Rattle.std.specs.Prelude.{◌≡◌, ◌+ℤ◌, ◌≤ℤ◌, ◌≤◌, pos, map, nat_lt, length, IfOk};
 ghost use Rattle.nv_value.specs.View.{content, contents};
 ghost use Rattle.nv_undo.specs.Tree.{last};
-ghost use Rattle.nv_buffer.specs.Content.{sealed};
+ghost use Rattle.nv_buffer.specs.Content.{after_seal};
 ghost use Rattle.nv_args.specs.Refusals.{Meets, RefusedKeeps};
 ghost use Rattle.nv_args.specs.Weight.{AreLight, weights};
 ghost use Rattle.nv_api_buf.specs.Limits.{may_move};
-ghost use Rattle.nv_api_buf.specs.Commands.{order_in, words_argument, order_argument, obeyed, command};
-ghost use Rattle.nv_args.specs.Texts.{number_in};
+ghost use Rattle.nv_api_buf.specs.Commands.{order_in, words_argument, order_argument, buffer_after_order, command};
+ghost use Rattle.nv_args.specs.Texts.{decimal_number};
 
 use crate::limits::tick_passes;
 use nv_args::{
-    Fail, counted, limit_reached, not_modifiable, out_of_bounds, string_argument, unknown_name,
+    Fail, check_count, limit_reached, not_modifiable, out_of_bounds, string_argument, unknown_name,
 };
 use nv_buffer::Buffer;
 use nv_value::{Bytes, Items};
@@ -30,7 +30,7 @@ pub enum Order {
 
 // The number that 1 to 18 decimal digits write.
 fn number_of(digits: &[u8]) -> Option<u64>
-    ensures { result ≡ number_in digits.now }
+    ensures { result ≡ decimal_number digits.now }
 {
     if digits.is_empty() || digits.len() > 18 {
         return None;
@@ -64,8 +64,8 @@ pub fn order_of(words: &[u8]) -> Option<Order>
     }
 }
 
-// Refuses so many splices that undo or redo where the buffer isn't modifiable, and where they would pass the greatest
-// changedtick.
+// Refuses so many splices that undo or redo where the buffer isn't modifiable, and where they would
+// pass the greatest changedtick.
 fn may_move(alloc: Global, buffer: &Buffer, splices: u64) -> Result<(), Fail>
     ensures row { Meets (λ _. buffer.now) result (may_move splices buffer.now) }
     ensures tick { IfOk result (λ _. (buffer.now.tick +ℤ pos splices) ≤ℤ i64.MAX) }
@@ -85,7 +85,7 @@ fn may_move(alloc: Global, buffer: &Buffer, splices: u64) -> Result<(), Fail>
 
 // Whether a number lies above the last change, once the edits since then are one.
 fn is_past(buffer: &Buffer, number: u64) -> bool
-    ensures { result ≡ nat_lt (last (sealed buffer.now).undo) number }
+    ensures { result ≡ nat_lt (last (after_seal buffer.now).undo) number }
 {
     if buffer.unsealed_len() == 0 {
         number > buffer.changes()
@@ -95,7 +95,8 @@ fn is_past(buffer: &Buffer, number: u64) -> bool
 }
 
 fn undo_to(alloc: Global, number: u64, buffer: &mut Buffer) -> Result<(), Fail>
-    ensures row { Meets (λ _. buffer.new) result (obeyed (Order.UndoTo number) buffer.old) }
+    ensures row { Meets (λ _. buffer.new) result
+        (buffer_after_order (Order.UndoTo number) buffer.old) }
     ensures kept { RefusedKeeps result buffer.new buffer.old }
 {
     if is_past(buffer, number) {
@@ -108,7 +109,7 @@ fn undo_to(alloc: Global, number: u64, buffer: &mut Buffer) -> Result<(), Fail>
 
 /// Runs a command. Where it is refused the buffer stays as it was.
 pub fn obey(alloc: Global, order: Order, buffer: &mut Buffer) -> Result<(), Fail>
-    ensures row { Meets (λ _. buffer.new) result (obeyed order buffer.old) }
+    ensures row { Meets (λ _. buffer.new) result (buffer_after_order order buffer.old) }
     ensures kept { RefusedKeeps result buffer.new buffer.old }
 {
     match order {
@@ -131,7 +132,7 @@ fn words_argument(alloc: Global, params: Items) -> Result<Bytes, Fail>
     ensures row { Meets (λ words. words) result (words_argument (map content params.items)) }
     ensures light { IfOk result (λ words. length words ≤ weights (contents params.items)) }
 {
-    counted(alloc, 1, params.as_slice())?;
+    check_count(alloc, 1, params.as_slice())?;
     string_argument(alloc, "nvim_command", params, 0)
 }
 
@@ -147,8 +148,8 @@ fn order_argument(alloc: Global, params: Items) -> Result<Order, Fail>
     }
 }
 
-/// `nvim_command`: undoes or redoes changes. Where the call is refused the buffer stays as it was; where memory is wanting
-/// some of the splices may have been made.
+/// `nvim_command`: undoes or redoes changes. Where the call is refused the buffer stays as it was;
+/// where memory is wanting some of the splices may have been made.
 pub fn nvim_command(alloc: Global, params: Items, buffer: &mut Buffer) -> Result<(), Fail>
     requires { AreLight (contents params.items) }
     ensures row { Meets (λ _. buffer.new) result (command (map content params.items) buffer.old) }

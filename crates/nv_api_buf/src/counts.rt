@@ -2,8 +2,9 @@
 ghost use Rattle.std.specs.Prelude.{◌≡◌, map, IfOk};
 ghost use Rattle.nv_value.specs.View.{content};
 ghost use Rattle.nv_msgpack.specs.Shortest.{HasSpelling};
+ghost use Rattle.nv_msgpack.specs.Spelling.{unsigned_number};
 ghost use Rattle.nv_args.specs.Refusals.{Meets};
-ghost use Rattle.nv_api_buf.specs.Counts.{number, row_in, line_count, changedtick, offset};
+ghost use Rattle.nv_api_buf.specs.Counts.{row_in, line_count, changedtick, offset};
 
 use crate::limits::{first_handle, the_buffer};
 use nv_args::{Fail, integer_argument, out_of_bounds};
@@ -12,8 +13,8 @@ use nv_value::{Items, Value};
 use std::alloc::Global;
 
 // A number of at least 0 as a value.
-fn number(n: u64) -> Value
-    ensures value { content result ≡ number n }
+fn unsigned_value(n: u64) -> Value
+    ensures value { content result ≡ unsigned_number n }
     ensures spelled { HasSpelling (content result) }
 {
     if n <= i64::MAX as u64 {
@@ -67,7 +68,7 @@ pub fn nvim_buf_get_offset(alloc: Global, params: Items, buffer: &Buffer) -> Res
     let index = integer_argument(alloc, "nvim_buf_get_offset", params.as_slice(), 1)?;
     the_buffer(alloc, handle, buffer)?;
     match row_in(index, buffer.text().count()) {
-        Some(row) => Ok(number(buffer.text().offset(row))),
+        Some(row) => Ok(unsigned_value(buffer.text().offset(row))),
         None => Err(out_of_bounds(alloc)),
     }
 }

@@ -1,13 +1,13 @@
-//! Lines that are put between two places: how long they become where they join what stands before and behind them, and
-//! whether they may be put.
+//! Lines that are put between two places: how long they become where they join what stands before
+//! and behind them, and whether they may be put.
 ghost use Rattle.std.specs.Prelude.{◌≡◌, ◌≤◌, ◌<◌, ◌^◌, ◌+◌, ◌<ℤ◌, ◌↔◌, [], ◌∷◌, false, All, length, take, drop, IfOk, IsTrue};
 ghost use Rattle.std.specs.List.{list_any};
 ghost use Rattle.nv_places.specs.Flat.{line_at};
 ghost use Rattle.nv_places.specs.Places.{is_before};
 ghost use Rattle.nv_buffer.specs.Splices.{IsInLine, IsNarrowLine, with_front, with_back, lines_between};
 ghost use Rattle.nv_args.specs.Refusals.{Meets};
-ghost use Rattle.nv_api_buf.specs.Limits.{is_too_long, passes, may_put};
-ghost use Rattle.nv_api_buf.specs.Parts.{joined_line};
+ghost use Rattle.nv_api_buf.specs.Limits.{is_too_long, passes_limits, may_put};
+ghost use Rattle.nv_api_buf.specs.inside.Parts.{joined_line};
 
 use crate::limits::{MOST_LINE_BYTES, tick_passes, too_many};
 use nv_args::{Fail, limit_reached, not_modifiable};
@@ -46,7 +46,8 @@ fn behind(text: &Lines, place: Pos) -> &[u8]
     }
 }
 
-// Whether the line of this place, of so many lines, is too long once the first has joined `front` and the last `back`.
+// Whether the line of this place, of so many lines, is too long once the first has joined `front`
+// and the last `back`.
 fn is_too_long(line: &Line, place: usize, count: usize, front: &[u8], back: &[u8]) -> bool
     requires within { place < count }
     requires front { length front.now < 2 ^ 32 }
@@ -85,13 +86,15 @@ fn any_too_long(lines: &LineList, front: &[u8], back: &[u8]) -> bool
     false
 }
 
-// Whether lines between two places would pass a limit. The first and the last line count with what they join.
+// Whether lines between two places would pass a limit. The first and the last line count with what
+// they join.
 fn passes(buffer: &Buffer, start: Pos, stop: Pos, lines: &LineList) -> bool
     requires start_in { IsInLine buffer.now.text start }
     requires stop_in { IsInLine buffer.now.text stop }
     requires order { start.row ≤ stop.row }
     requires some { 0 < length lines.now }
-    ensures { result ≡ passes start.row (stop.row + 1) (lines_between buffer.now.text start stop lines.now) buffer.now }
+    ensures { result ≡ passes_limits start.row (stop.row + 1)
+        (lines_between buffer.now.text start stop lines.now) buffer.now }
 {
     let text = buffer.text();
     let kept = text.count() - ((stop.row - start.row) as usize + 1);
@@ -104,7 +107,8 @@ fn passes(buffer: &Buffer, start: Pos, stop: Pos, lines: &LineList) -> bool
     tick_passes(buffer.tick(), 1)
 }
 
-/// Refuses lines between two places where the buffer isn't modifiable, and where they would pass a limit.
+/// Refuses lines between two places where the buffer isn't modifiable, and where they would pass a
+/// limit.
 pub fn may_put_text(
     alloc: Global,
     buffer: &Buffer,
@@ -116,9 +120,13 @@ pub fn may_put_text(
     requires stop_in { IsInLine buffer.now.text stop }
     requires order { is_before stop start ≡ false }
     requires some { 0 < length lines.now }
-    ensures row { Meets (λ _. buffer.now) result (may_put start.row (stop.row + 1) (lines_between buffer.now.text start stop lines.now) buffer.now) }
-    ensures count { IfOk result (λ _. start.row + length lines.now + length buffer.now.text < stop.row + 1 + 2 ^ 32) }
-    ensures columns { IfOk result (λ _. All IsNarrowLine (lines_between buffer.now.text start stop lines.now)) }
+    ensures row { Meets (λ _. buffer.now) result
+        (may_put start.row (stop.row + 1)
+        (lines_between buffer.now.text start stop lines.now) buffer.now) }
+    ensures count { IfOk result (λ _. start.row + length lines.now + length buffer.now.text
+        < stop.row + 1 + 2 ^ 32) }
+    ensures columns { IfOk result
+        (λ _. All IsNarrowLine (lines_between buffer.now.text start stop lines.now)) }
     ensures tick { IfOk result (λ _. buffer.now.tick <ℤ i64.MAX) }
 {
     if !buffer.modifiable() {

@@ -1,8 +1,8 @@
-//! The methods on the text of one buffer: counts, lines, text between two places, and the commands that undo and redo
-//! (Neovim help `api-buffer`, `undo-commands`).
+//! The methods on the text of one buffer: counts, lines, text between two places, and the commands
+//! that undo and redo (Neovim help `api-buffer`, `undo-commands`).
 //!
-//! Each method reads its arguments, refuses what is wrong by the fault with the least number, and then does what it says.
-//! A call that is refused leaves the buffer as it was.
+//! Each method reads its arguments, refuses what is wrong by the fault with the least number, and
+//! then does what it says. A call that is refused leaves the buffer as it was.
 #![tactic(auto)]
 
 mod commands;

@@ -4,7 +4,7 @@ ghost use Rattle.nv_value.specs.View.{content};
 ghost use Rattle.nv_args.specs.Refusals.{Meets};
 ghost use Rattle.nv_api_buf.specs.Limits.{is_live, the_buffer, first_handle, most_lines, tick_passes};
 
-use nv_args::{Fail, buffer_argument, counted, no_buffer};
+use nv_args::{Fail, buffer_argument, check_count, no_buffer};
 use nv_buffer::Buffer;
 use nv_value::Value;
 use std::alloc::Global;
@@ -34,9 +34,10 @@ pub fn first_handle(
 ) -> Result<i64, Fail>
     requires some { 0 < expected }
     requires short { length method.now < 2 ^ 15 }
-    ensures { Meets (λ handle. handle) result (first_handle method.now expected (map content params.now)) }
+    ensures { Meets (λ handle. handle) result
+        (first_handle method.now expected (map content params.now)) }
 {
-    counted(alloc, expected, params)?;
+    check_count(alloc, expected, params)?;
     buffer_argument(alloc, method, params, 0)
 }
 

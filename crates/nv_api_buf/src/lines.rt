@@ -4,7 +4,7 @@ ghost use Rattle.nv_value.specs.Content.{list};
 ghost use Rattle.nv_value.specs.View.{content, contents};
 ghost use Rattle.nv_msgpack.specs.Shortest.{HasSpelling};
 ghost use Rattle.nv_buffer.specs.Splices.{IsNarrowText};
-ghost use Rattle.nv_buffer.specs.Content.{edit_of, lines_told};
+ghost use Rattle.nv_buffer.specs.Changes.{rows_edit};
 ghost use Rattle.nv_args.specs.Refusals.{Meets};
 ghost use Rattle.nv_api_buf.specs.Limits.{put_edit};
 ghost use Rattle.nv_api_buf.specs.Lines.{range_in, rows_in, get_lines, put_lines, set_arguments, set_lines};
@@ -13,8 +13,8 @@ ghost use Rattle.nv_args.specs.Texts.{strings};
 use crate::limits::{first_handle, the_buffer};
 use crate::replacement::{left_with, lines_from, may_put};
 use nv_args::{
-    Fail, integer_argument, leaves_text, lines_argument, newline_inside, out_of_bounds, row_of,
-    start_after_end, truth_argument,
+    Fail, integer_argument, leaves_text, lines_argument, newline_inside, out_of_bounds,
+    row_of_index, start_after_end, truth_argument,
 };
 use nv_buffer::{Buffer, LineList, Lines};
 use nv_value::{Bytes, Items, Value};
@@ -37,7 +37,8 @@ pub struct Range {
 fn range_of(alloc: Global, method: &str, expected: usize, params: &[Value]) -> Result<Range, Fail>
     requires some { 4 ≤ expected }
     requires short { length method.now < 2 ^ 15 }
-    ensures { Meets (λ range. range) result (range_in method.now expected (map content params.now)) }
+    ensures { Meets (λ range. range) result
+        (range_in method.now expected (map content params.now)) }
 {
     let buffer = first_handle(alloc, method, expected, params)?;
     let start = integer_argument(alloc, method, params, 1)?;
@@ -54,30 +55,45 @@ fn range_of(alloc: Global, method: &str, expected: usize, params: &[Value]) -> R
 // The rows of a range of the buffer, from the first to before the second.
 fn rows_of(alloc: Global, range: &Range, buffer: &Buffer) -> Result<(usize, usize), Fail>
     ensures row { Meets (λ rows. (rows.0, rows.1)) result (rows_in range.now buffer.now) }
-    ensures within { IfOk result (λ rows. (rows.0 ≤ length buffer.now.text) × (rows.1 ≤ length buffer.now.text)) }
+    ensures within { IfOk result (λ rows. (rows.0 ≤ length buffer.now.text)
+        × (rows.1 ≤ length buffer.now.text)) }
 {
     the_buffer(alloc, range.buffer, buffer)?;
     let count = buffer.text().count();
     if leaves_text(range.strict, range.start, range.end, count) {
         return Err(out_of_bounds(alloc));
     }
-    Ok((row_of(range.start, count), row_of(range.end, count)))
+    Ok((
+        row_of_index(range.start, count),
+        row_of_index(range.end, count),
+    ))
+}
+
+// Lines as strings. They are moved, and no bytes are copied.
+fn strings_from(alloc: Global, lines: LineList) -> Result<Items, AllocError>
+    ensures { IfOk result (λ items. contents items.items ≡ strings lines) }
+{
+    let lines = lines.into_vec();
+    let mut items = Vec::with_capacity(alloc, lines.len())?;
+    for line in lines {
+        items.push(Value::Text(line.into_bytes()))?;
+    }
+    Ok(items)
 }
 
 // The lines from the row `from` to before the row `to`, as strings.
 fn strings_of(alloc: Global, text: &Lines, from: usize, to: usize) -> Result<Items, AllocError>
     requires within { to ≤ length text.now }
     requires narrow { IsNarrowText text.now }
-    ensures strings { IfOk result (λ items. contents items.items ≡ strings (slice_range text.now from to)) }
+    ensures strings { IfOk result
+        (λ items. contents items.items ≡ strings (slice_range text.now from to)) }
     ensures spelled { IfOk result (λ items. HasSpelling (list (contents items.items))) }
 {
-    let mut items = Vec::with_capacity(alloc, to.saturating_sub(from))?;
-    for row in from..to {
-        let Some(line) = text.get(row) else {
-            unreachable!();
-        };
-        items.push(Value::Text(Bytes::from_slice(alloc, line)?))?;
+    if to <= from {
+        return Ok(Vec::new(alloc));
     }
+    let lines = text.share_rows(from, to)?;
+    let items = strings_from(alloc, lines)?;
     Ok(items)
 }
 
@@ -111,7 +127,8 @@ fn put_rows(
     requires within { to ≤ length buffer.old.text }
     requires left { to < from + length new + length buffer.old.text }
     requires some { ¬ ((from ≡ to) × (new ≡ [])) }
-    ensures row { Meets (λ _. buffer.new) result (put_edit (edit_of (lines_told buffer.old from to new)) buffer.old) }
+    ensures row { Meets (λ _. buffer.new) result
+        (put_edit (rows_edit buffer.old.text from to new) buffer.old) }
     ensures kept { OnErr result (buffer.new ≡ buffer.old) }
 {
     may_put(alloc, buffer, from, to, &new)?;
@@ -146,15 +163,16 @@ fn put_lines(
 
 // The range of a call of `nvim_buf_set_lines`, and the strings of its last argument.
 fn set_arguments(alloc: Global, params: Items) -> Result<(Range, Vec<Bytes>), Fail>
-    ensures { Meets (λ found. (found.0, found.1.items)) result (set_arguments (map content params.items)) }
+    ensures { Meets (λ found. (found.0, found.1.items)) result
+        (set_arguments (map content params.items)) }
 {
     let range = range_of(alloc, "nvim_buf_set_lines", 5, params.as_slice())?;
     let new = lines_argument(alloc, "nvim_buf_set_lines", params, 4)?;
     Ok((range, new))
 }
 
-/// `nvim_buf_set_lines`: puts lines in place of a range. Where the call is refused, and where memory is wanting, the
-/// buffer stays as it was.
+/// `nvim_buf_set_lines`: puts lines in place of a range. Where the call is refused, and where
+/// memory is wanting, the buffer stays as it was.
 pub fn nvim_buf_set_lines(alloc: Global, params: Items, buffer: &mut Buffer) -> Result<(), Fail>
     ensures row { Meets (λ _. buffer.new) result (set_lines (map content params.items) buffer.old) }
     ensures kept { OnErr result (buffer.new ≡ buffer.old) }

@@ -3,7 +3,7 @@ ghost use Rattle.std.specs.Prelude.{◌≡◌, ◌≤◌, ◌<◌, ◌^◌, ◌+
 ghost use Rattle.std.specs.List.{list_any, splice};
 ghost use Rattle.nv_args.specs.Refusals.{Meets};
 ghost use Rattle.nv_buffer.specs.Splices.{IsNarrowLine};
-ghost use Rattle.nv_api_buf.specs.Limits.{is_too_long, passes, may_put};
+ghost use Rattle.nv_api_buf.specs.Limits.{is_too_long, passes_limits, may_put};
 ghost use Rattle.nv_args.specs.Texts.{has_newline, lines_put};
 
 use crate::limits::{MOST_LINE_BYTES, tick_passes, too_many};
@@ -15,21 +15,22 @@ use std::alloc::{AllocError, Global};
 
 /// The strings as lines, or nothing where one of them holds a line feed.
 pub fn lines_from(alloc: Global, strings: Vec<Bytes>) -> Result<Option<LineList>, AllocError>
-    ensures some { IfOk result (λ found. IfSome found (λ lines. (lines ≡ strings.items) × (list_any has_newline strings.items ≡ false))) }
+    ensures some { IfOk result (λ found. IfSome found
+        (λ lines. (lines ≡ strings.items) × (list_any has_newline strings.items ≡ false))) }
     ensures none { IfOk result (λ found. IfNone found (list_any has_newline strings.items ≡ true)) }
 {
     let mut lines = Vec::with_capacity(alloc, strings.len())?;
     for string in strings {
-        let bytes = string.into_vec();
-        if !is_line(&bytes) {
+        if !is_line(string.as_slice()) {
             return Ok(None);
         }
-        lines.push(Line::from_vec(bytes))?;
+        lines.push(Line::from_bytes(string))?;
     }
     Ok(Some(LineList::from_vec(lines)))
 }
 
-/// The lines to put in place of the rows from `from` to before `to`: one empty line where none would be left.
+/// The lines to put in place of the rows from `from` to before `to`: one empty line where none
+/// would be left.
 pub fn left_with(
     alloc: Global,
     text: &Lines,
@@ -49,7 +50,7 @@ pub fn left_with(
     if lines.len() > 0 {
         return Ok(lines);
     }
-    Ok(LineList::from_vec(vec![in alloc; Line::new(alloc)]?))
+    Ok(LineList::from_vec(vec![in alloc; Line::new(alloc)?]?))
 }
 
 // Whether one of the lines has more bytes than a line may have.
@@ -71,14 +72,14 @@ fn any_too_long(lines: &LineList) -> bool
 fn passes(buffer: &Buffer, from: usize, to: usize, lines: &LineList) -> bool
     requires order { from ≤ to }
     requires within { to ≤ length buffer.now.text }
-    ensures { result ≡ passes from to lines.now buffer.now }
+    ensures { result ≡ passes_limits from to lines.now buffer.now }
 {
     let kept = buffer.text().count() - (to - from);
     too_many(kept, lines.len()) || any_too_long(lines) || tick_passes(buffer.tick(), 1)
 }
 
-/// Refuses lines in place of the rows from `from` to before `to` where the buffer isn't modifiable, and where they
-/// would pass a limit.
+/// Refuses lines in place of the rows from `from` to before `to` where the buffer isn't modifiable,
+/// and where they would pass a limit.
 pub fn may_put(
     alloc: Global,
     buffer: &Buffer,
@@ -89,7 +90,8 @@ pub fn may_put(
     requires order { from ≤ to }
     requires within { to ≤ length buffer.now.text }
     ensures row { Meets (λ _. buffer.now) result (may_put from to lines.now buffer.now) }
-    ensures count { IfOk result (λ _. from + length lines.now + length buffer.now.text < to + 2 ^ 32) }
+    ensures count { IfOk result (λ _. from + length lines.now + length buffer.now.text
+        < to + 2 ^ 32) }
     ensures columns { IfOk result (λ _. All IsNarrowLine lines.now) }
     ensures tick { IfOk result (λ _. buffer.now.tick <ℤ i64.MAX) }
 {

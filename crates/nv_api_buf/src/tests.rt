@@ -1,5 +1,6 @@
-//! Calls of the methods, one after another on one buffer, against tables written by hand from the documented effects of
-//! the methods and from the words of their faults. Arguments and results are spelled in MessagePack.
+//! Calls of the methods, one after another on one buffer, against tables written by hand from the
+//! documented effects of the methods and from the words of their faults. Arguments and results are
+//! spelled in MessagePack.
 
 ghost use Rattle.std.specs.Prelude.{IfOk};
 ghost use Rattle.nv_value.specs.View.{content};
@@ -33,9 +34,9 @@ fn params_of(alloc: Global, bytes: &[u8]) -> Result<Items, AllocError> {
 }
 
 // The words of a fault.
-fn words_of(fail: Fail) -> Result<Vec<u8>, AllocError> {
+fn words_of(alloc: Global, fail: Fail) -> Result<Vec<u8>, AllocError> {
     match fail {
-        Fail::Api(fault) => Ok(fault.words.into_vec()),
+        Fail::Api(fault) => Vec::from_slice(alloc, fault.words.as_slice()),
         Fail::NoMemory => Err(AllocError),
     }
 }
@@ -50,7 +51,7 @@ fn told(alloc: Global, answer: Result<Value, Fail>) -> Result<Vec<u8>, AllocErro
             encode(&value, &mut bytes)?;
             Ok(bytes)
         }
-        Err(fail) => words_of(fail),
+        Err(fail) => words_of(alloc, fail),
     }
 }
 
@@ -58,7 +59,7 @@ fn told(alloc: Global, answer: Result<Value, Fail>) -> Result<Vec<u8>, AllocErro
 fn done(alloc: Global, answer: Result<(), Fail>) -> Result<Vec<u8>, AllocError> {
     match answer {
         Ok(()) => Ok(Vec::new(alloc)),
-        Err(fail) => words_of(fail),
+        Err(fail) => words_of(alloc, fail),
     }
 }
 
@@ -298,20 +299,24 @@ fn a_text_that_is_kept_isn_t_changed(rt: HostRuntime) -> Result<(), Failed> {
     Ok(())
 }
 
-// A line of as many bytes as a line may have is put, one more byte isn't, and not where a line joins what stands there.
+// A line of as many bytes as a line may have is put, one more byte isn't, and not where a line
+// joins what stands there.
 #[test]
 fn long_lines_are_refused(rt: HostRuntime) -> Result<(), Failed> {
     let alloc = rt.alloc();
     let mut buffer = Buffer::new(alloc, 1)?;
     for (bytes, refused) in [(16_777_217, true), (16_777_216, false)] {
-        let line = Value::Text(Bytes::from_vec(vec![in alloc; b'a'; bytes]?));
+        let line = Value::Text(Bytes::from_vec(vec![in alloc; b'a'; bytes]?)?);
         let mut params = params_of(alloc, WHOLE)?;
         params.push(Value::List(vec![in alloc; line]?))?;
         match nvim_buf_set_lines(alloc, params, &mut buffer) {
             Ok(()) => assert!(rt; !refused),
             Err(fail) => {
                 assert!(rt; refused);
-                assert_eq!(rt; words_of(fail)?.as_slice(), b"Limit reached".as_slice());
+                assert_eq!(rt;
+                    words_of(alloc, fail)?.as_slice(),
+                    b"Limit reached".as_slice()
+                );
             }
         }
     }

@@ -6,13 +6,13 @@ ghost use Rattle.nv_msgpack.specs.Shortest.{HasSpelling};
 ghost use Rattle.nv_places.specs.Flat.{line_at};
 ghost use Rattle.nv_places.specs.Places.{is_before};
 ghost use Rattle.nv_buffer.specs.Splices.{IsInLine, IsNarrowText};
-ghost use Rattle.nv_buffer.specs.Content.{edit_of, text_told};
+ghost use Rattle.nv_buffer.specs.Changes.{text_edit};
 ghost use Rattle.nv_args.specs.Refusals.{Meets};
 ghost use Rattle.nv_args.specs.Weight.{AreLight, weights};
 ghost use Rattle.nv_api_buf.specs.Limits.{put_edit};
 ghost use Rattle.nv_args.specs.Texts.{or_empty, strings, text_between};
-ghost use Rattle.nv_api_buf.specs.Parts.{part_of};
-ghost use Rattle.nv_api_buf.specs.Text.{span_in, place_in, places_in, get_arguments, span_given, get_text, put_text, set_arguments, places_there, set_text};
+ghost use Rattle.nv_api_buf.specs.inside.Parts.{part_of};
+ghost use Rattle.nv_api_buf.specs.Text.{span_in, place_in, places_in, get_arguments, live_span, get_text, put_text, set_arguments, places_there, set_text};
 
 use crate::joining::{is_one_empty, may_put_text};
 use crate::limits::{first_handle, the_buffer};
@@ -25,7 +25,8 @@ use nv_buffer::{Buffer, Line, LineList, Lines, Pos};
 use nv_value::{Bytes, Fields, Items, Value};
 use std::alloc::{AllocError, Global};
 
-/// The text of a buffer between two places, in numbers that may be negative (Neovim help `nvim_buf_get_text()`).
+/// The text of a buffer between two places, in numbers that may be negative (Neovim help
+/// `nvim_buf_get_text()`).
 #[derive(Clone, Copy)]
 pub struct Span {
     /// The buffer's handle; 0 is the current buffer.
@@ -82,7 +83,8 @@ fn place_of(alloc: Global, buffer: &Buffer, row: i64, col: i64) -> Result<Pos, F
 
 // The two places of a span.
 fn places_of(alloc: Global, span: &Span, buffer: &Buffer) -> Result<(Pos, Pos), Fail>
-    ensures places { Meets (λ places. (places.0, places.1)) result (places_in span.now buffer.now.text) }
+    ensures places { Meets (λ places. (places.0, places.1)) result
+        (places_in span.now buffer.now.text) }
     ensures start_in { IfOk result (λ places. IsInLine buffer.now.text places.0) }
     ensures stop_in { IfOk result (λ places. IsInLine buffer.now.text places.1) }
     ensures order { IfOk result (λ places. is_before places.1 places.0 ≡ false) }
@@ -114,30 +116,51 @@ fn part(line: &[u8], row: usize, start: Pos, stop: Pos) -> &[u8]
     if from > to { &[] } else { &line[from..to] }
 }
 
+// What of a line stands between two places, by its row, as a string. A line that lies between them
+// whole is moved.
+fn part_string(
+    alloc: Global,
+    line: Line,
+    row: usize,
+    start: Pos,
+    stop: Pos,
+) -> Result<Bytes, AllocError>
+    requires start { row ≡ start.row → start.col ≤ length line }
+    requires stop { row ≡ stop.row → stop.col ≤ length line }
+    ensures { IfOk result (λ bytes. bytes ≡ part_of line row start stop) }
+{
+    if row == start.row as usize || row == stop.row as usize {
+        return Bytes::from_slice(alloc, part(line.as_slice(), row, start, stop));
+    }
+    Ok(line.into_bytes())
+}
+
 // The text between two places, as strings.
 fn strings_between(alloc: Global, text: &Lines, start: Pos, stop: Pos) -> Result<Items, AllocError>
     requires start_in { IsInLine text.now start }
     requires stop_in { IsInLine text.now stop }
     requires order { is_before stop start ≡ false }
     requires narrow { IsNarrowText text.now }
-    ensures strings { IfOk result (λ items. contents items.items ≡ strings (text_between text.now start stop)) }
+    ensures strings { IfOk result
+        (λ items. contents items.items ≡ strings (text_between text.now start stop)) }
     ensures spelled { IfOk result (λ items. HasSpelling (list (contents items.items))) }
 {
-    let mut items = Vec::with_capacity(alloc, (stop.row - start.row) as usize + 1)?;
-    for row in start.row as usize..stop.row as usize + 1 {
-        let Some(line) = text.get(row) else {
-            unreachable!();
-        };
-        let bytes = Bytes::from_slice(alloc, part(line, row, start, stop))?;
-        items.push(Value::Text(bytes))?;
+    let lines = text.share_rows(start.row as usize, stop.row as usize + 1)?;
+    let mut items = Vec::with_capacity(alloc, lines.len())?;
+    let mut row = start.row as usize;
+    for line in lines.into_vec() {
+        items.push(Value::Text(part_string(alloc, line, row, start, stop)?))?;
+        row += 1;
     }
     Ok(items)
 }
 
 // The span of a call of `nvim_buf_get_text`, and the pairs of its last argument.
 fn get_arguments(alloc: Global, params: Items) -> Result<(Span, Fields), Fail>
-    ensures row { Meets (λ found. (found.0, map pair_content found.1.items)) result (get_arguments (map content params.items)) }
-    ensures light { IfOk result (λ found. weights (pair_contents found.1.items) ≤ weights (contents params.items)) }
+    ensures row { Meets (λ found. (found.0, map pair_content found.1.items)) result
+        (get_arguments (map content params.items)) }
+    ensures light { IfOk result (λ found. weights (pair_contents found.1.items)
+        ≤ weights (contents params.items)) }
 {
     let span = span_of(alloc, "nvim_buf_get_text", params.as_slice())?;
     let opts = dict_argument(alloc, "nvim_buf_get_text", params, 5)?;
@@ -147,7 +170,7 @@ fn get_arguments(alloc: Global, params: Items) -> Result<(Span, Fields), Fail>
 // The span of a call of `nvim_buf_get_text`, whose buffer is there, and which has no keys.
 fn span_given(alloc: Global, params: Items, buffer: &Buffer) -> Result<Span, Fail>
     requires { AreLight (contents params.items) }
-    ensures { Meets (λ span. span) result (span_given (map content params.items) buffer.now) }
+    ensures { Meets (λ span. span) result (live_span (map content params.items) buffer.now) }
 {
     let (span, opts) = get_arguments(alloc, params)?;
     the_buffer(alloc, span.buffer, buffer)?;
@@ -160,7 +183,8 @@ pub fn text_of(alloc: Global, buffer: &Buffer, start: Pos, stop: Pos) -> Result<
     requires start_in { IsInLine buffer.now.text start }
     requires stop_in { IsInLine buffer.now.text stop }
     requires order { is_before stop start ≡ false }
-    ensures text { IfOk result (λ value. content value ≡ list (strings (text_between buffer.now.text start stop))) }
+    ensures text { IfOk result (λ value. content value
+        ≡ list (strings (text_between buffer.now.text start stop))) }
     ensures spelled { IfOk result (λ value. HasSpelling (content value)) }
 {
     let items = strings_between(alloc, buffer.text(), start, stop)?;
@@ -185,7 +209,7 @@ fn or_empty(alloc: Global, lines: LineList) -> Result<LineList, AllocError>
     ensures some { IfOk result (λ new. 0 < length new) }
 {
     if lines.is_empty() {
-        return Ok(LineList::from_vec(vec![in alloc; Line::new(alloc)]?));
+        return Ok(LineList::from_vec(vec![in alloc; Line::new(alloc)?]?));
     }
     Ok(lines)
 }
@@ -210,7 +234,8 @@ fn put_between(
     requires order { is_before stop start ≡ false }
     requires some_line { 0 < length new }
     requires some { ¬ ((start ≡ stop) × (new ≡ [] ∷ [])) }
-    ensures row { Meets (λ _. buffer.new) result (put_edit (edit_of (text_told buffer.old start stop new)) buffer.old) }
+    ensures row { Meets (λ _. buffer.new) result
+        (put_edit (text_edit buffer.old.text start stop new) buffer.old) }
     ensures kept { OnErr result (buffer.new ≡ buffer.old) }
 {
     may_put_text(alloc, buffer, start, stop, &new)?;
@@ -244,7 +269,8 @@ fn put_text(
 
 // The span of a call of `nvim_buf_set_text`, and the strings of its last argument.
 fn set_arguments(alloc: Global, params: Items) -> Result<(Span, Vec<Bytes>), Fail>
-    ensures { Meets (λ found. (found.0, found.1.items)) result (set_arguments (map content params.items)) }
+    ensures { Meets (λ found. (found.0, found.1.items)) result
+        (set_arguments (map content params.items)) }
 {
     let span = span_of(alloc, "nvim_buf_set_text", params.as_slice())?;
     let new = lines_argument(alloc, "nvim_buf_set_text", params, 5)?;
@@ -253,7 +279,8 @@ fn set_arguments(alloc: Global, params: Items) -> Result<(Span, Vec<Bytes>), Fai
 
 // The places of a span of the buffer that it names.
 fn places_there(alloc: Global, span: &Span, buffer: &Buffer) -> Result<(Pos, Pos), Fail>
-    ensures places { Meets (λ places. (places.0, places.1)) result (places_there span.now buffer.now) }
+    ensures places { Meets (λ places. (places.0, places.1)) result
+        (places_there span.now buffer.now) }
     ensures start_in { IfOk result (λ places. IsInLine buffer.now.text places.0) }
     ensures stop_in { IfOk result (λ places. IsInLine buffer.now.text places.1) }
     ensures order { IfOk result (λ places. is_before places.1 places.0 ≡ false) }
@@ -262,8 +289,8 @@ fn places_there(alloc: Global, span: &Span, buffer: &Buffer) -> Result<(Pos, Pos
     places_of(alloc, span, buffer)
 }
 
-/// `nvim_buf_set_text`: puts text between two places. Where the call is refused, and where memory is wanting, the buffer
-/// stays as it was.
+/// `nvim_buf_set_text`: puts text between two places. Where the call is refused, and where memory
+/// is wanting, the buffer stays as it was.
 pub fn nvim_buf_set_text(alloc: Global, params: Items, buffer: &mut Buffer) -> Result<(), Fail>
     ensures row { Meets (λ _. buffer.new) result (set_text (map content params.items) buffer.old) }
     ensures kept { OnErr result (buffer.new ≡ buffer.old) }

@@ -2,13 +2,13 @@
 use Rattle.std.proofs.Common.{◌≡◌, ℕ, zero, suc, pos, ◌≤◌, Bool, true, false, cond, List, [], ◌∷◌, length, get_or, Option, Some, None, refl, sym, ap, ◌∙◌, subst, arith, length-append}
 use Rattle.std.specs.Prelude.{nat_lt, ◌-◌, ◌-ℤ◌}
 use Rattle.nv_value.specs.Content.{Tree, Trees, nil, truth, integer, big, text, bin, list, pairs, ext, opaque, no_more, one}
-use Rattle.nv_msgpack.specs.Spelling.{told, Raw, of_text, of_bin, of_ext, unsigned, signed, float, Many, of_list, of_map, Form, unused, alone, raw, many, form, middle, made, gathered, SpelledBy, SpelledWith, Each, SpellsIn}
+use Rattle.nv_msgpack.specs.Spelling.{fixed, Raw, of_text, of_bin, of_ext, unsigned, signed, float, Many, of_list, of_map, Form, unused, alone, raw, many, form, middle, raw_value, many_value, SpelledBy, SpelledWith, Each, SpellsIn}
 use Rattle.nv_msgpack.specs.Within.{SpellsWithin}
 use Rattle.nv_rpc.specs.Steps.{◌>>=◌}
 use Rattle.nv_rpc.specs.Calls.{Call, request, notice, is_number, msgid_in, name_in, params_in, request_in, notice_in, call_in}
 use Rattle.nv_args.specs.Weight.{weight, weights, AreLight}
 use Rattle.nvimd.specs.Reading.{most_depth, most_bytes}
-use Rattle.nvimd.specs.Calling.{IsCallBounded}
+use Rattle.nvimd.specs.inside.Calling.{IsCallBounded}
 
 -- a value that is told by its first byte alone has no string in it
 abbrev pub IsPlain : Form → Type 0
@@ -41,13 +41,13 @@ unfolding form
 form_plain b =
     let negative : Form = cond (nat_lt b 0x100) (alone (integer (pos b -ℤ pos 0x100))) unused in
     let table : Form = cond (nat_lt b 0xe0) (get_or middle (b - 0xc0) unused) negative in
-    let string : Form = cond (nat_lt b 0xc0) (raw of_text (told (b - 0xa0))) table in
-    let array : Form = cond (nat_lt b 0xa0) (many of_list (told (b - 0x90))) string in
-    let map : Form = cond (nat_lt b 0x90) (many of_map (told (b - 0x80))) array in
+    let string : Form = cond (nat_lt b 0xc0) (raw of_text (fixed (b - 0xa0))) table in
+    let array : Form = cond (nat_lt b 0xa0) (many of_list (fixed (b - 0x90))) string in
+    let map : Form = cond (nat_lt b 0x90) (many of_map (fixed (b - 0x80))) array in
     plain_if (nat_lt b 0x80) (alone (integer (pos b))) map (record { plain = refl })
-    (plain_if (nat_lt b 0x90) (many of_map (told (b - 0x80))) array (record { plain = tt })
-    (plain_if (nat_lt b 0xa0) (many of_list (told (b - 0x90))) string (record { plain = tt })
-    (plain_if (nat_lt b 0xc0) (raw of_text (told (b - 0xa0))) table (record { plain = tt })
+    (plain_if (nat_lt b 0x90) (many of_map (fixed (b - 0x80))) array (record { plain = tt })
+    (plain_if (nat_lt b 0xa0) (many of_list (fixed (b - 0x90))) string (record { plain = tt })
+    (plain_if (nat_lt b 0xc0) (raw of_text (fixed (b - 0xa0))) table (record { plain = tt })
     (plain_if (nat_lt b 0xe0) (get_or middle (b - 0xc0) unused) negative (plain_at middle (b - 0xc0) middle_plain)
     (plain_if (nat_lt b 0x100) (alone (integer (pos b -ℤ pos 0x100))) unused (record { plain = refl }) (record { plain = tt }))))))
 
@@ -55,15 +55,15 @@ unsigned_weight : (b : Bool) (n m : ℕ) → weight (cond b (integer (pos n)) (b
 unsigned_weight true n m = refl
 unsigned_weight false n m = refl
 
-made_weight : (r : Raw) (inner : List ℕ) → weight (made r inner) ≤ length inner
+made_weight : (r : Raw) (inner : List ℕ) → weight (raw_value r inner) ≤ length inner
 made_weight of_text inner = omega arith
 made_weight of_bin inner = omega arith
 made_weight of_ext inner = omega arith
 made_weight signed inner = omega arith
 made_weight float inner = omega arith
-made_weight unsigned inner = let e : weight (made unsigned inner) ≡ 0 = unsigned_weight _ _ _ in omega arith
+made_weight unsigned inner = let e : weight (raw_value unsigned inner) ≡ 0 = unsigned_weight _ _ _ in omega arith
 
-many_weight : (m : Many) (ts : Trees) → weight (gathered m ts) ≡ weights ts
+many_weight : (m : Many) (ts : Trees) → weight (many_value m ts) ≡ weights ts
 many_weight of_list ts = refl
 many_weight of_map ts = refl
 

@@ -3,17 +3,17 @@ use Rattle.std.proofs.Common.{Result, Ok, Err, ◌≡◌, ℕ, suc, ◌+◌, ◌
 use Rattle.std.proofs.lemmas.List.{append-nil}
 use Rattle.std.specs.Io.KnownBytes.{append_known, prepend_known, IsAtEnd}
 use Rattle.nv_io.specs.Streams.{Gave}
-use Rattle.nv_stream.specs.State.{State, fed}
+use Rattle.nv_stream.specs.State.{State, with_piece}
 use Rattle.nv_io.specs.declared.ending.Flaw.{Flaw}
 use Rattle.nv_io.specs.declared.ending.Flaw.TheVariants.{Bad, TooDeep, TooLong, Inside, NoCall}
 use Rattle.nv_io.specs.declared.ending.Ended.{Ended}
 use Rattle.nv_io.specs.declared.ending.Ended.TheVariants.{Closed, Malformed, Overflowed, ReadFault, WriteFault, Quit, NoMemory}
 use Rattle.nv_rpc.specs.Calls.{Call}
 use Rattle.nv_buffer.specs.Content.{Content}
-use Rattle.nvimd.specs.Answers.{outcome_of, answer, answers, buffer_after}
+use Rattle.nvimd.specs.Answers.{outcome_of, answer_to, answers_to, buffer_after}
 use Rattle.nvimd.specs.Reading.{Calls, ReadsFrom}
-use Rattle.nvimd.specs.Ends.{WasRead, AllAnswered, SomeAnswered, IfInside, Ends}
-use Rattle.nvimd.specs.Serving.{IsNew, Served, Finished, CutShort, EndsIn, ended_by, Serves, Turns}
+use Rattle.nvimd.specs.Ends.{WasRead, AnswersAll, AnswersSome, IfInside, SessionEnds}
+use Rattle.nvimd.specs.inside.Serving.{IsNew, ServesCalls, FinishesCalls, StopsShort, EndsIn, ended_by, Serves, Turns}
 use Rattle.nvimd.specs.declared.session.Session.{Session}
 
 -- nothing more went out
@@ -36,11 +36,11 @@ pub buffer_then : (calls more : List Call) (buffer : Content) → buffer_after (
 buffer_then [] more buffer = refl
 buffer_then (call ∷ calls) more buffer = buffer_then calls more (outcome_of call buffer).after
 
-pub answers_then : (calls more : List Call) (buffer : Content) → answers (calls ++ more) buffer ≡ answers calls buffer ++ answers more (buffer_after calls buffer)
+pub answers_then : (calls more : List Call) (buffer : Content) → answers_to (calls ++ more) buffer ≡ answers_to calls buffer ++ answers_to more (buffer_after calls buffer)
 answers_then [] more buffer = refl
 answers_then (call ∷ calls) more buffer =
-    ap (λ (l : List ℕ). answer call buffer ++ l) (answers_then calls more (outcome_of call buffer).after)
-    ∙ sym (append_assoc (answer call buffer) (answers calls (outcome_of call buffer).after) (answers more (buffer_after calls (outcome_of call buffer).after)))
+    ap (λ (l : List ℕ). answer_to call buffer ++ l) (answers_then calls more (outcome_of call buffer).after)
+    ∙ sym (append_assoc (answer_to call buffer) (answers_to calls (outcome_of call buffer).after) (answers_to more (buffer_after calls (outcome_of call buffer).after)))
 
 reads_at : (number other place spot : ℕ) (calls : List Call) (bytes : List ℕ) (flaw : Option Flaw) → number ≡ other → place ≡ spot → ReadsFrom number place calls bytes flaw → ReadsFrom other spot calls bytes flaw
 reads_at number other place spot calls bytes flaw e d h =
@@ -63,12 +63,12 @@ reads_then number place (call ∷ calls) more whole bytes flaw p q =
     )
 
 -- what went out for calls, and then for more
-written_then : (calls more : List Call) (first middle : Content) (before between after : Option (List ℕ)) (n : List ℕ) → between ≡ append_known before (answers calls first) → after ≡ append_known between n → after ≡ append_known before (answers calls first ++ n)
+written_then : (calls more : List Call) (first middle : Content) (before between after : Option (List ℕ)) (n : List ℕ) → between ≡ append_known before (answers_to calls first) → after ≡ append_known between n → after ≡ append_known before (answers_to calls first ++ n)
 written_then calls more first middle before between after n p q =
-    q ∙ ap (λ (o : Option (List ℕ)). append_known o n) p ∙ known_then before (answers calls first) n
+    q ∙ ap (λ (o : Option (List ℕ)). append_known o n) p ∙ known_then before (answers_to calls first) n
 
 -- a session that did nothing
-pub served_none : (s : Session) (out : Option (List ℕ)) → Served s.stream.held s s out out
+pub served_none : (s : Session) (out : Option (List ℕ)) → ServesCalls s.stream.held s s out out
 served_none s out = record {
   calls = [];
   whole = [];
@@ -81,12 +81,12 @@ served_none s out = record {
 }
 
 -- one step and the next
-pub served_then : (bytes piece : List ℕ) (first second third : Session) (a b c : Option (List ℕ)) → Served bytes first second a b → Served (second.stream.held ++ piece) second third b c → Served (bytes ++ piece) first third a c
+pub served_then : (bytes piece : List ℕ) (first second third : Session) (a b c : Option (List ℕ)) → ServesCalls bytes first second a b → ServesCalls (second.stream.held ++ piece) second third b c → ServesCalls (bytes ++ piece) first third a c
 served_then bytes piece first second third a b c p q =
     let lengths : length (p.calls ++ q.calls) ≡ length p.calls + length q.calls = length-append p.calls q.calls in
     let sizes : length (p.whole ++ q.whole) ≡ length p.whole + length q.whole = length-append p.whole q.whole in
-    let all : answers (p.calls ++ q.calls) first.buffer ≡ answers p.calls first.buffer ++ answers q.calls second.buffer =
-    answers_then p.calls q.calls first.buffer ∙ ap (λ (b : Content). answers p.calls first.buffer ++ answers q.calls b) (sym p.after_them) in
+    let all : answers_to (p.calls ++ q.calls) first.buffer ≡ answers_to p.calls first.buffer ++ answers_to q.calls second.buffer =
+    answers_then p.calls q.calls first.buffer ∙ ap (λ (b : Content). answers_to p.calls first.buffer ++ answers_to q.calls b) (sym p.after_them) in
     record {
       calls = p.calls ++ q.calls;
       whole = p.whole ++ q.whole;
@@ -96,29 +96,29 @@ served_then bytes piece first second third a b c p q =
       place = omega (arith, p.place, q.place);
       number = omega (arith, p.number, q.number);
       after_them = q.after_them ∙ ap (λ (b : Content). buffer_after q.calls b) p.after_them ∙ sym (buffer_then p.calls q.calls first.buffer);
-      written = written_then p.calls q.calls first.buffer second.buffer a b c (answers q.calls second.buffer) p.written q.written
+      written = written_then p.calls q.calls first.buffer second.buffer a b c (answers_to q.calls second.buffer) p.written q.written
           ∙ ap (λ (l : List ℕ). append_known a l) (sym all);
     }
 
 -- one step over what is held and the next
-pub served_on : (bytes : List ℕ) (first second third : Session) (a b c : Option (List ℕ)) → Served bytes first second a b → Served second.stream.held second third b c → Served bytes first third a c
+pub served_on : (bytes : List ℕ) (first second third : Session) (a b c : Option (List ℕ)) → ServesCalls bytes first second a b → ServesCalls second.stream.held second third b c → ServesCalls bytes first third a c
 served_on bytes first second third a b c p q =
-    subst (λ (l : List ℕ). Served l first third a c) (append-nil bytes)
-    (served_then bytes [] first second third a b c p (subst (λ (l : List ℕ). Served l second third b c) (sym (append-nil second.stream.held)) q))
+    subst (λ (l : List ℕ). ServesCalls l first third a c) (append-nil bytes)
+    (served_then bytes [] first second third a b c p (subst (λ (l : List ℕ). ServesCalls l second third b c) (sym (append-nil second.stream.held)) q))
 
 -- what a session holds and what it gave come to the same
-pub held_same : (old new : Session) (before after : Option (List ℕ)) → Served old.stream.held old new before after → new.stream.start + length new.stream.held ≡ old.stream.start + length old.stream.held
+pub held_same : (old new : Session) (before after : Option (List ℕ)) → ServesCalls old.stream.held old new before after → new.stream.start + length new.stream.held ≡ old.stream.start + length old.stream.held
 held_same old new before after h = omega (arith, h.place, ap (length {A = ℕ}) h.parts, length-append h.whole new.stream.held)
 
 -- a piece came, and what a session holds and what it gave are longer by it
-pub held_more : (piece : List ℕ) (old new : Session) (before after : Option (List ℕ)) → Served (old.stream.held ++ piece) old new before after → new.stream.start + length new.stream.held ≡ old.stream.start + length old.stream.held + length piece
+pub held_more : (piece : List ℕ) (old new : Session) (before after : Option (List ℕ)) → ServesCalls (old.stream.held ++ piece) old new before after → new.stream.start + length new.stream.held ≡ old.stream.start + length old.stream.held + length piece
 held_more piece old new before after h =
     omega (arith, h.place, ap (length {A = ℕ}) h.parts, length-append h.whole new.stream.held, length-append old.stream.held piece)
 
-finished_then : (flaw : Option Flaw) (bytes piece : List ℕ) (first second : Session) (a b c : Option (List ℕ)) → Served bytes first second a b → Finished flaw (second.stream.held ++ piece) second b c → Finished flaw (bytes ++ piece) first a c
+finished_then : (flaw : Option Flaw) (bytes piece : List ℕ) (first second : Session) (a b c : Option (List ℕ)) → ServesCalls bytes first second a b → FinishesCalls flaw (second.stream.held ++ piece) second b c → FinishesCalls flaw (bytes ++ piece) first a c
 finished_then flaw bytes piece first second a b c p q =
-    let all : answers (p.calls ++ q.calls) first.buffer ≡ answers p.calls first.buffer ++ answers q.calls second.buffer =
-    answers_then p.calls q.calls first.buffer ∙ ap (λ (b : Content). answers p.calls first.buffer ++ answers q.calls b) (sym p.after_them) in
+    let all : answers_to (p.calls ++ q.calls) first.buffer ≡ answers_to p.calls first.buffer ++ answers_to q.calls second.buffer =
+    answers_then p.calls q.calls first.buffer ∙ ap (λ (b : Content). answers_to p.calls first.buffer ++ answers_to q.calls b) (sym p.after_them) in
     let split : bytes ++ piece ≡ p.whole ++ (second.stream.held ++ piece) =
     ap (λ (l : List ℕ). l ++ piece) p.parts ∙ append_assoc p.whole second.stream.held piece in
     record {
@@ -126,7 +126,7 @@ finished_then flaw bytes piece first second a b c p q =
       reads = subst (λ (l : List ℕ). ReadsFrom first.number first.stream.start (p.calls ++ q.calls) l flaw) (sym split)
           (reads_then first.number first.stream.start p.calls q.calls p.whole (second.stream.held ++ piece) flaw p.spelled
           (reads_at second.number (first.number + length p.calls) second.stream.start (first.stream.start + length p.whole) q.calls (second.stream.held ++ piece) flaw p.number p.place q.reads));
-      written = written_then p.calls q.calls first.buffer second.buffer a b c (answers q.calls second.buffer) p.written q.written
+      written = written_then p.calls q.calls first.buffer second.buffer a b c (answers_to q.calls second.buffer) p.written q.written
           ∙ ap (λ (l : List ℕ). append_known a l) (sym all);
     }
 
@@ -137,10 +137,10 @@ take_past (x ∷ a) b n =
     let e : length (x ∷ a) + n ≡ suc (length a + n) = omega arith in
     ap (λ (k : ℕ). take k (x ∷ (a ++ b))) e ∙ ap (λ (l : List ℕ). x ∷ l) (take_past a b n)
 
-cut_then : (bytes piece : List ℕ) (first second : Session) (a b c : Option (List ℕ)) → Served bytes first second a b → CutShort (second.stream.held ++ piece) second b c → CutShort (bytes ++ piece) first a c
+cut_then : (bytes piece : List ℕ) (first second : Session) (a b c : Option (List ℕ)) → ServesCalls bytes first second a b → StopsShort (second.stream.held ++ piece) second b c → StopsShort (bytes ++ piece) first a c
 cut_then bytes piece first second a b c p q =
-    let all : answers (p.calls ++ q.calls) first.buffer ≡ answers p.calls first.buffer ++ answers q.calls second.buffer =
-    answers_then p.calls q.calls first.buffer ∙ ap (λ (b : Content). answers p.calls first.buffer ++ answers q.calls b) (sym p.after_them) in
+    let all : answers_to (p.calls ++ q.calls) first.buffer ≡ answers_to p.calls first.buffer ++ answers_to q.calls second.buffer =
+    answers_then p.calls q.calls first.buffer ∙ ap (λ (b : Content). answers_to p.calls first.buffer ++ answers_to q.calls b) (sym p.after_them) in
     record {
       calls = p.calls ++ q.calls;
       whole = p.whole ++ q.whole;
@@ -148,14 +148,14 @@ cut_then bytes piece first second a b c p q =
       parts = ap (λ (l : List ℕ). l ++ piece) p.parts ∙ append_assoc p.whole second.stream.held piece
           ∙ ap (λ (l : List ℕ). p.whole ++ l) q.parts ∙ sym (append_assoc p.whole q.whole q.rest);
       spelled = calls_then p.calls q.calls p.whole q.whole p.spelled q.spelled;
-      count = length (answers p.calls first.buffer) + q.count;
-      written = written_then p.calls q.calls first.buffer second.buffer a b c (take q.count (answers q.calls second.buffer)) p.written q.written
-          ∙ ap (λ (l : List ℕ). append_known a l) (sym (take_past (answers p.calls first.buffer) (answers q.calls second.buffer) q.count)
-          ∙ ap (λ (l : List ℕ). take (length (answers p.calls first.buffer) + q.count) l) (sym all));
+      count = length (answers_to p.calls first.buffer) + q.count;
+      written = written_then p.calls q.calls first.buffer second.buffer a b c (take q.count (answers_to q.calls second.buffer)) p.written q.written
+          ∙ ap (λ (l : List ℕ). append_known a l) (sym (take_past (answers_to p.calls first.buffer) (answers_to q.calls second.buffer) q.count)
+          ∙ ap (λ (l : List ℕ). take (length (answers_to p.calls first.buffer) + q.count) l) (sym all));
     }
 
 -- steps, and then an end
-pub ends_then : (over : Type 0) (ended : Ended) (bytes piece : List ℕ) (first second : Session) (a b c : Option (List ℕ)) → Served bytes first second a b → EndsIn over ended (second.stream.held ++ piece) second b c → EndsIn over ended (bytes ++ piece) first a c
+pub ends_then : (over : Type 0) (ended : Ended) (bytes piece : List ℕ) (first second : Session) (a b c : Option (List ℕ)) → ServesCalls bytes first second a b → EndsIn over ended (second.stream.held ++ piece) second b c → EndsIn over ended (bytes ++ piece) first a c
 ends_then over Closed bytes piece first second a b c p q = (finished_then None bytes piece first second a b c p q.0, q.1)
 ends_then over (Malformed flaw) bytes piece first second a b c p q = (finished_then (Some flaw) bytes piece first second a b c p q.0, q.1)
 ends_then over ReadFault bytes piece first second a b c p q = (q.0, q.1, finished_then q.0 bytes piece first second a b c p q.2)
@@ -165,7 +165,7 @@ ends_then over (Overflowed entry) bytes piece first second a b c p q = absurd q
 ends_then over (Quit entry) bytes piece first second a b c p q = absurd q
 
 -- steps over what is held, and then an end
-pub ends_on : (over : Type 0) (ended : Ended) (bytes : List ℕ) (first second : Session) (a b c : Option (List ℕ)) → Served bytes first second a b → EndsIn over ended second.stream.held second b c → EndsIn over ended bytes first a c
+pub ends_on : (over : Type 0) (ended : Ended) (bytes : List ℕ) (first second : Session) (a b c : Option (List ℕ)) → ServesCalls bytes first second a b → EndsIn over ended second.stream.held second b c → EndsIn over ended bytes first a c
 ends_on over ended bytes first second a b c p q =
     subst (λ (l : List ℕ). EndsIn over ended l first a c) (append-nil bytes)
     (ends_then over ended bytes [] first second a b c p (subst (λ (l : List ℕ). EndsIn over ended l second b c) (sym (append-nil second.stream.held)) q))
@@ -187,14 +187,14 @@ ends_by over other NoMemory bytes s a b f h = h
 ends_by over other (Overflowed entry) bytes s a b f h = h
 ends_by over other (Quit entry) bytes s a b f h = h
 
-all_answered : (flaw : Option Flaw) (bytes : List ℕ) (s : Session) (a b : Option (List ℕ)) → IsNew s → Finished flaw bytes s a b → AllAnswered flaw bytes a b
+all_answered : (flaw : Option Flaw) (bytes : List ℕ) (s : Session) (a b : Option (List ℕ)) → IsNew s → FinishesCalls flaw bytes s a b → AnswersAll flaw bytes a b
 all_answered flaw bytes s a b n h = record {
   calls = h.calls;
   reads = reads_at s.number 0 s.stream.start 0 h.calls bytes flaw n.none n.place h.reads;
-  written = h.written ∙ ap (λ (b : Content). append_known a (answers h.calls b)) n.first;
+  written = h.written ∙ ap (λ (b : Content). append_known a (answers_to h.calls b)) n.first;
 }
 
-some_answered : (bytes : List ℕ) (s : Session) (a b : Option (List ℕ)) → IsNew s → CutShort bytes s a b → SomeAnswered bytes a b
+some_answered : (bytes : List ℕ) (s : Session) (a b : Option (List ℕ)) → IsNew s → StopsShort bytes s a b → AnswersSome bytes a b
 some_answered bytes s a b n h = record {
   calls = h.calls;
   whole = h.whole;
@@ -202,11 +202,11 @@ some_answered bytes s a b n h = record {
   parts = h.parts;
   reads = h.spelled;
   count = h.count;
-  written = h.written ∙ ap (λ (b : Content). append_known a (take h.count (answers h.calls b))) n.first;
+  written = h.written ∙ ap (λ (b : Content). append_known a (take h.count (answers_to h.calls b))) n.first;
 }
 
 -- the end of a session that stood at its first byte
-pub ends_new : (ended : Ended) (bytes : List ℕ) (left : Option (List ℕ)) (s : Session) (a b : Option (List ℕ)) → IsNew s → EndsIn (WasRead left bytes) ended bytes s a b → Ends ended bytes left a b
+pub ends_new : (ended : Ended) (bytes : List ℕ) (left : Option (List ℕ)) (s : Session) (a b : Option (List ℕ)) → IsNew s → EndsIn (WasRead left bytes) ended bytes s a b → SessionEnds ended bytes left a b
 ends_new Closed bytes left s a b n h = (all_answered None bytes s a b n h.0, h.1)
 ends_new (Malformed flaw) bytes left s a b n h = (all_answered (Some flaw) bytes s a b n h.0, h.1)
 ends_new ReadFault bytes left s a b n h = (h.0, h.1, all_answered h.0 bytes s a b n h.2)
@@ -216,7 +216,7 @@ ends_new (Overflowed entry) bytes left s a b n h = absurd h
 ends_new (Quit entry) bytes left s a b n h = absurd h
 
 -- a session that holds a piece more
-pub served_fed : (piece : List ℕ) (old middle : Session) (out : Option (List ℕ)) → middle.stream ≡ fed old.stream piece → middle.number ≡ old.number → middle.buffer ≡ old.buffer → Served (old.stream.held ++ piece) old middle out out
+pub served_fed : (piece : List ℕ) (old middle : Session) (out : Option (List ℕ)) → middle.stream ≡ with_piece old.stream piece → middle.number ≡ old.number → middle.buffer ≡ old.buffer → ServesCalls (old.stream.held ++ piece) old middle out out
 served_fed piece old middle out s n t =
     let place : middle.stream.start ≡ old.stream.start = ap (λ (x : State). x.start) s in
     record {
@@ -231,7 +231,7 @@ served_fed piece old middle out s n t =
     }
 
 -- a piece was held, and then its calls were served
-pub turned : {A : Type 0} (over : Type 0) (done : Result A Ended) (piece : List ℕ) (old middle new : Session) (before after : Option (List ℕ)) → middle.stream ≡ fed old.stream piece → middle.number ≡ old.number → middle.buffer ≡ old.buffer
+pub turned : {A : Type 0} (over : Type 0) (done : Result A Ended) (piece : List ℕ) (old middle new : Session) (before after : Option (List ℕ)) → middle.stream ≡ with_piece old.stream piece → middle.number ≡ old.number → middle.buffer ≡ old.buffer
     → 0 < length piece → length piece ≤ 65536 → Serves ⊥ done middle.stream.held middle new before after → Turns over done piece old new before after
 turned over (Ok done) piece old middle new before after s n t some few h =
     (served_on (old.stream.held ++ piece) old middle new before before after (served_fed piece old middle before s n t) h.0, h.1, h.2, some, few)
@@ -256,17 +256,17 @@ gave_then t u v l m n a b p q = record {
 }
 
 -- how many bytes came to a session
-pub served_length : (bytes : List ℕ) (old new : Session) (before after : Option (List ℕ)) → IsNew old → Served bytes old new before after → length bytes ≡ new.stream.start + length new.stream.held
+pub served_length : (bytes : List ℕ) (old new : Session) (before after : Option (List ℕ)) → IsNew old → ServesCalls bytes old new before after → length bytes ≡ new.stream.start + length new.stream.held
 served_length bytes old new before after n h =
     omega (arith, n.place, h.place, ap (length {A = ℕ}) h.parts, length-append h.whole new.stream.held)
 
 -- a session that ended before anything came
-pub ends_before : (left out : Option (List ℕ)) → Ends NoMemory [] left out out
+pub ends_before : (left out : Option (List ℕ)) → SessionEnds NoMemory [] left out out
 ends_before left out = record { calls = []; whole = []; rest = []; parts = refl; reads = refl; count = 0; written = known_none out }
 
 -- a turn ended a session
-pub ends_turn : (ended : Ended) (bytes piece : List ℕ) (left : Option (List ℕ)) (first second : Session) (a b c : Option (List ℕ)) → IsNew first → Served bytes first second a b
-    → EndsIn (IsAtEnd left) ended (second.stream.held ++ piece) second b c → Ends ended (bytes ++ piece) left a c
+pub ends_turn : (ended : Ended) (bytes piece : List ℕ) (left : Option (List ℕ)) (first second : Session) (a b c : Option (List ℕ)) → IsNew first → ServesCalls bytes first second a b
+    → EndsIn (IsAtEnd left) ended (second.stream.held ++ piece) second b c → SessionEnds ended (bytes ++ piece) left a c
 ends_turn ended bytes piece left first second a b c n p q =
     ends_new ended (bytes ++ piece) left first a c n
     (ends_by (IsAtEnd left) (WasRead left (bytes ++ piece)) ended (bytes ++ piece) first a c (λ e. inl e)
@@ -282,6 +282,6 @@ not_write_fault None e = cc
 not_write_fault (Some flaw) e = cc
 
 -- a session from whose source so many bytes came that it counts as ended
-pub ends_full : (ended : Ended) (bytes : List ℕ) (left : Option (List ℕ)) (first second : Session) (a b : Option (List ℕ)) → IsNew first → Served bytes first second a b
-    → EndsIn (WasRead left bytes) ended second.stream.held second b b → Ends ended bytes left a b
+pub ends_full : (ended : Ended) (bytes : List ℕ) (left : Option (List ℕ)) (first second : Session) (a b : Option (List ℕ)) → IsNew first → ServesCalls bytes first second a b
+    → EndsIn (WasRead left bytes) ended second.stream.held second b b → SessionEnds ended bytes left a b
 ends_full ended bytes left first second a b n p q = ends_new ended bytes left first a b n (ends_on (WasRead left bytes) ended bytes first second a b b p q)

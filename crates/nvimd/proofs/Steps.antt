@@ -11,22 +11,22 @@ use Rattle.nv_io.specs.declared.ending.Ended.{Ended}
 use Rattle.nv_io.specs.declared.ending.Ended.TheVariants.{Closed, Malformed, Overflowed, ReadFault, WriteFault, Quit, NoMemory}
 use Rattle.nv_msgpack.specs.Within.{SpellsWithin, IsPartial}
 use Rattle.nv_msgpack.proofs.Complete.{has_byte-in}
-use Rattle.nv_stream.specs.State.{State, gave, stopped, end_at, end_of}
+use Rattle.nv_stream.specs.State.{State, behind_value, with_flaw, end_at, stream_end}
 use Rattle.nv_stream.specs.State as stream
-use Rattle.nv_stream.specs.Answers.{NeedsMore, Gives, IsFlawAt}
+use Rattle.nv_stream.specs.Answers.{NeedsMore, IsAnswer, IsFlawAt}
 use Rattle.nv_stream.specs.declared.stream.Next.TheVariants.{Value as TheValue, Flaw as TheFlaw}
 use Rattle.nv_rpc.specs.Calls.{Call, call_in}
 use Rattle.nv_buffer.specs.Content.{Content}
-use Rattle.nvimd.specs.Methods.{fresh}
-use Rattle.nvimd.specs.Answers.{outcome_of, answer, answers}
+use Rattle.nvimd.specs.Methods.{first_buffer}
+use Rattle.nvimd.specs.Answers.{outcome_of, answer_to, answers_to}
 use Rattle.nvimd.specs.Reading.{most_depth, most_bytes, Calls, EndsAt}
 use Rattle.nvimd.specs.Ends.{IsUnfinished, IfInside}
-use Rattle.nvimd.specs.Serving.{IsReady, IsNew, Begins, Answered, Stops, Served, Finished, CutShort, EndsIn, ended_by}
+use Rattle.nvimd.specs.inside.Serving.{IsReady, IsNew, WroteFront, AnswersCall, StopsAtValue, ServesCalls, FinishesCalls, StopsShort, EndsIn, ended_by}
 use Rattle.nvimd.specs.declared.session.Session.{Session}
 use Rattle.nvimd.proofs.Serving.{known_none, served_none}
 
 -- a session to which no byte has come
-pub begun : (s : Session) → s.stream ≡ stream.fresh most_depth most_bytes → s.buffer ≡ fresh → s.number ≡ 0 → IsNew s × IsReady s
+pub begun : (s : Session) → s.stream ≡ stream.empty_state most_depth most_bytes → s.buffer ≡ first_buffer → s.number ≡ 0 → IsNew s × IsReady s
 begun s e t n =
     let place : s.stream.start ≡ 0 = ap (λ (x : State). x.start) e in (
       record { place = place; nothing = ap (λ (x : State). x.held) e; none = n; first = t },
@@ -39,14 +39,14 @@ begun s e t n =
     )
 
 -- nothing was answered yet
-pub cut_none : (bytes : List ℕ) (s : Session) (out : Option (List ℕ)) → CutShort bytes s out out
+pub cut_none : (bytes : List ℕ) (s : Session) (out : Option (List ℕ)) → StopsShort bytes s out out
 cut_none bytes s out = record { calls = []; whole = []; rest = bytes; parts = refl; spelled = refl; count = 0; written = known_none out }
 
 unfinished_at : (place : ℕ) (held : List ℕ) → IsUnfinished (end_at place held)
 unfinished_at place [] = tt
 unfinished_at place (b ∷ held) = tt
 
-finished_at : (s : Session) (held : List ℕ) (out : Option (List ℕ)) → (held ≡ []) ⊎ IsPartial most_depth most_bytes held → Finished (end_at s.stream.start held) held s out out
+finished_at : (s : Session) (held : List ℕ) (out : Option (List ℕ)) → (held ≡ []) ⊎ IsPartial most_depth most_bytes held → FinishesCalls (end_at s.stream.start held) held s out out
 finished_at s [] out h = record { calls = []; reads = refl; written = known_none out }
 finished_at s (b ∷ held) out (inl e) = absurd (omega (arith, ap (length {A = ℕ}) e))
 finished_at s (b ∷ held) out (inr p) = record { calls = []; reads = (refl, omega arith, p); written = known_none out }
@@ -58,7 +58,7 @@ needs s r h =
     subst (λ (d : ℕ). P d most_bytes) r.depth (subst (λ (m : ℕ). P s.stream.depth m) r.most h)
 
 -- the end of what a session holds
-held_ends : (s : Session) (out : Option (List ℕ)) → IsReady s → NeedsMore s.stream → (flaw : Option Flaw) × (flaw ≡ end_of s.stream) × IsUnfinished flaw × Finished flaw s.stream.held s out out
+held_ends : (s : Session) (out : Option (List ℕ)) → IsReady s → NeedsMore s.stream → (flaw : Option Flaw) × (flaw ≡ stream_end s.stream) × IsUnfinished flaw × FinishesCalls flaw s.stream.held s out out
 held_ends s out r h = (
   end_at s.stream.start s.stream.held,
   sym (ap (λ (o : Option Flaw). option_or o (end_at s.stream.start s.stream.held)) r.no_flaw),
@@ -66,7 +66,7 @@ held_ends s out r h = (
   finished_at s s.stream.held out (needs s r h),
 )
 
-ends_by_flaw : (over : Type 0) (flaw : Option Flaw) (bytes : List ℕ) (s : Session) (out : Option (List ℕ)) → over → IsUnfinished flaw → Finished flaw bytes s out out → EndsIn over (ended_by flaw) bytes s out out
+ends_by_flaw : (over : Type 0) (flaw : Option Flaw) (bytes : List ℕ) (s : Session) (out : Option (List ℕ)) → over → IsUnfinished flaw → FinishesCalls flaw bytes s out out → EndsIn over (ended_by flaw) bytes s out out
 ends_by_flaw over None bytes s out o u f = (f, o)
 ends_by_flaw over (Some (Inside place)) bytes s out o u f = (f, o)
 ends_by_flaw over (Some (Bad place)) bytes s out o u f = absurd u
@@ -75,7 +75,7 @@ ends_by_flaw over (Some (TooLong place)) bytes s out o u f = absurd u
 ends_by_flaw over (Some (NoCall place)) bytes s out o u f = absurd u
 
 -- a session to which no more bytes come
-pub ends_held : (over : Type 0) (ended : Ended) (s : Session) (out : Option (List ℕ)) → over → IsReady s → NeedsMore s.stream → ended ≡ ended_by (end_of s.stream) → EndsIn over ended s.stream.held s out out
+pub ends_held : (over : Type 0) (ended : Ended) (s : Session) (out : Option (List ℕ)) → over → IsReady s → NeedsMore s.stream → ended ≡ ended_by (stream_end s.stream) → EndsIn over ended s.stream.held s out out
 ends_held over ended s out o r h e =
     let w = held_ends s out r h in
     let E : Ended → Type 0 = λ x. EndsIn over x s.stream.held s out out in
@@ -91,7 +91,7 @@ fails_held over s out r h = let w = held_ends s out r h in ends_last over ReadFa
 
 -- a session from which the stream has given a value
 pub record Given (v : Value) (old middle : Session) : Type 0 where
-  pub gives : Gives (TheValue v) old.stream middle.stream
+  pub gives : IsAnswer (TheValue v) old.stream middle.stream
   pub number : middle.number ≡ old.number
   pub buffer : middle.buffer ≡ old.buffer
 
@@ -101,7 +101,7 @@ within_bounds v old middle front r h =
     subst (λ (d : ℕ). P d most_bytes) r.depth (subst (λ (m : ℕ). P old.stream.depth m) r.most h)
 
 -- the value that was given is spelled within the bounds
-pub spelled_front : (v : Value) (old : Session) (new : State) → IsReady old → Gives (TheValue v) old.stream new → (front : List ℕ) × SpellsWithin most_depth most_bytes (content v) front
+pub spelled_front : (v : Value) (old : Session) (new : State) → IsReady old → IsAnswer (TheValue v) old.stream new → (front : List ℕ) × SpellsWithin most_depth most_bytes (content v) front
 spelled_front v old new r g = (g.0, within_bounds v old old g.0 r g.2)
 
 spelled_given : (v : Value) (old middle : Session) (g : Given v old middle) → IsReady old → SpellsWithin most_depth most_bytes (content v) g.gives.0
@@ -110,7 +110,7 @@ spelled_given v old middle g r = within_bounds v old middle g.gives.0 r g.gives.
 not_inside : (flaw : Flaw) (n : ℕ) → flaw ≡ NoCall n → IfInside flaw ⊥
 not_inside flaw n e = subst (λ (f : Flaw). IfInside f ⊥) (sym e) tt
 
-no_call_here : (flaw : Flaw) (v : Value) (old middle : Session) (before after : Option (List ℕ)) → IsReady old → (g : Given v old middle) → flaw ≡ NoCall middle.number → call_in (content v) ≡ None → after ≡ before → Finished (Some flaw) old.stream.held old before after
+no_call_here : (flaw : Flaw) (v : Value) (old middle : Session) (before after : Option (List ℕ)) → IsReady old → (g : Given v old middle) → flaw ≡ NoCall middle.number → call_in (content v) ≡ None → after ≡ before → FinishesCalls (Some flaw) old.stream.held old before after
 no_call_here flaw v old middle before after r g e n w =
     let E : Flaw → Type 0 = λ f. EndsAt old.number old.stream.start old.stream.held (Some f) in
     record {
@@ -133,10 +133,10 @@ one_call : (v : Value) (old middle : Session) (call : Call) (g : Given v old mid
 one_call v old middle call g r e =
     (g.gives.0, [], record { value = content v; spelled = spelled_given v old middle g r; is_call = e }, sym (append-nil g.gives.0), refl)
 
-one_answer : (call : Call) (old middle : Content) → middle ≡ old → answer call middle ≡ answers (call ∷ []) old
-one_answer call old middle e = ap (answer call) e ∙ sym (append-nil (answer call old))
+one_answer : (call : Call) (old middle : Content) → middle ≡ old → answer_to call middle ≡ answers_to (call ∷ []) old
+one_answer call old middle e = ap (answer_to call) e ∙ sym (append-nil (answer_to call old))
 
-cut_in_call : (v : Value) (old middle : Session) (before after : Option (List ℕ)) (call : Call) → IsReady old → Given v old middle → call_in (content v) ≡ Some call → Begins (answer call middle.buffer) before after → CutShort old.stream.held old before after
+cut_in_call : (v : Value) (old middle : Session) (before after : Option (List ℕ)) (call : Call) → IsReady old → Given v old middle → call_in (content v) ≡ Some call → WroteFront (answer_to call middle.buffer) before after → StopsShort old.stream.held old before after
 cut_in_call v old middle before after call r g e b = record {
   calls = call ∷ [];
   whole = g.gives.0;
@@ -148,7 +148,7 @@ cut_in_call v old middle before after call r g e b = record {
 }
 
 -- the value that the stream gave wasn't answered
-pub refused : (ended : Ended) (v : Value) (old middle : Session) (before after : Option (List ℕ)) → IsReady old → Given v old middle → Stops ended (content v) middle before after → EndsIn ⊥ ended old.stream.held old before after
+pub refused : (ended : Ended) (v : Value) (old middle : Session) (before after : Option (List ℕ)) → IsReady old → Given v old middle → StopsAtValue ended (content v) middle before after → EndsIn ⊥ ended old.stream.held old before after
 refused (Malformed flaw) v old middle before after r g h =
     (no_call_here flaw v old middle before after r g h.0 h.1 h.2, not_inside flaw middle.number h.0)
 refused WriteFault v old middle before after r g h = cut_in_call v old middle before after h.1 r g h.2 h.3
@@ -159,11 +159,11 @@ refused (Overflowed entry) v old middle before after r g h = absurd h.0
 refused (Quit entry) v old middle before after r g h = absurd h.0
 
 -- the value that the stream gave was a call, and was answered
-pub served_one : (v : Value) (old middle new : Session) (before after : Option (List ℕ)) (call : Call) → IsReady old → Given v old middle → call_in (content v) ≡ Some call → Answered call middle new before after
-    → Served old.stream.held old new before after × IsReady new × (length new.stream.held < length old.stream.held)
+pub served_one : (v : Value) (old middle new : Session) (before after : Option (List ℕ)) (call : Call) → IsReady old → Given v old middle → call_in (content v) ≡ Some call → AnswersCall call middle new before after
+    → ServesCalls old.stream.held old new before after × IsReady new × (length new.stream.held < length old.stream.held)
 served_one v old middle new before after call r g e a =
     let front = g.gives.0 in
-    let state : new.stream ≡ gave old.stream (length g.gives.0) middle.stream.held = a.stream ∙ g.gives.4 in
+    let state : new.stream ≡ behind_value old.stream (length g.gives.0) middle.stream.held = a.stream ∙ g.gives.4 in
     let place : new.stream.start ≡ old.stream.start + length g.gives.0 = ap (λ (x : State). x.start) state in
     let held : new.stream.held ≡ middle.stream.held = ap (λ (x : State). x.held) state in
     let parts : old.stream.held ≡ g.gives.0 ++ new.stream.held = g.gives.3 ∙ ap (λ (l : List ℕ). g.gives.0 ++ l) (sym held) in
@@ -189,7 +189,7 @@ served_one v old middle new before after call r g e a =
       omega (arith, ap (length {A = ℕ}) parts, length-append g.gives.0 new.stream.held),
     )
 
-flaw_here : (flaw : Flaw) (s : Session) (out : Option (List ℕ)) → IsFlawAt most_depth most_bytes s.stream.start s.stream.held flaw → Finished (Some flaw) s.stream.held s out out × IfInside flaw ⊥
+flaw_here : (flaw : Flaw) (s : Session) (out : Option (List ℕ)) → IsFlawAt most_depth most_bytes s.stream.start s.stream.held flaw → FinishesCalls (Some flaw) s.stream.held s out out × IfInside flaw ⊥
 flaw_here (Bad place) s out h = (record { calls = []; reads = h; written = known_none out }, tt)
 flaw_here (TooDeep place) s out h = (record { calls = []; reads = h; written = known_none out }, tt)
 flaw_here (TooLong place) s out h = (record { calls = []; reads = h; written = known_none out }, tt)
@@ -197,7 +197,7 @@ flaw_here (Inside place) s out h = absurd h
 flaw_here (NoCall place) s out h = absurd h
 
 -- the stream met a flaw
-pub flawed : (flaw : Flaw) (s : Session) (new : State) (out : Option (List ℕ)) → IsReady s → Gives (TheFlaw flaw) s.stream new → Finished (Some flaw) s.stream.held s out out × IfInside flaw ⊥
+pub flawed : (flaw : Flaw) (s : Session) (new : State) (out : Option (List ℕ)) → IsReady s → IsAnswer (TheFlaw flaw) s.stream new → FinishesCalls (Some flaw) s.stream.held s out out × IfInside flaw ⊥
 flawed flaw s new out r g =
     let P : ℕ → ℕ → Type 0 = λ d m. IsFlawAt d m s.stream.start s.stream.held flaw in
     let met : IsFlawAt most_depth most_bytes s.stream.start s.stream.held flaw =
@@ -206,5 +206,5 @@ flawed flaw s new out r g =
     flaw_here flaw s out met
 
 -- a session to which nothing came
-pub served_new : (s : Session) (out : Option (List ℕ)) → IsNew s → Served [] s s out out
-served_new s out n = subst (λ (l : List ℕ). Served l s s out out) n.nothing (served_none s out)
+pub served_new : (s : Session) (out : Option (List ℕ)) → IsNew s → ServesCalls [] s s out out
+served_new s out n = subst (λ (l : List ℕ). ServesCalls l s s out out) n.nothing (served_none s out)

@@ -6,29 +6,32 @@ use Rattle.nv_io.specs.declared.ending.Flaw.TheVariants.{Bad, TooDeep, TooLong, 
 use Rattle.nv_io.specs.declared.ending.Ended.{Ended}
 use Rattle.nv_io.specs.declared.ending.Ended.TheVariants.{Closed, Malformed, Overflowed, ReadFault, WriteFault, Quit, NoMemory}
 use Rattle.nv_rpc.specs.Calls.{Call}
-use Rattle.nvimd.specs.Methods.{fresh}
-use Rattle.nvimd.specs.Answers.{answers}
+use Rattle.nvimd.specs.Methods.{first_buffer}
+use Rattle.nvimd.specs.Answers.{answers_to}
 use Rattle.nvimd.specs.Reading.{Calls, Reads}
 
--- a source was read to its end: nothing is left of it, where it tells that, or so many bytes were taken that it counts as ended
+-- a source was read to its end: nothing is left of it, where it tells that, or so many bytes were
+-- taken that it counts as ended
 abbrev pub WasRead : Option (List ℕ) → List ℕ → Type 0
 WasRead left bytes = IsAtEnd left ⊎ (2 ^ 62 ≤ length bytes)
 
--- the bytes read hold calls and then this flaw or none, and what went out grew by the answers to all of the calls
-pub record AllAnswered (flaw : Option Flaw) (bytes : List ℕ) (before after : Option (List ℕ)) : Type 0 where
+-- the bytes read hold calls and then this flaw or none, and what went out grew by the answers to
+-- all of the calls
+pub record AnswersAll (flaw : Option Flaw) (bytes : List ℕ)
+    (before after : Option (List ℕ)) : Type 0 where
   pub calls : List Call
   pub reads : Reads calls bytes flaw
-  pub written : after ≡ append_known before (answers calls fresh)
+  pub written : after ≡ append_known before (answers_to calls first_buffer)
 
 -- the bytes read begin with calls, and what went out grew by a prefix of the answers to them
-pub record SomeAnswered (bytes : List ℕ) (before after : Option (List ℕ)) : Type 0 where
+pub record AnswersSome (bytes : List ℕ) (before after : Option (List ℕ)) : Type 0 where
   pub calls : List Call
   pub whole : List ℕ
   pub rest : List ℕ
   pub parts : bytes ≡ whole ++ rest
   pub reads : Calls calls whole
   pub count : ℕ
-  pub written : after ≡ append_known before (take count (answers calls fresh))
+  pub written : after ≡ append_known before (take count (answers_to calls first_buffer))
 
 -- the bytes end between two calls, or inside one
 abbrev pub IsUnfinished : Option Flaw → Type 0
@@ -42,14 +45,17 @@ IfInside (Inside place) P = P
 IfInside _ P = ⊤
 
 -- what a session read and wrote by its end
-abbrev pub Ends : Ended → List ℕ → Option (List ℕ) → Option (List ℕ) → Option (List ℕ) → Type 0
-Ends Closed bytes left before after = AllAnswered None bytes before after × WasRead left bytes
-Ends (Malformed flaw) bytes left before after = AllAnswered (Some flaw) bytes before after × IfInside flaw (WasRead left bytes)
-Ends ReadFault bytes left before after = (flaw : Option Flaw) × IsUnfinished flaw × AllAnswered flaw bytes before after
-Ends WriteFault bytes left before after = SomeAnswered bytes before after
-Ends NoMemory bytes left before after = SomeAnswered bytes before after
-Ends (Overflowed entry) bytes left before after = ⊥
-Ends (Quit entry) bytes left before after = ⊥
+abbrev pub SessionEnds : Ended → List ℕ → Option (List ℕ) → Option (List ℕ) → Option (List ℕ)
+    → Type 0
+SessionEnds Closed bytes left before after = AnswersAll None bytes before after × WasRead left bytes
+SessionEnds (Malformed flaw) bytes left before after =
+    AnswersAll (Some flaw) bytes before after × IfInside flaw (WasRead left bytes)
+SessionEnds ReadFault bytes left before after =
+    (flaw : Option Flaw) × IsUnfinished flaw × AnswersAll flaw bytes before after
+SessionEnds WriteFault bytes left before after = AnswersSome bytes before after
+SessionEnds NoMemory bytes left before after = AnswersSome bytes before after
+SessionEnds (Overflowed entry) bytes left before after = ⊥
+SessionEnds (Quit entry) bytes left before after = ⊥
 
 -- the status that tells an end
 abbrev pub status_of : Ended → ℕ
@@ -63,7 +69,8 @@ status_of (Overflowed entry) = 7
 
 -- the line of a flaw: its word, and its place
 abbrev pub malformed_line : List ℕ → ℕ → List ℕ
-malformed_line word place = codes "nvimd: malformed input: " ++ (word ++ (codes " at " ++ (decimal place ++ codes "\n")))
+malformed_line word place =
+    codes "nvimd: malformed input: " ++ (word ++ (codes " at " ++ (decimal place ++ codes "\n")))
 
 -- the line that tells an end
 abbrev pub line_of : Ended → List ℕ
@@ -77,7 +84,8 @@ line_of (Malformed (TooDeep place)) = malformed_line (codes "deep") place
 line_of (Malformed (TooLong place)) = malformed_line (codes "long") place
 line_of (Malformed (Inside place)) = malformed_line (codes "cut") place
 line_of (Malformed (NoCall number)) = malformed_line (codes "call") number
-line_of (Overflowed entry) = codes "nvimd: outbox overflow at entry " ++ (decimal entry ++ codes "\n")
+line_of (Overflowed entry) =
+    codes "nvimd: outbox overflow at entry " ++ (decimal entry ++ codes "\n")
 
 -- the line for words that are no command
 abbrev pub bad_command_line : List ℕ

@@ -24,7 +24,8 @@ pub record SpellsCall (call : Call) (bytes : List ℕ) : Type 0 where
 -- the bytes are these calls, spelled one after another
 abbrev pub Calls : List Call → List ℕ → Type 0
 Calls [] bytes = bytes ≡ []
-Calls (call ∷ calls) bytes = (front rest : List ℕ) × SpellsCall call front × (bytes ≡ front ++ rest) × Calls calls rest
+Calls (call ∷ calls) bytes =
+    (front rest : List ℕ) × SpellsCall call front × (bytes ≡ front ++ rest) × Calls calls rest
 
 -- the bytes begin with a value that is no call
 pub record BeginsNoCall (bytes : List ℕ) : Type 0 where
@@ -35,20 +36,26 @@ pub record BeginsNoCall (bytes : List ℕ) : Type 0 where
   pub parts : bytes ≡ front ++ rest
   pub no_call : call_in value ≡ None
 
--- how the bytes after so many calls end, which begin at this place of the stream: with nothing more, or with this flaw
+-- how the bytes after so many calls end, which begin at this place of the stream: with nothing
+-- more, or with this flaw
 abbrev pub EndsAt : ℕ → ℕ → List ℕ → Option Flaw → Type 0
 EndsAt number place bytes None = bytes ≡ []
 EndsAt number place bytes (Some (NoCall n)) = (n ≡ number) × BeginsNoCall bytes
-EndsAt number place bytes (Some (Inside n)) = (n ≡ place) × (0 < length bytes) × IsPartial most_depth most_bytes bytes
+EndsAt number place bytes (Some (Inside n)) =
+    (n ≡ place) × (0 < length bytes) × IsPartial most_depth most_bytes bytes
 EndsAt number place bytes (Some (Bad n)) = IsFlawAt most_depth most_bytes place bytes (Bad n)
-EndsAt number place bytes (Some (TooDeep n)) = IsFlawAt most_depth most_bytes place bytes (TooDeep n)
-EndsAt number place bytes (Some (TooLong n)) = IsFlawAt most_depth most_bytes place bytes (TooLong n)
+EndsAt number place bytes (Some (TooDeep n)) =
+    IsFlawAt most_depth most_bytes place bytes (TooDeep n)
+EndsAt number place bytes (Some (TooLong n)) =
+    IsFlawAt most_depth most_bytes place bytes (TooLong n)
 
--- the bytes after so many calls, which begin at this place of the stream, hold these calls, and then end so
+-- the bytes after so many calls, which begin at this place of the stream, hold these calls, and
+-- then end so
 abbrev pub ReadsFrom : ℕ → ℕ → List Call → List ℕ → Option Flaw → Type 0
 ReadsFrom number place [] bytes flaw = EndsAt number place bytes flaw
 ReadsFrom number place (call ∷ calls) bytes flaw =
-    (front rest : List ℕ) × SpellsCall call front × (bytes ≡ front ++ rest) × ReadsFrom (number + 1) (place + length front) calls rest flaw
+    (front rest : List ℕ) × SpellsCall call front × (bytes ≡ front ++ rest)
+    × ReadsFrom (number + 1) (place + length front) calls rest flaw
 
 -- a stream of bytes holds these calls, and then nothing more or this flaw
 abbrev pub Reads : List Call → List ℕ → Option Flaw → Type 0
@@ -56,4 +63,5 @@ Reads = ReadsFrom 0 0
 
 -- a stream of bytes holds one list of calls alone, and one end
 abbrev pub ReadsOnce : Type 0
-ReadsOnce = (calls others : List Call) (bytes : List ℕ) (flaw other : Option Flaw) → Reads calls bytes flaw → Reads others bytes other → (calls ≡ others) × (flaw ≡ other)
+ReadsOnce = (calls others : List Call) (bytes : List ℕ) (flaw other : Option Flaw)
+    → Reads calls bytes flaw → Reads others bytes other → (calls ≡ others) × (flaw ≡ other)

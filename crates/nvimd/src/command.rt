@@ -4,7 +4,7 @@ ghost use Rattle.nv_io.specs.Faults.{Rose};
 ghost use Rattle.nv_io.specs.Streams.{Gave, Tells};
 ghost use Rattle.nv_io.specs.declared.ending.Ended.{Ended};
 ghost use Rattle.nvimd.specs.Command.{IsEmbed};
-ghost use Rattle.nvimd.specs.Ends.{Ends, status_of, line_of, bad_command_line};
+ghost use Rattle.nvimd.specs.Ends.{SessionEnds, status_of, line_of, bad_command_line};
 
 use crate::session::embed;
 use crate::telling::{status_of, tell, tell_end};
@@ -24,12 +24,12 @@ fn is_embed(words: &[&str]) -> bool
     }
 }
 
-/// Runs the program for the words of its command line, which don't hold the program's name, and answers
-/// its status.
+/// Runs the program for the words of its command line, which don't hold the program's name, and
+/// answers its status.
 ///
-/// With the one word `embed` it reads requests and notifications of MessagePack-RPC from `input`, and
-/// writes the replies to `output`. After a status other than 0 it writes one line to `errors`; a fault
-/// there changes nothing.
+/// With the one word `embed` it reads requests and notifications of MessagePack-RPC from `input`,
+/// and writes the replies to `output`. After a status other than 0 it writes one line to `errors`;
+/// a fault there changes nothing.
 pub fn run<
     R: Files<File = File> + Net<Listener = TcpListener, Stream = TcpStream>,
     I: Source,
@@ -38,19 +38,23 @@ pub fn run<
 >(rt: &R, alloc: Global, words: &[&str], input: &mut I, output: &mut S, errors: &mut E) -> u8
     // Exactly other words are refused, and then nothing is read and nothing written to `output`.
     ensures words { (result ≡ 2) ↔ ¬ IsEmbed (map (λ word. word.now) words.now) }
-    ensures refused { result ≡ 2 → (I.taken input.new ≡ I.taken input.old) × (I.left input.new ≡ I.left input.old)
+    ensures refused { result ≡ 2 → (I.taken input.new ≡ I.taken input.old)
+        × (I.left input.new ≡ I.left input.old)
         × (S.taken output.new ≡ S.taken output.old)
-        × Tells bad_command_line (E.taken errors.old) (E.taken errors.new) (E.faults errors.old) (E.faults errors.new) }
+        × Tells bad_command_line (E.taken errors.old) (E.taken errors.new) (E.faults errors.old)
+        (E.faults errors.new) }
 
     // Faults are answered only where they rose.
     ensures read { result ≡ 3 → Rose (I.faults input.old) (I.faults input.new) }
     ensures write { result ≡ 4 → Rose (S.faults output.old) (S.faults output.new) }
 
     // Else there is an end that the status and the line tell, of the bytes that were read.
-    ensures session { IsEmbed (map (λ word. word.now) words.now) → (ended : Ended) × (bytes : List ℕ) × (result ≡ status_of ended)
+    ensures session { IsEmbed (map (λ word. word.now) words.now)
+        → (ended : Ended) × (bytes : List ℕ) × (result ≡ status_of ended)
         × Gave (I.taken input.old) (I.taken input.new) (I.left input.old) (I.left input.new) bytes
-        × Ends ended bytes (I.left input.new) (S.taken output.old) (S.taken output.new)
-        × Tells (line_of ended) (E.taken errors.old) (E.taken errors.new) (E.faults errors.old) (E.faults errors.new) }
+        × SessionEnds ended bytes (I.left input.new) (S.taken output.old) (S.taken output.new)
+        × Tells (line_of ended) (E.taken errors.old) (E.taken errors.new) (E.faults errors.old)
+        (E.faults errors.new) }
 {
     if !is_embed(words) {
         tell(rt, errors, &["nvimd: bad command line\n"]);

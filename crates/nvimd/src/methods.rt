@@ -2,8 +2,8 @@
 ghost use Rattle.std.specs.Prelude.{◌≡◌, ◌≤◌, length, map};
 ghost use Rattle.nv_value.specs.View.{content, contents};
 ghost use Rattle.nv_args.specs.Weight.{AreLight};
-ghost use Rattle.nvimd.specs.Called.{HasOutcome, CanBeSent};
-ghost use Rattle.nvimd.specs.Methods.{method_named, outcome_by, outcome, one_change};
+ghost use Rattle.nvimd.specs.inside.Called.{HasOutcome, CanBeSent};
+ghost use Rattle.nvimd.specs.Methods.{method_by_name, outcome_by, outcome, one_change};
 ghost use Rattle.nvimd.specs.Reading.{most_bytes};
 
 use nv_api_buf::{
@@ -30,7 +30,7 @@ pub enum Method {
 
 /// The method of a name.
 pub fn method_of(name: &[u8]) -> Option<Method>
-    ensures { result ≡ method_named name.now }
+    ensures { result ≡ method_by_name name.now }
 {
     if name == b"nvim_buf_line_count".as_slice() {
         return Some(Method::LineCount);
@@ -67,7 +67,8 @@ fn call_method(
     buffer: &mut Buffer,
 ) -> Result<Value, Fail>
     requires light { AreLight (contents params.items) }
-    ensures outcome { HasOutcome result (outcome_by method (map content params.items) buffer.old) buffer.new }
+    ensures outcome { HasOutcome result
+        (outcome_by method (map content params.items) buffer.old) buffer.new }
     ensures sent { CanBeSent result }
 {
     match method {
@@ -95,7 +96,8 @@ fn call_method(
 fn call_named(alloc: Global, name: &[u8], params: Items, buffer: &mut Buffer) -> Result<Value, Fail>
     requires name { length name.now ≤ most_bytes }
     requires light { AreLight (contents params.items) }
-    ensures outcome { HasOutcome result (outcome name.now (map content params.items) buffer.old) buffer.new }
+    ensures outcome { HasOutcome result
+        (outcome name.now (map content params.items) buffer.old) buffer.new }
     ensures sent { CanBeSent result }
 {
     match method_of(name) {
@@ -104,12 +106,14 @@ fn call_named(alloc: Global, name: &[u8], params: Items, buffer: &mut Buffer) ->
     }
 }
 
-/// Calls the method of a name, and closes the change that the call made in the buffer. A call that is
-/// refused leaves the buffer as it was; where memory is wanting the call may have been done, or a part of it.
+/// Calls the method of a name, and closes the change that the call made in the buffer. A call that
+/// is refused leaves the buffer as it was; where memory is wanting the call may have been done, or
+/// a part of it.
 pub fn call(alloc: Global, name: &[u8], params: Items, buffer: &mut Buffer) -> Result<Value, Fail>
     requires name { length name.now ≤ most_bytes }
     requires light { AreLight (contents params.items) }
-    ensures outcome { HasOutcome result (one_change (outcome name.now (map content params.items) buffer.old)) buffer.new }
+    ensures outcome { HasOutcome result
+        (one_change (outcome name.now (map content params.items) buffer.old)) buffer.new }
     ensures sent { CanBeSent result }
 {
     let answered = call_named(alloc, name, params, buffer);

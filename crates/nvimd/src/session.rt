@@ -1,19 +1,20 @@
-//! One session: its bytes are read piece by piece, and each call in them is answered before the next.
+//! One session: its bytes are read piece by piece, and each call in them is answered before the
+//! next.
 ghost use Rattle.std.specs.Prelude.{◌≡◌, ℕ, ◌+◌, ◌^◌, ◌<◌, ◌≤◌, List, length, OnOk, IfOk, IfErr, Ok, Err, Some};
 ghost use Rattle.std.specs.Io.KnownBytes.{IsAtEnd};
 ghost use Rattle.nv_io.specs.Faults.{Rose};
 ghost use Rattle.nv_io.specs.Streams.{Gave};
 ghost use Rattle.nv_value.specs.View.{content};
 ghost use Rattle.nv_msgpack.specs.Within.{SpellsWithin};
-ghost use Rattle.nv_stream.specs.State.{fresh, end_of};
+ghost use Rattle.nv_stream.specs.State.{empty_state, stream_end};
 ghost use Rattle.nv_stream.specs.Answers.{NeedsMore};
 ghost use Rattle.nv_rpc.specs.Calls.{Call, call_in};
 ghost use Rattle.nv_rpc.specs.Frames.{call_of_frame};
-ghost use Rattle.nvimd.specs.Answers.{answer};
-ghost use Rattle.nvimd.specs.Calling.{IsCallBounded};
-ghost use Rattle.nvimd.specs.Ends.{Ends};
+ghost use Rattle.nvimd.specs.Answers.{answer_to};
+ghost use Rattle.nvimd.specs.inside.Calling.{IsCallBounded};
+ghost use Rattle.nvimd.specs.Ends.{SessionEnds};
 ghost use Rattle.nvimd.specs.Reading.{most_depth, most_bytes};
-ghost use Rattle.nvimd.specs.Serving.{IsReady, IsNew, Begins, Answered, IsCutShort, Stops, Steps, Serves, Takes, Turns, ended_by};
+ghost use Rattle.nvimd.specs.inside.Serving.{IsReady, IsNew, WroteFront, AnswersCall, IsCutShort, StopsAtValue, Steps, Serves, TakesPiece, Turns, ended_by};
 
 use crate::answering::answer;
 use crate::speaking::speak;
@@ -76,7 +77,7 @@ impl Session {
 
     // How it ends where no more bytes come.
     fn end(&self) -> Ended
-        ensures { result ≡ ended_by (end_of self.now.stream) }
+        ensures { result ≡ ended_by (stream_end self.now.stream) }
     {
         match self.stream.end() {
             None => Ended::Closed,
@@ -91,11 +92,14 @@ impl Session {
     >(&mut self, rt: &R, call: Frame, output: &mut S) -> Result<(), Ended>
         requires call { IsCallBounded (call_of_frame call) }
         requires number { self.old.number < 2 ^ 63 }
-        ensures ok { OnOk result (Answered (call_of_frame call) self.old self.new (S.taken output.old) (S.taken output.new)) }
+        ensures ok { OnOk result (AnswersCall (call_of_frame call) self.old self.new
+            (S.taken output.old) (S.taken output.new)) }
         ensures err { IfErr result (λ ended. IsCutShort ended
-            × Begins (answer (call_of_frame call) self.old.buffer) (S.taken output.old) (S.taken output.new)) }
+            × WroteFront (answer_to (call_of_frame call) self.old.buffer) (S.taken output.old)
+            (S.taken output.new)) }
         ensures later { S.faults output.old ≤ S.faults output.new }
-        ensures fault { result ≡ Err Ended.WriteFault → Rose (S.faults output.old) (S.faults output.new) }
+        ensures fault { result ≡ Err Ended.WriteFault
+            → Rose (S.faults output.old) (S.faults output.new) }
     {
         let Ok(message) = answer(self.alloc, call, &mut self.buffer) else {
             return Err(Ended::NoMemory);
@@ -112,13 +116,16 @@ impl Session {
         value: Value,
         output: &mut S,
     ) -> Result<(), Ended>
-        requires spelled { (front : List ℕ) × SpellsWithin most_depth most_bytes (content value) front }
+        requires spelled { (front : List ℕ)
+            × SpellsWithin most_depth most_bytes (content value) front }
         requires number { self.old.number < 2 ^ 63 }
         ensures ok { OnOk result ((call : Call) × (call_in (content value) ≡ Some call)
-            × Answered call self.old self.new (S.taken output.old) (S.taken output.new)) }
-        ensures err { IfErr result (λ ended. Stops ended (content value) self.old (S.taken output.old) (S.taken output.new)) }
+            × AnswersCall call self.old self.new (S.taken output.old) (S.taken output.new)) }
+        ensures err { IfErr result (λ ended. StopsAtValue ended (content value) self.old
+            (S.taken output.old) (S.taken output.new)) }
         ensures later { S.faults output.old ≤ S.faults output.new }
-        ensures fault { result ≡ Err Ended.WriteFault → Rose (S.faults output.old) (S.faults output.new) }
+        ensures fault { result ≡ Err Ended.WriteFault
+            → Rose (S.faults output.old) (S.faults output.new) }
     {
         match call_of(value) {
             Ok(call) => self.answer_call(rt, call, output),
@@ -136,7 +143,8 @@ impl Session {
         requires fits { self.old.stream.start + length self.old.stream.held < 2 ^ 63 }
         ensures steps { Steps result self.old self.new (S.taken output.old) (S.taken output.new) }
         ensures later { S.faults output.old ≤ S.faults output.new }
-        ensures fault { result ≡ Err Ended.WriteFault → Rose (S.faults output.old) (S.faults output.new) }
+        ensures fault { result ≡ Err Ended.WriteFault
+            → Rose (S.faults output.old) (S.faults output.new) }
         ensures no_read { result ≡ Err Ended.ReadFault → ⊥ }
     {
         let Ok(next) = self.stream.next() else {
@@ -160,9 +168,11 @@ impl Session {
     ) -> Result<(), Ended>
         requires ready { IsReady self.old }
         requires fits { self.old.stream.start + length self.old.stream.held < 2 ^ 63 }
-        ensures serves { Serves ⊥ result self.old.stream.held self.old self.new (S.taken output.old) (S.taken output.new) }
+        ensures serves { Serves ⊥ result self.old.stream.held self.old self.new (S.taken output.old)
+            (S.taken output.new) }
         ensures later { S.faults output.old ≤ S.faults output.new }
-        ensures fault { result ≡ Err Ended.WriteFault → Rose (S.faults output.old) (S.faults output.new) }
+        ensures fault { result ≡ Err Ended.WriteFault
+            → Rose (S.faults output.old) (S.faults output.new) }
         ensures no_read { result ≡ Err Ended.ReadFault → ⊥ }
     {
         while self.step(rt, output)? {}
@@ -178,10 +188,13 @@ impl Session {
         requires waits { NeedsMore self.old.stream }
         requires fits { self.old.stream.start + length self.old.stream.held < 2 ^ 62 }
         requires room { length buffer.old ≡ 65536 }
-        ensures takes { (piece : List ℕ) × Gave (I.taken input.old) (I.taken input.new) (I.left input.old) (I.left input.new) piece
-            × Takes (IsAtEnd (I.left input.new)) result piece self.old self.new }
+        ensures takes { (piece : List ℕ)
+            × Gave (I.taken input.old) (I.taken input.new) (I.left input.old)
+            (I.left input.new) piece
+            × TakesPiece (IsAtEnd (I.left input.new)) result piece self.old self.new }
         ensures later { I.faults input.old ≤ I.faults input.new }
-        ensures fault { result ≡ Err Ended.ReadFault → Rose (I.faults input.old) (I.faults input.new) }
+        ensures fault { result ≡ Err Ended.ReadFault
+            → Rose (I.faults input.old) (I.faults input.new) }
         ensures no_write { result ≡ Err Ended.WriteFault → ⊥ }
     {
         match input.read(rt, buffer) {
@@ -204,12 +217,17 @@ impl Session {
         requires waits { NeedsMore self.old.stream }
         requires fits { self.old.stream.start + length self.old.stream.held < 2 ^ 62 }
         requires room { length buffer.old ≡ 65536 }
-        ensures turns { (piece : List ℕ) × Gave (I.taken input.old) (I.taken input.new) (I.left input.old) (I.left input.new) piece
-            × Turns (IsAtEnd (I.left input.new)) result piece self.old self.new (S.taken output.old) (S.taken output.new) }
+        ensures turns { (piece : List ℕ)
+            × Gave (I.taken input.old) (I.taken input.new) (I.left input.old)
+            (I.left input.new) piece
+            × Turns (IsAtEnd (I.left input.new)) result piece self.old self.new (S.taken output.old)
+            (S.taken output.new) }
         ensures read_later { I.faults input.old ≤ I.faults input.new }
-        ensures read_fault { result ≡ Err Ended.ReadFault → Rose (I.faults input.old) (I.faults input.new) }
+        ensures read_fault { result ≡ Err Ended.ReadFault
+            → Rose (I.faults input.old) (I.faults input.new) }
         ensures write_later { S.faults output.old ≤ S.faults output.new }
-        ensures write_fault { result ≡ Err Ended.WriteFault → Rose (S.faults output.old) (S.faults output.new) }
+        ensures write_fault { result ≡ Err Ended.WriteFault
+            → Rose (S.faults output.old) (S.faults output.new) }
     {
         self.take_piece(rt, input, buffer)?;
         self.serve_held(rt, output)
@@ -222,8 +240,9 @@ pub fn embed<
     I: Source,
     S: Sink,
 >(rt: &R, alloc: Global, input: &mut I, output: &mut S) -> Ended
-    ensures ends { (bytes : List ℕ) × Gave (I.taken input.old) (I.taken input.new) (I.left input.old) (I.left input.new) bytes
-        × Ends result bytes (I.left input.new) (S.taken output.old) (S.taken output.new) }
+    ensures ends { (bytes : List ℕ)
+        × Gave (I.taken input.old) (I.taken input.new) (I.left input.old) (I.left input.new) bytes
+        × SessionEnds result bytes (I.left input.new) (S.taken output.old) (S.taken output.new) }
     ensures read { result ≡ Ended.ReadFault → Rose (I.faults input.old) (I.faults input.new) }
     ensures write { result ≡ Ended.WriteFault → Rose (S.faults output.old) (S.faults output.new) }
 {

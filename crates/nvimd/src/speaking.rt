@@ -5,9 +5,9 @@ ghost use Rattle.nv_io.specs.Faults.{Rose};
 ghost use Rattle.nv_msgpack.specs.Shortest.{shortest};
 ghost use Rattle.nv_rpc.specs.Messages.{message_tree, IsSendable};
 ghost use Rattle.nv_rpc.specs.MessageView.{sent_of};
-ghost use Rattle.nvimd.specs.Answers.{spoken};
-ghost use Rattle.nvimd.specs.Calling.{sent_all};
-ghost use Rattle.nvimd.specs.Serving.{Begins, IsCutShort};
+ghost use Rattle.nvimd.specs.Answers.{bytes_of_messages};
+ghost use Rattle.nvimd.specs.inside.Calling.{messages_of};
+ghost use Rattle.nvimd.specs.inside.Serving.{WroteFront, IsCutShort};
 
 use nv_io::{Ended, Sink, put_all};
 use nv_msgpack::encode;
@@ -27,8 +27,8 @@ fn spell(alloc: Global, message: Message, room: &mut Vec<u8>) -> Result<(), Allo
     encode(&value, room)
 }
 
-/// Writes a message to `output`, where there is one, in its shortest spelling. `room` is memory that is
-/// used again from message to message.
+/// Writes a message to `output`, where there is one, in its shortest spelling. `room` is memory
+/// that is used again from message to message.
 pub fn speak<R: Files<File = File> + Net<Listener = TcpListener, Stream = TcpStream>, S: Sink>(
     rt: &R,
     alloc: Global,
@@ -36,12 +36,15 @@ pub fn speak<R: Files<File = File> + Net<Listener = TcpListener, Stream = TcpStr
     room: &mut Vec<u8>,
     output: &mut S,
 ) -> Result<(), Ended>
-    requires { All IsSendable (sent_all message) }
-    ensures ok { OnOk result (S.taken output.new ≡ append_known (S.taken output.old) (spoken (sent_all message))) }
+    requires { All IsSendable (messages_of message) }
+    ensures ok { OnOk result (S.taken output.new ≡ append_known (S.taken output.old)
+        (bytes_of_messages (messages_of message))) }
     ensures err { IfErr result (λ ended. IsCutShort ended
-        × Begins (spoken (sent_all message)) (S.taken output.old) (S.taken output.new)) }
+        × WroteFront (bytes_of_messages (messages_of message)) (S.taken output.old)
+        (S.taken output.new)) }
     ensures later { S.faults output.old ≤ S.faults output.new }
-    ensures fault { result ≡ Err Ended.WriteFault → Rose (S.faults output.old) (S.faults output.new) }
+    ensures fault { result ≡ Err Ended.WriteFault
+        → Rose (S.faults output.old) (S.faults output.new) }
 {
     let Some(message) = message else {
         return Ok(());

@@ -1,4 +1,5 @@
-//! What the program says of its end: a status, and a line on the errors' stream. It takes no memory.
+//! What the program says of its end: a status, and a line on the errors' stream. It takes no
+//! memory.
 ghost use Rattle.std.specs.Prelude.{◌≡◌, flat_map};
 ghost use Rattle.nv_io.specs.Streams.{Tells};
 ghost use Rattle.nv_io.specs.declared.ending.Ended.TheVariants.{Malformed};
@@ -30,7 +31,8 @@ pub fn tell<R: Files<File = File> + Net<Listener = TcpListener, Stream = TcpStre
     errors: &mut E,
     parts: &[&str],
 )
-    ensures { Tells (flat_map (λ part. part.now) parts.now) (E.taken errors.old) (E.taken errors.new) (E.faults errors.old) (E.faults errors.new) }
+    ensures { Tells (flat_map (λ part. part.now) parts.now) (E.taken errors.old)
+        (E.taken errors.new) (E.faults errors.old) (E.faults errors.new) }
 {
     for part in parts {
         if !put_all(rt, errors, part.as_bytes()) {
@@ -58,7 +60,8 @@ pub fn tell_end<R: Files<File = File> + Net<Listener = TcpListener, Stream = Tcp
     errors: &mut E,
     ended: Ended,
 )
-    ensures { Tells (line_of ended) (E.taken errors.old) (E.taken errors.new) (E.faults errors.old) (E.faults errors.new) }
+    ensures { Tells (line_of ended) (E.taken errors.old) (E.taken errors.new) (E.faults errors.old)
+        (E.faults errors.new) }
 {
     let mut digits = Buffer::new();
     match ended {

@@ -7,189 +7,315 @@ use nv_io::{MemSink, MemSource};
 use std::alloc::{AllocError, Global};
 use std::test::Fail;
 
-// A row: what it is about, the bytes that come in, those that go out, the status, and the line that tells it.
+// A row: what it is about, the messages that come in, those that go out, the status, and the line
+// that tells it.
 struct Row {
     name: &'static str,
-    input: &'static [u8],
-    output: &'static [u8],
+    input: &'static [&'static [u8]],
+    output: &'static [&'static [u8]],
     status: u8,
     line: &'static [u8],
 }
 
 // A request that sets the whole text to the one line "a", and one that gets the whole text.
-const SET_GET: &[u8] =
-    b"\x94\x00\x01\xb2nvim_buf_set_lines\x95\x00\x00\xff\xc3\x91\xa1a\x94\x00\x02\xb2nvim_buf_get_lines\x94\x00\x00\xff\xc3";
+const SET: &[u8] = b"\x94\x00\x01\xb2nvim_buf_set_lines\x95\x00\x00\xff\xc3\x91\xa1a";
+
+const GET: &[u8] = b"\x94\x00\x02\xb2nvim_buf_get_lines\x94\x00\x00\xff\xc3";
+
+const SET_GET: &[u8] = b"\x94\x00\x01\xb2nvim_buf_set_lines\x95\x00\x00\xff\xc3\x91\xa1a\
+    \x94\x00\x02\xb2nvim_buf_get_lines\x94\x00\x00\xff\xc3";
 
 // The length of the first request.
 const FIRST: usize = 30;
 
 // Their replies: nil, and the one line.
+const SET_REPLY: &[u8] = b"\x94\x01\x01\xc0\xc0";
+
+const GET_REPLY: &[u8] = b"\x94\x01\x02\xc0\x91\xa1a";
+
 const REPLIES: &[u8] = b"\x94\x01\x01\xc0\xc0\x94\x01\x02\xc0\x91\xa1a";
 
 // The length of the first reply.
 const FIRST_REPLY: usize = 5;
+
+// 16 lists of one item, one in another.
+const LISTS: &[u8] = b"\x91\x91\x91\x91\x91\x91\x91\x91\x91\x91\x91\x91\x91\x91\x91\x91";
 
 // Requests, and what they are answered.
 fn rows() -> &'static [Row] {
     &[
         Row {
             name: "lines are set and got",
-            input: SET_GET,
-            output: REPLIES,
+            input: &[SET, GET],
+            output: &[SET_REPLY, GET_REPLY],
             status: 0,
             line: b"",
         },
         Row {
             name: "nothing came",
-            input: b"",
-            output: b"",
+            input: &[],
+            output: &[],
             status: 0,
             line: b"",
         },
         Row {
             name: "notifications that succeed are not answered",
-            input: b"\x93\x02\xb2nvim_buf_set_lines\x95\x00\x00\xff\xc3\x91\xa1a\x93\x02\xb2nvim_buf_get_lines\x94\x00\x00\xff\xc3",
-            output: b"",
+            input: &[
+                b"\x93\x02\xb2nvim_buf_set_lines\x95\x00\x00\xff\xc3\x91\xa1a",
+                b"\x93\x02\xb2nvim_buf_get_lines\x94\x00\x00\xff\xc3",
+            ],
+            output: &[],
             status: 0,
             line: b"",
         },
         Row {
             name: "a notification that fails",
-            input: b"\x93\x02\xa9nvim_nope\x90",
-            output: b"\x93\x02\xb0nvim_error_event\x92\x00\xb9Invalid method: nvim_nope",
+            input: &[b"\x93\x02\xa9nvim_nope\x90"],
+            output: &[b"\x93\x02\xb0nvim_error_event\x92\x00\xb9Invalid method: nvim_nope"],
             status: 0,
             line: b"",
         },
         Row {
             name: "no method has the name",
-            input: b"\x94\x00\x01\xaenvim_list_bufs\x90",
-            output: b"\x94\x01\x01\x92\x00\xbeInvalid method: nvim_list_bufs\xc0",
+            input: &[b"\x94\x00\x01\xaenvim_list_bufs\x90"],
+            output: &[b"\x94\x01\x01\x92\x00\xbeInvalid method: nvim_list_bufs\xc0"],
             status: 0,
             line: b"",
         },
         Row {
             name: "other spellings, and a name as binary",
-            input: b"\x94\x00\xce\x00\x00\x00\x01\xc4\x12nvim_buf_get_lines\x94\xd4\x00\x01\x00\xff\xc3",
-            output: b"\x94\x01\x01\xc0\x91\xa0",
+            input: &[
+                b"\x94\x00\xce\x00\x00\x00\x01\xc4\x12nvim_buf_get_lines\
+                    \x94\xd4\x00\x01\x00\xff\xc3",
+            ],
+            output: &[b"\x94\x01\x01\xc0\x91\xa0"],
             status: 0,
             line: b"",
         },
         Row {
             name: "an index outside is refused where it is strict, else brought in",
-            input: b"\x94\x00\x01\xb2nvim_buf_set_lines\x95\x00\x05\x09\xc3\x91\xa1x\x94\x00\x02\xb2nvim_buf_set_lines\x95\x00\x05\x09\xc2\x91\xa1x\x94\x00\x03\xb2nvim_buf_get_lines\x94\x00\x00\xff\xc3",
-            output: b"\x94\x01\x01\x92\x01\xb3Index out of bounds\xc0\x94\x01\x02\xc0\xc0\x94\x01\x03\xc0\x92\xa0\xa1x",
+            input: &[
+                b"\x94\x00\x01\xb2nvim_buf_set_lines\x95\x00\x05\x09\xc3\x91\xa1x",
+                b"\x94\x00\x02\xb2nvim_buf_set_lines\x95\x00\x05\x09\xc2\x91\xa1x",
+                b"\x94\x00\x03\xb2nvim_buf_get_lines\x94\x00\x00\xff\xc3",
+            ],
+            output: &[
+                b"\x94\x01\x01\x92\x01\xb3Index out of bounds\xc0",
+                b"\x94\x01\x02\xc0\xc0",
+                b"\x94\x01\x03\xc0\x92\xa0\xa1x",
+            ],
             status: 0,
             line: b"",
         },
         Row {
             name: "the start lies above the end",
-            input: b"\x94\x00\x01\xb2nvim_buf_set_lines\x95\x00\x00\xff\xc3\x93\xa1a\xa1b\xa1c\x94\x00\x02\xb2nvim_buf_get_lines\x94\x00\x03\x01\xc2\x94\x00\x03\xb2nvim_buf_set_lines\x95\x00\x03\x01\xc2\x91\xa1y\x94\x00\x04\xb2nvim_buf_get_lines\x94\x00\x00\xff\xc3",
-            output: b"\x94\x01\x01\xc0\xc0\x94\x01\x02\xc0\x90\x94\x01\x03\x92\x01\xbc'start' is higher than 'end'\xc0\x94\x01\x04\xc0\x93\xa1a\xa1b\xa1c",
+            input: &[
+                b"\x94\x00\x01\xb2nvim_buf_set_lines\x95\x00\x00\xff\xc3\x93\xa1a\xa1b\xa1c",
+                b"\x94\x00\x02\xb2nvim_buf_get_lines\x94\x00\x03\x01\xc2",
+                b"\x94\x00\x03\xb2nvim_buf_set_lines\x95\x00\x03\x01\xc2\x91\xa1y",
+                b"\x94\x00\x04\xb2nvim_buf_get_lines\x94\x00\x00\xff\xc3",
+            ],
+            output: &[
+                b"\x94\x01\x01\xc0\xc0",
+                b"\x94\x01\x02\xc0\x90",
+                b"\x94\x01\x03\x92\x01\xbc'start' is higher than 'end'\xc0",
+                b"\x94\x01\x04\xc0\x93\xa1a\xa1b\xa1c",
+            ],
             status: 0,
             line: b"",
         },
         Row {
             name: "a line feed in a line",
-            input: b"\x94\x00\x01\xb2nvim_buf_set_lines\x95\x00\x00\x01\xc3\x91\xa3a\nb",
-            output: b"\x94\x01\x01\x92\x01\xbeString cannot contain newlines\xc0",
+            input: &[b"\x94\x00\x01\xb2nvim_buf_set_lines\x95\x00\x00\x01\xc3\x91\xa3a\nb"],
+            output: &[b"\x94\x01\x01\x92\x01\xbeString cannot contain newlines\xc0"],
             status: 0,
             line: b"",
         },
         Row {
             name: "no buffer has the handle",
-            input: b"\x94\x00\x01\xb2nvim_buf_get_lines\x94\x07\x00\xff\xc3",
-            output: b"\x94\x01\x01\x92\x01\xb4Invalid buffer id: 7\xc0",
+            input: &[b"\x94\x00\x01\xb2nvim_buf_get_lines\x94\x07\x00\xff\xc3"],
+            output: &[b"\x94\x01\x01\x92\x01\xb4Invalid buffer id: 7\xc0"],
             status: 0,
             line: b"",
         },
         Row {
             name: "a string longer than a message",
-            input: b"\x94\x00\x01\xdb\xff\xff\xff\xff",
-            output: b"",
+            input: &[b"\x94\x00\x01\xdb\xff\xff\xff\xff"],
+            output: &[],
             status: 6,
             line: b"nvimd: malformed input: long at 3\n",
         },
         Row {
             name: "a list that is no call",
-            input: b"\x92\x00\x01",
-            output: b"",
+            input: &[b"\x92\x00\x01"],
+            output: &[],
             status: 6,
             line: b"nvimd: malformed input: call at 0\n",
         },
         Row {
             name: "the end inside a call",
-            input: b"\x94\x00",
-            output: b"",
+            input: &[b"\x94\x00"],
+            output: &[],
             status: 6,
             line: b"nvimd: malformed input: cut at 0\n",
         },
         Row {
             name: "a byte that begins nothing",
-            input: b"\xc1",
-            output: b"",
+            input: &[b"\xc1"],
+            output: &[],
             status: 6,
             line: b"nvimd: malformed input: bad at 0\n",
         },
         Row {
             name: "lists too deep",
-            input: b"\x91\x91\x91\x91\x91\x91\x91\x91\x91\x91\x91\x91\x91\x91\x91\x91\x91\x91\x91\x91\x91\x91\x91\x91\x91\x91\x91\x91\x91\x91\x91\x91\x91\x91\x91\x91\x91\x91\x91\x91\x91\x91\x91\x91\x91\x91\x91\x91\x91\x91\x91\x91\x91\x91\x91\x91\x91\x91\x91\x91\x91\x91\x91\x91\x91",
-            output: b"",
+            input: &[LISTS, LISTS, LISTS, LISTS, b"\x91"],
+            output: &[],
             status: 6,
             line: b"nvimd: malformed input: deep at 64\n",
         },
         Row {
             name: "a flaw behind two calls",
-            input: b"\x94\x00\x01\xb2nvim_buf_set_lines\x95\x00\x00\xff\xc3\x91\xa1a\x94\x00\x02\xb2nvim_buf_get_lines\x94\x00\x00\xff\xc3\x92\xc1",
-            output: REPLIES,
+            input: &[
+                b"\x94\x00\x01\xb2nvim_buf_set_lines\x95\x00\x00\xff\xc3\x91\xa1a",
+                b"\x94\x00\x02\xb2nvim_buf_get_lines\x94\x00\x00\xff\xc3",
+                b"\x92\xc1",
+            ],
+            output: &[SET_REPLY, GET_REPLY],
             status: 6,
             line: b"nvimd: malformed input: bad at 58\n",
         },
         Row {
             name: "no call behind two calls",
-            input: b"\x94\x00\x01\xb2nvim_buf_set_lines\x95\x00\x00\xff\xc3\x91\xa1a\x94\x00\x02\xb2nvim_buf_get_lines\x94\x00\x00\xff\xc3\x07",
-            output: REPLIES,
+            input: &[
+                b"\x94\x00\x01\xb2nvim_buf_set_lines\x95\x00\x00\xff\xc3\x91\xa1a",
+                b"\x94\x00\x02\xb2nvim_buf_get_lines\x94\x00\x00\xff\xc3",
+                b"\x07",
+            ],
+            output: &[SET_REPLY, GET_REPLY],
             status: 6,
             line: b"nvimd: malformed input: call at 2\n",
         },
         Row {
             name: "lines are counted",
-            input: b"\x94\x00\x01\xb3nvim_buf_line_count\x91\x00",
-            output: b"\x94\x01\x01\xc0\x01",
+            input: &[b"\x94\x00\x01\xb3nvim_buf_line_count\x91\x00"],
+            output: &[b"\x94\x01\x01\xc0\x01"],
             status: 0,
             line: b"",
         },
         Row {
             name: "lines are counted, in longer spellings",
-            input: b"\x94\x00\xce\x00\x00\x00\x01\xb3nvim_buf_line_count\x91\xd4\x00\x01",
-            output: b"\x94\x01\x01\xc0\x01",
+            input: &[b"\x94\x00\xce\x00\x00\x00\x01\xb3nvim_buf_line_count\x91\xd4\x00\x01"],
+            output: &[b"\x94\x01\x01\xc0\x01"],
             status: 0,
             line: b"",
         },
         Row {
             name: "a text without lines has one empty line, and that is an edit",
-            input: b"\x94\x00\x01\xb2nvim_buf_set_lines\x95\x00\x00\xff\xc3\x90\x94\x00\x02\xb2nvim_buf_get_lines\x94\x00\x00\xff\xc3\x94\x00\x03\xb8nvim_buf_get_changedtick\x91\x00",
-            output: b"\x94\x01\x01\xc0\xc0\x94\x01\x02\xc0\x91\xa0\x94\x01\x03\xc0\x03",
+            input: &[
+                b"\x94\x00\x01\xb2nvim_buf_set_lines\x95\x00\x00\xff\xc3\x90",
+                b"\x94\x00\x02\xb2nvim_buf_get_lines\x94\x00\x00\xff\xc3",
+                b"\x94\x00\x03\xb8nvim_buf_get_changedtick\x91\x00",
+            ],
+            output: &[
+                b"\x94\x01\x01\xc0\xc0",
+                b"\x94\x01\x02\xc0\x91\xa0",
+                b"\x94\x01\x03\xc0\x03",
+            ],
             status: 0,
             line: b"",
         },
         Row {
             name: "changes are a tree",
-            input: b"\x94\x00\x01\xb2nvim_buf_set_lines\x95\x00\x00\xff\xc3\x91\xa1a\x94\x00\x02\xb8nvim_buf_get_changedtick\x91\x00\x94\x00\x03\xacnvim_command\x91\xa4undo\x94\x00\x04\xb8nvim_buf_get_changedtick\x91\x00\x94\x00\x05\xb2nvim_buf_set_lines\x95\x00\x00\xff\xc3\x91\xa1b\x94\x00\x06\xb8nvim_buf_get_changedtick\x91\x00\x94\x00\x07\xacnvim_command\x91\xa6undo 1\x94\x00\x08\xb2nvim_buf_get_lines\x94\x00\x00\xff\xc3\x94\x00\x09\xb8nvim_buf_get_changedtick\x91\x00\x94\x00\n\xacnvim_command\x91\xa4redo\x94\x00\x0b\xb2nvim_buf_get_lines\x94\x00\x00\xff\xc3\x94\x00\x0c\xb8nvim_buf_get_changedtick\x91\x00\x94\x00\x0d\xacnvim_command\x91\xa6undo 0\x94\x00\x0e\xb2nvim_buf_get_lines\x94\x00\x00\xff\xc3\x94\x00\x0f\xb8nvim_buf_get_changedtick\x91\x00\x94\x00\x10\xacnvim_command\x91\xa4redo\x94\x00\x11\xb2nvim_buf_get_lines\x94\x00\x00\xff\xc3\x94\x00\x12\xb8nvim_buf_get_changedtick\x91\x00\x94\x00\x13\xacnvim_command\x91\xa6undo 3",
-            output: b"\x94\x01\x01\xc0\xc0\x94\x01\x02\xc0\x03\x94\x01\x03\xc0\xc0\x94\x01\x04\xc0\x04\x94\x01\x05\xc0\xc0\x94\x01\x06\xc0\x05\x94\x01\x07\xc0\xc0\x94\x01\x08\xc0\x91\xa1a\x94\x01\x09\xc0\x07\x94\x01\n\xc0\xc0\x94\x01\x0b\xc0\x91\xa1a\x94\x01\x0c\xc0\x07\x94\x01\x0d\xc0\xc0\x94\x01\x0e\xc0\x91\xa0\x94\x01\x0f\xc0\x08\x94\x01\x10\xc0\xc0\x94\x01\x11\xc0\x91\xa1a\x94\x01\x12\xc0\x09\x94\x01\x13\x92\x01\xb3Index out of bounds\xc0",
+            input: &[
+                b"\x94\x00\x01\xb2nvim_buf_set_lines\x95\x00\x00\xff\xc3\x91\xa1a",
+                b"\x94\x00\x02\xb8nvim_buf_get_changedtick\x91\x00",
+                b"\x94\x00\x03\xacnvim_command\x91\xa4undo",
+                b"\x94\x00\x04\xb8nvim_buf_get_changedtick\x91\x00",
+                b"\x94\x00\x05\xb2nvim_buf_set_lines\x95\x00\x00\xff\xc3\x91\xa1b",
+                b"\x94\x00\x06\xb8nvim_buf_get_changedtick\x91\x00",
+                b"\x94\x00\x07\xacnvim_command\x91\xa6undo 1",
+                b"\x94\x00\x08\xb2nvim_buf_get_lines\x94\x00\x00\xff\xc3",
+                b"\x94\x00\x09\xb8nvim_buf_get_changedtick\x91\x00",
+                b"\x94\x00\n\xacnvim_command\x91\xa4redo",
+                b"\x94\x00\x0b\xb2nvim_buf_get_lines\x94\x00\x00\xff\xc3",
+                b"\x94\x00\x0c\xb8nvim_buf_get_changedtick\x91\x00",
+                b"\x94\x00\x0d\xacnvim_command\x91\xa6undo 0",
+                b"\x94\x00\x0e\xb2nvim_buf_get_lines\x94\x00\x00\xff\xc3",
+                b"\x94\x00\x0f\xb8nvim_buf_get_changedtick\x91\x00",
+                b"\x94\x00\x10\xacnvim_command\x91\xa4redo",
+                b"\x94\x00\x11\xb2nvim_buf_get_lines\x94\x00\x00\xff\xc3",
+                b"\x94\x00\x12\xb8nvim_buf_get_changedtick\x91\x00",
+                b"\x94\x00\x13\xacnvim_command\x91\xa6undo 3",
+            ],
+            output: &[
+                b"\x94\x01\x01\xc0\xc0",
+                b"\x94\x01\x02\xc0\x03",
+                b"\x94\x01\x03\xc0\xc0",
+                b"\x94\x01\x04\xc0\x04",
+                b"\x94\x01\x05\xc0\xc0",
+                b"\x94\x01\x06\xc0\x05",
+                b"\x94\x01\x07\xc0\xc0",
+                b"\x94\x01\x08\xc0\x91\xa1a",
+                b"\x94\x01\x09\xc0\x07",
+                b"\x94\x01\n\xc0\xc0",
+                b"\x94\x01\x0b\xc0\x91\xa1a",
+                b"\x94\x01\x0c\xc0\x07",
+                b"\x94\x01\x0d\xc0\xc0",
+                b"\x94\x01\x0e\xc0\x91\xa0",
+                b"\x94\x01\x0f\xc0\x08",
+                b"\x94\x01\x10\xc0\xc0",
+                b"\x94\x01\x11\xc0\x91\xa1a",
+                b"\x94\x01\x12\xc0\x09",
+                b"\x94\x01\x13\x92\x01\xb3Index out of bounds\xc0",
+            ],
             status: 0,
             line: b"",
         },
         Row {
             name: "each request is a change of its own",
-            input: b"\x94\x00\x01\xb2nvim_buf_set_lines\x95\x00\x00\xff\xc3\x91\xa1a\x94\x00\x02\xb2nvim_buf_set_lines\x95\x00\x00\xff\xc3\x91\xa1b\x94\x00\x03\xacnvim_command\x91\xa4undo\x94\x00\x04\xb2nvim_buf_get_lines\x94\x00\x00\xff\xc3\x94\x00\x05\xacnvim_command\x91\xa4undo\x94\x00\x06\xb2nvim_buf_get_lines\x94\x00\x00\xff\xc3\x94\x00\x07\xacnvim_command\x91\xa4undo\x94\x00\x08\xb8nvim_buf_get_changedtick\x91\x00",
-            output: b"\x94\x01\x01\xc0\xc0\x94\x01\x02\xc0\xc0\x94\x01\x03\xc0\xc0\x94\x01\x04\xc0\x91\xa1a\x94\x01\x05\xc0\xc0\x94\x01\x06\xc0\x91\xa0\x94\x01\x07\xc0\xc0\x94\x01\x08\xc0\x06",
+            input: &[
+                b"\x94\x00\x01\xb2nvim_buf_set_lines\x95\x00\x00\xff\xc3\x91\xa1a",
+                b"\x94\x00\x02\xb2nvim_buf_set_lines\x95\x00\x00\xff\xc3\x91\xa1b",
+                b"\x94\x00\x03\xacnvim_command\x91\xa4undo",
+                b"\x94\x00\x04\xb2nvim_buf_get_lines\x94\x00\x00\xff\xc3",
+                b"\x94\x00\x05\xacnvim_command\x91\xa4undo",
+                b"\x94\x00\x06\xb2nvim_buf_get_lines\x94\x00\x00\xff\xc3",
+                b"\x94\x00\x07\xacnvim_command\x91\xa4undo",
+                b"\x94\x00\x08\xb8nvim_buf_get_changedtick\x91\x00",
+            ],
+            output: &[
+                b"\x94\x01\x01\xc0\xc0",
+                b"\x94\x01\x02\xc0\xc0",
+                b"\x94\x01\x03\xc0\xc0",
+                b"\x94\x01\x04\xc0\x91\xa1a",
+                b"\x94\x01\x05\xc0\xc0",
+                b"\x94\x01\x06\xc0\x91\xa0",
+                b"\x94\x01\x07\xc0\xc0",
+                b"\x94\x01\x08\xc0\x06",
+            ],
             status: 0,
             line: b"",
         },
         Row {
             name: "text between two places, and offsets",
-            input: b"\x94\x00\x01\xb2nvim_buf_set_lines\x95\x00\x00\xff\xc3\x92\xa2ab\xa1c\x94\x00\x02\xb1nvim_buf_set_text\x96\x00\x00\x01\x01\x00\x92\xa1x\xa1y\x94\x00\x03\xb1nvim_buf_get_text\x96\x00\x00\x00\xff\xff\x80\x94\x00\x04\xb3nvim_buf_get_offset\x92\x00\x01\x94\x00\x05\xb3nvim_buf_get_offset\x92\x00\x02\x94\x00\x06\xacnvim_command\x91\xa4undo\x94\x00\x07\xb2nvim_buf_get_lines\x94\x00\x00\xff\xc3",
-            output: b"\x94\x01\x01\xc0\xc0\x94\x01\x02\xc0\xc0\x94\x01\x03\xc0\x92\xa2ax\xa2yc\x94\x01\x04\xc0\x03\x94\x01\x05\xc0\x06\x94\x01\x06\xc0\xc0\x94\x01\x07\xc0\x92\xa2ab\xa1c",
+            input: &[
+                b"\x94\x00\x01\xb2nvim_buf_set_lines\x95\x00\x00\xff\xc3\x92\xa2ab\xa1c",
+                b"\x94\x00\x02\xb1nvim_buf_set_text\x96\x00\x00\x01\x01\x00\x92\xa1x\xa1y",
+                b"\x94\x00\x03\xb1nvim_buf_get_text\x96\x00\x00\x00\xff\xff\x80",
+                b"\x94\x00\x04\xb3nvim_buf_get_offset\x92\x00\x01",
+                b"\x94\x00\x05\xb3nvim_buf_get_offset\x92\x00\x02",
+                b"\x94\x00\x06\xacnvim_command\x91\xa4undo",
+                b"\x94\x00\x07\xb2nvim_buf_get_lines\x94\x00\x00\xff\xc3",
+            ],
+            output: &[
+                b"\x94\x01\x01\xc0\xc0",
+                b"\x94\x01\x02\xc0\xc0",
+                b"\x94\x01\x03\xc0\x92\xa2ax\xa2yc",
+                b"\x94\x01\x04\xc0\x03",
+                b"\x94\x01\x05\xc0\x06",
+                b"\x94\x01\x06\xc0\xc0",
+                b"\x94\x01\x07\xc0\x92\xa2ab\xa1c",
+            ],
             status: 0,
             line: b"",
         },
@@ -201,43 +327,115 @@ fn refusals() -> &'static [Row] {
     &[
         Row {
             name: "too few and too many arguments",
-            input: b"\x94\x00\x01\xb2nvim_buf_get_lines\x92\x00\x00\x94\x00\x02\xb2nvim_buf_set_lines\x96\x00\x00\xff\xc3\x90\x00",
-            output: b"\x94\x01\x01\x92\x01\xd90Wrong number of arguments: expecting 4 but got 2\xc0\x94\x01\x02\x92\x01\xd90Wrong number of arguments: expecting 5 but got 6\xc0",
+            input: &[
+                b"\x94\x00\x01\xb2nvim_buf_get_lines\x92\x00\x00",
+                b"\x94\x00\x02\xb2nvim_buf_set_lines\x96\x00\x00\xff\xc3\x90\x00",
+            ],
+            output: &[
+                b"\x94\x01\x01\x92\x01\xd90Wrong number of arguments: expecting 4 but got 2\xc0",
+                b"\x94\x01\x02\x92\x01\xd90Wrong number of arguments: expecting 5 but got 6\xc0",
+            ],
             status: 0,
             line: b"",
         },
         Row {
             name: "each argument of the one method is of another type",
-            input: b"\x94\x00\x01\xb2nvim_buf_get_lines\x94\xc0\x00\xff\xc3\x94\x00\x02\xb2nvim_buf_get_lines\x94\x00\xc0\xff\xc3\x94\x00\x03\xb2nvim_buf_get_lines\x94\x00\x00\xc0\xc3\x94\x00\x04\xb2nvim_buf_get_lines\x94\x00\x00\xff\xc0",
-            output: b"\x94\x01\x01\x92\x01\xd9KWrong type for argument 1 when calling nvim_buf_get_lines, expecting Buffer\xc0\x94\x01\x02\x92\x01\xd9LWrong type for argument 2 when calling nvim_buf_get_lines, expecting Integer\xc0\x94\x01\x03\x92\x01\xd9LWrong type for argument 3 when calling nvim_buf_get_lines, expecting Integer\xc0\x94\x01\x04\x92\x01\xd9LWrong type for argument 4 when calling nvim_buf_get_lines, expecting Boolean\xc0",
+            input: &[
+                b"\x94\x00\x01\xb2nvim_buf_get_lines\x94\xc0\x00\xff\xc3",
+                b"\x94\x00\x02\xb2nvim_buf_get_lines\x94\x00\xc0\xff\xc3",
+                b"\x94\x00\x03\xb2nvim_buf_get_lines\x94\x00\x00\xc0\xc3",
+                b"\x94\x00\x04\xb2nvim_buf_get_lines\x94\x00\x00\xff\xc0",
+            ],
+            output: &[
+                b"\x94\x01\x01\x92\x01\xd9KWrong type for argument 1 \
+                    when calling nvim_buf_get_lines, expecting Buffer\xc0",
+                b"\x94\x01\x02\x92\x01\xd9LWrong type for argument 2 \
+                    when calling nvim_buf_get_lines, expecting Integer\xc0",
+                b"\x94\x01\x03\x92\x01\xd9LWrong type for argument 3 \
+                    when calling nvim_buf_get_lines, expecting Integer\xc0",
+                b"\x94\x01\x04\x92\x01\xd9LWrong type for argument 4 \
+                    when calling nvim_buf_get_lines, expecting Boolean\xc0",
+            ],
             status: 0,
             line: b"",
         },
         Row {
             name: "each argument of the other method is of another type",
-            input: b"\x94\x00\x01\xb2nvim_buf_set_lines\x95\xc0\x00\xff\xc3\x90\x94\x00\x02\xb2nvim_buf_set_lines\x95\x00\xc0\xff\xc3\x90\x94\x00\x03\xb2nvim_buf_set_lines\x95\x00\x00\xc0\xc3\x90\x94\x00\x04\xb2nvim_buf_set_lines\x95\x00\x00\xff\xc0\x90\x94\x00\x05\xb2nvim_buf_set_lines\x95\x00\x00\xff\xc3\xc0\x94\x00\x06\xb2nvim_buf_set_lines\x95\x00\x00\xff\xc3\x92\xa1x\x01",
-            output: b"\x94\x01\x01\x92\x01\xd9KWrong type for argument 1 when calling nvim_buf_set_lines, expecting Buffer\xc0\x94\x01\x02\x92\x01\xd9LWrong type for argument 2 when calling nvim_buf_set_lines, expecting Integer\xc0\x94\x01\x03\x92\x01\xd9LWrong type for argument 3 when calling nvim_buf_set_lines, expecting Integer\xc0\x94\x01\x04\x92\x01\xd9LWrong type for argument 4 when calling nvim_buf_set_lines, expecting Boolean\xc0\x94\x01\x05\x92\x01\xd9JWrong type for argument 5 when calling nvim_buf_set_lines, expecting Array\xc0\x94\x01\x06\x92\x01\xd9JWrong type for argument 5 when calling nvim_buf_set_lines, expecting Array\xc0",
+            input: &[
+                b"\x94\x00\x01\xb2nvim_buf_set_lines\x95\xc0\x00\xff\xc3\x90",
+                b"\x94\x00\x02\xb2nvim_buf_set_lines\x95\x00\xc0\xff\xc3\x90",
+                b"\x94\x00\x03\xb2nvim_buf_set_lines\x95\x00\x00\xc0\xc3\x90",
+                b"\x94\x00\x04\xb2nvim_buf_set_lines\x95\x00\x00\xff\xc0\x90",
+                b"\x94\x00\x05\xb2nvim_buf_set_lines\x95\x00\x00\xff\xc3\xc0",
+                b"\x94\x00\x06\xb2nvim_buf_set_lines\x95\x00\x00\xff\xc3\x92\xa1x\x01",
+            ],
+            output: &[
+                b"\x94\x01\x01\x92\x01\xd9KWrong type for argument 1 \
+                    when calling nvim_buf_set_lines, expecting Buffer\xc0",
+                b"\x94\x01\x02\x92\x01\xd9LWrong type for argument 2 \
+                    when calling nvim_buf_set_lines, expecting Integer\xc0",
+                b"\x94\x01\x03\x92\x01\xd9LWrong type for argument 3 \
+                    when calling nvim_buf_set_lines, expecting Integer\xc0",
+                b"\x94\x01\x04\x92\x01\xd9LWrong type for argument 4 \
+                    when calling nvim_buf_set_lines, expecting Boolean\xc0",
+                b"\x94\x01\x05\x92\x01\xd9JWrong type for argument 5 \
+                    when calling nvim_buf_set_lines, expecting Array\xc0",
+                b"\x94\x01\x06\x92\x01\xd9JWrong type for argument 5 \
+                    when calling nvim_buf_set_lines, expecting Array\xc0",
+            ],
             status: 0,
             line: b"",
         },
         Row {
             name: "of several faults the first in order",
-            input: b"\x94\x00\x01\xb2nvim_buf_get_lines\x94\xd4\x01\x07\xc0\xff\xc3\x94\x00\x02\xb2nvim_buf_set_lines\x95\x07\x00\x09\xc3\x91\xa1\n\x94\x00\x03\xb2nvim_buf_set_lines\x95\x00\x09\x00\xc3\x91\xa1\n\x94\x00\x04\xb2nvim_buf_set_lines\x95\x00\x01\x00\xc3\x91\xa1\n\x94\x00\x05\xb2nvim_buf_get_lines\x94\x00\x00\xff\xc3",
-            output: b"\x94\x01\x01\x92\x01\xd9KWrong type for argument 1 when calling nvim_buf_get_lines, expecting Buffer\xc0\x94\x01\x02\x92\x01\xb4Invalid buffer id: 7\xc0\x94\x01\x03\x92\x01\xb3Index out of bounds\xc0\x94\x01\x04\x92\x01\xbc'start' is higher than 'end'\xc0\x94\x01\x05\xc0\x91\xa0",
+            input: &[
+                b"\x94\x00\x01\xb2nvim_buf_get_lines\x94\xd4\x01\x07\xc0\xff\xc3",
+                b"\x94\x00\x02\xb2nvim_buf_set_lines\x95\x07\x00\x09\xc3\x91\xa1\n",
+                b"\x94\x00\x03\xb2nvim_buf_set_lines\x95\x00\x09\x00\xc3\x91\xa1\n",
+                b"\x94\x00\x04\xb2nvim_buf_set_lines\x95\x00\x01\x00\xc3\x91\xa1\n",
+                b"\x94\x00\x05\xb2nvim_buf_get_lines\x94\x00\x00\xff\xc3",
+            ],
+            output: &[
+                b"\x94\x01\x01\x92\x01\xd9KWrong type for argument 1 \
+                    when calling nvim_buf_get_lines, expecting Buffer\xc0",
+                b"\x94\x01\x02\x92\x01\xb4Invalid buffer id: 7\xc0",
+                b"\x94\x01\x03\x92\x01\xb3Index out of bounds\xc0",
+                b"\x94\x01\x04\x92\x01\xbc'start' is higher than 'end'\xc0",
+                b"\x94\x01\x05\xc0\x91\xa0",
+            ],
             status: 0,
             line: b"",
         },
         Row {
             name: "a handle below 0, and numbers for truth values",
-            input: b"\x94\x00\x01\xb2nvim_buf_get_lines\x94\xff\x00\xff\xc3\x94\x00\x02\xb2nvim_buf_get_lines\x94\x01\xfd\xff\x00\x94\x00\x03\xb2nvim_buf_get_lines\x94\x00\xfd\xff\x07",
-            output: b"\x94\x01\x01\x92\x01\xb5Invalid buffer id: -1\xc0\x94\x01\x02\xc0\x91\xa0\x94\x01\x03\x92\x01\xb3Index out of bounds\xc0",
+            input: &[
+                b"\x94\x00\x01\xb2nvim_buf_get_lines\x94\xff\x00\xff\xc3",
+                b"\x94\x00\x02\xb2nvim_buf_get_lines\x94\x01\xfd\xff\x00",
+                b"\x94\x00\x03\xb2nvim_buf_get_lines\x94\x00\xfd\xff\x07",
+            ],
+            output: &[
+                b"\x94\x01\x01\x92\x01\xb5Invalid buffer id: -1\xc0",
+                b"\x94\x01\x02\xc0\x91\xa0",
+                b"\x94\x01\x03\x92\x01\xb3Index out of bounds\xc0",
+            ],
             status: 0,
             line: b"",
         },
         Row {
             name: "no argument, no buffer, and no command",
-            input: b"\x94\x00\x01\xb3nvim_buf_line_count\x90\x94\x00\x02\xb3nvim_buf_line_count\x91\xa1x\x94\x00\x03\xb3nvim_buf_line_count\x91\x07\x94\x00\x04\xacnvim_command\x91\xa4quit",
-            output: b"\x94\x01\x01\x92\x01\xd90Wrong number of arguments: expecting 1 but got 0\xc0\x94\x01\x02\x92\x01\xd9LWrong type for argument 1 when calling nvim_buf_line_count, expecting Buffer\xc0\x94\x01\x03\x92\x01\xb4Invalid buffer id: 7\xc0\x94\x01\x04\x92\x00\xb2Unknown name: quit\xc0",
+            input: &[
+                b"\x94\x00\x01\xb3nvim_buf_line_count\x90",
+                b"\x94\x00\x02\xb3nvim_buf_line_count\x91\xa1x",
+                b"\x94\x00\x03\xb3nvim_buf_line_count\x91\x07",
+                b"\x94\x00\x04\xacnvim_command\x91\xa4quit",
+            ],
+            output: &[
+                b"\x94\x01\x01\x92\x01\xd90Wrong number of arguments: expecting 1 but got 0\xc0",
+                b"\x94\x01\x02\x92\x01\xd9LWrong type for argument 1 \
+                    when calling nvim_buf_line_count, expecting Buffer\xc0",
+                b"\x94\x01\x03\x92\x01\xb4Invalid buffer id: 7\xc0",
+                b"\x94\x01\x04\x92\x00\xb2Unknown name: quit\xc0",
+            ],
             status: 0,
             line: b"",
         },
@@ -283,13 +481,24 @@ fn embedded(rt: &HostRuntime, input: &[u8], cut: usize) -> Result<Left, AllocErr
     Ok(play(rt, &["embed"], input, ample(alloc)))
 }
 
+fn joined(alloc: Global, parts: &[&[u8]]) -> Result<Vec<u8>, AllocError> {
+    let mut all = Vec::new(alloc);
+    for part in parts {
+        all.extend_from_slice(*part)?;
+    }
+    Ok(all)
+}
+
 // The first row that gives something else, in one piece or byte by byte.
 fn first_wrong(rt: &HostRuntime, rows: &[Row]) -> Result<Option<&'static str>, AllocError> {
+    let alloc = rt.alloc();
     for row in rows {
+        let input = joined(alloc, row.input)?;
+        let output = joined(alloc, row.output)?;
         for whole in [true, false] {
-            let left = embedded(rt, row.input, if whole { 4_096 } else { 1 })?;
+            let left = embedded(rt, &input, if whole { 4_096 } else { 1 })?;
             if left.status != row.status
-                || left.output.bytes() != row.output
+                || left.output.bytes() != output.as_slice()
                 || left.errors.bytes() != row.line
             {
                 return Ok(Some(row.name));

@@ -3,8 +3,8 @@ ghost use Rattle.std.specs.Prelude.{◌≡◌, ◌≢◌, ℕ, ◌^◌, ◌<◌,
 ghost use Rattle.nv_io.specs.Memory.{AreSizes};
 ghost use Rattle.nv_io.specs.declared.ending.Flaw.{Flaw};
 ghost use Rattle.nv_rpc.specs.Calls.{Call};
-ghost use Rattle.nvimd.specs.Answers.{answers};
-ghost use Rattle.nvimd.specs.Methods.{fresh};
+ghost use Rattle.nvimd.specs.Answers.{answers_to};
+ghost use Rattle.nvimd.specs.Methods.{first_buffer};
 ghost use Rattle.nvimd.specs.Reading.{Reads};
 
 use crate::command::run;
@@ -14,11 +14,11 @@ use std::fs::File;
 use std::net::{Net, TcpListener, TcpStream};
 use std::rt::Files;
 
-/// Answers the calls in `bytes`, which come in pieces of the sizes in `cuts`, over and over. Gives the
-/// status, and the sink that took the answers.
+/// Answers the calls in `bytes`, which come in pieces of the sizes in `cuts`, over and over. Gives
+/// the status, and the sink that took the answers.
 ///
-/// Status 0 says that the bytes are calls and nothing else, and that each was answered; status 6 that
-/// they hold calls up to a flaw, and that each of these was answered.
+/// Status 0 says that the bytes are calls and nothing else, and that each was answered; status 6
+/// that they hold calls up to a flaw, and that each of these was answered.
 pub fn answer_all<R: Files<File = File> + Net<Listener = TcpListener, Stream = TcpStream>>(
     rt: &R,
     alloc: Global,
@@ -30,9 +30,11 @@ pub fn answer_all<R: Files<File = File> + Net<Listener = TcpListener, Stream = T
     requires short { vec_len bytes < 2 ^ 62 }
     ensures command { result.0 ≢ 2 }
     ensures sure { result.0 ≢ 3 }
-    ensures whole { result.0 ≡ 0 → (calls : List Call) × Reads calls bytes.items None × (result.1.taken ≡ answers calls fresh) }
-    ensures malformed { result.0 ≡ 6 → (calls : List Call) × (flaw : Flaw) × (read rest : List ℕ) × (bytes.items ≡ read ++ rest)
-        × Reads calls read (Some flaw) × (result.1.taken ≡ answers calls fresh) }
+    ensures whole { result.0 ≡ 0 → (calls : List Call) × Reads calls bytes.items None
+        × (result.1.taken ≡ answers_to calls first_buffer) }
+    ensures malformed { result.0 ≡ 6
+        → (calls : List Call) × (flaw : Flaw) × (read rest : List ℕ) × (bytes.items ≡ read ++ rest)
+        × Reads calls read (Some flaw) × (result.1.taken ≡ answers_to calls first_buffer) }
 {
     let mut input = SureSource::new(bytes, cuts);
     let mut output = MemSink::new(alloc, 4_096, Vec::new(alloc));

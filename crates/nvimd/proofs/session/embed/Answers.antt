@@ -1,5 +1,5 @@
 use Rattle.std.proofs.Common.{ℕ, [], ◌++◌, length, ap, inl, inr, sym, ◌∙◌, arith}
-use Rattle.nv_stream.specs.State.{end_of}
+use Rattle.nv_stream.specs.State.{stream_end}
 use Rattle.nvimd.specs.Ends.{WasRead}
 use Rattle.nvimd.proofs.Serving.{served_then, gave_none, gave_then, served_length, held_more, ends_before, ends_turn, ends_full, not_read_fault, not_write_fault}
 use Rattle.nvimd.proofs.Steps.{served_new, ends_held}
@@ -72,7 +72,7 @@ returns-clause-ends g c =
     )
 
 pub returns-clause-read : goal.returns-clause-read
-returns-clause-read g c = λ e. absurd (not_read_fault (end_of c.loop-session.session.stream) (sym c.end.ensures ∙ e))
+returns-clause-read g c = λ e. absurd (not_read_fault (stream_end c.loop-session.session.stream) (sym c.end.ensures ∙ e))
 
 pub returns-clause-write : goal.returns-clause-write
-returns-clause-write g c = λ e. absurd (not_write_fault (end_of c.loop-session.session.stream) (sym c.end.ensures ∙ e))
+returns-clause-write g c = λ e. absurd (not_write_fault (stream_end c.loop-session.session.stream) (sym c.end.ensures ∙ e))

@@ -7,5 +7,5 @@ use Rattle.nvimd.proofs.session.Session.new.Goals as goal
 pub returns : goal.returns
 unfolding most_depth
 returns c =
-    let e : c.in_ok-new.field-0 ≡ stream.fresh most_depth most_bytes = c.in_ok-new.ensures in
+    let e : c.in_ok-new.field-0 ≡ stream.empty_state most_depth most_bytes = c.in_ok-new.ensures in
     begun _ e c.in_ok-new-2.ensures refl

@@ -1,4 +1,5 @@
--- What a method gave, beside the outcome that is wanted of it. Want of memory may always come in its place.
+-- inside: what a method gave, beside the outcome that is wanted of it. Want of memory may always
+-- come in its place.
 use Rattle.std.specs.Prelude.{◌≡◌, ⊤, Result, Ok, Err}
 use Rattle.nv_value.specs.View.{content}
 use Rattle.nv_value.specs.declared.value.Value.{Value}

@@ -1,10 +1,11 @@
--- Single lines of text that lies between two places.
+-- inside: single lines of text that lies between two places.
 use Rattle.std.specs.Prelude.{ℕ, ◌+◌, ◌==◌, if◌then◌else◌, List, [], ◌++◌, take, drop}
 use Rattle.nv_places.specs.declared.place.Pos.{Pos}
 
 -- what of the line of a row stands between two places
 abbrev pub part_of : List ℕ → ℕ → Pos → Pos → List ℕ
-part_of line row start stop = drop (if row == start.row then start.col else 0) (if row == stop.row then take stop.col line else line)
+part_of line row start stop = drop (if row == start.row then start.col else 0)
+    (if row == stop.row then take stop.col line else line)
 
 -- the line at a place, of so many, where bytes are put before the first and behind the last
 abbrev pub joined_line : List ℕ → ℕ → ℕ → List ℕ → List ℕ → List ℕ
