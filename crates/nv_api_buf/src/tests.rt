@@ -2,7 +2,7 @@
 //! documented effects of the methods and from the words of their faults. Arguments and results are
 //! spelled in MessagePack.
 
-ghost use Rattle.std.specs.Prelude.{IfOk};
+ghost use Rattle.std.specs.Prelude.{◌<◌, ◌^◌, IfOk};
 ghost use Rattle.nv_value.specs.View.{content};
 ghost use Rattle.nv_msgpack.specs.Shortest.{HasSpelling};
 
@@ -283,50 +283,48 @@ fn kept() -> &'static [Step] {
     ]
 }
 
+// A text is set, and then kept: the first step that answers otherwise, if any.
+fn first_wrong_of_kept(alloc: Global, buffer: &mut Buffer) -> Result<Option<usize>, AllocError> {
+    let set = b"\x95\x00\x00\xff\xc3\x91\xa1a";
+    if !played(alloc, buffer, "set_lines", set)?.is_empty() {
+        return Ok(Some(usize::MAX));
+    }
+    buffer.put_modifiable(false);
+    first_wrong(alloc, buffer, kept())
+}
+
 #[test]
 fn a_text_that_is_kept_isn_t_changed(rt: HostRuntime) -> Result<(), Failed> {
-    let alloc = rt.alloc();
-    let mut buffer = Buffer::new(alloc, 1)?;
-    let set = played(
-        alloc,
-        &mut buffer,
-        "set_lines",
-        b"\x95\x00\x00\xff\xc3\x91\xa1a",
-    )?;
-    assert!(rt; set.is_empty());
-    buffer.put_modifiable(false);
-    assert_eq!(rt; first_wrong(alloc, &mut buffer, kept())?, None);
+    let mut buffer = Buffer::new(rt.alloc(), 1)?;
+    assert_eq!(rt; first_wrong_of_kept(rt.alloc(), &mut buffer)?, None);
     Ok(())
+}
+
+// Whether a text of one line of so many bytes is put, and not refused as too long.
+fn is_put(alloc: Global, buffer: &mut Buffer, bytes: usize) -> Result<bool, AllocError>
+    requires { bytes < 2 ^ 25 }
+{
+    let line = Value::Text(Bytes::from_vec(vec![in alloc; b'a'; bytes]?)?);
+    let mut params = params_of(alloc, WHOLE)?;
+    params.push(Value::List(vec![in alloc; line]?))?;
+    let answer = done(alloc, nvim_buf_set_lines(alloc, params, buffer))?;
+    Ok(answer.as_slice() != b"Limit reached".as_slice())
 }
 
 // A line of as many bytes as a line may have is put, one more byte isn't, and not where a line
 // joins what stands there.
+fn are_refused(alloc: Global, buffer: &mut Buffer) -> Result<bool, AllocError> {
+    let longer = is_put(alloc, buffer, 16_777_217)?;
+    let longest = is_put(alloc, buffer, 16_777_216)?;
+    let joins = b"\x96\x00\x00\x00\x00\x00\x91\xa1x";
+    let joined = played(alloc, buffer, "set_text", joins)?;
+    Ok(!longer && longest && joined.as_slice() == b"Limit reached".as_slice())
+}
+
 #[test]
 fn long_lines_are_refused(rt: HostRuntime) -> Result<(), Failed> {
-    let alloc = rt.alloc();
-    let mut buffer = Buffer::new(alloc, 1)?;
-    for (bytes, refused) in [(16_777_217, true), (16_777_216, false)] {
-        let line = Value::Text(Bytes::from_vec(vec![in alloc; b'a'; bytes]?)?);
-        let mut params = params_of(alloc, WHOLE)?;
-        params.push(Value::List(vec![in alloc; line]?))?;
-        match nvim_buf_set_lines(alloc, params, &mut buffer) {
-            Ok(()) => assert!(rt; !refused),
-            Err(fail) => {
-                assert!(rt; refused);
-                assert_eq!(rt;
-                    words_of(alloc, fail)?.as_slice(),
-                    b"Limit reached".as_slice()
-                );
-            }
-        }
-    }
-    let joined = played(
-        alloc,
-        &mut buffer,
-        "set_text",
-        b"\x96\x00\x00\x00\x00\x00\x91\xa1x",
-    )?;
-    assert_eq!(rt; joined.as_slice(), b"Limit reached".as_slice());
+    let mut buffer = Buffer::new(rt.alloc(), 1)?;
+    assert!(rt; are_refused(rt.alloc(), &mut buffer)?);
     Ok(())
 }
 
@@ -341,12 +339,25 @@ fn between() -> &'static [(u32, u32, u32, u32, &'static [u8])] {
     ]
 }
 
-#[test]
-fn text_is_got_line_by_line(rt: HostRuntime) -> Result<(), Failed> {
-    let alloc = rt.alloc();
-    let mut buffer = Buffer::new(alloc, 1)?;
+// Whether the text between two places is this.
+fn is_between(
+    alloc: Global,
+    buffer: &Buffer,
+    start: Pos,
+    stop: Pos,
+    text: &[u8],
+) -> Result<bool, AllocError> {
+    let within = is_in_line(buffer.text(), start) && is_in_line(buffer.text(), stop);
+    if !within || stop.is_before(start) {
+        return Ok(false);
+    }
+    let value = text_of(alloc, buffer, start, stop)?;
+    Ok(told(alloc, Ok(value))?.as_slice() == text)
+}
+
+fn is_got(alloc: Global, buffer: &mut Buffer) -> Result<bool, AllocError> {
     let lines = b"\x95\x00\x00\xff\xc3\x93\xa2ab\xa0\xa2cd";
-    assert!(rt; played(alloc, &mut buffer, "set_lines", lines)?.is_empty());
+    let mut all = played(alloc, buffer, "set_lines", lines)?.is_empty();
     for &(start_row, start_col, stop_row, stop_col, text) in between() {
         let start = Pos {
             row: start_row,
@@ -356,10 +367,14 @@ fn text_is_got_line_by_line(rt: HostRuntime) -> Result<(), Failed> {
             row: stop_row,
             col: stop_col,
         };
-        assert!(rt; is_in_line(buffer.text(), start) && is_in_line(buffer.text(), stop));
-        assert!(rt; !stop.is_before(start));
-        let value = text_of(alloc, &buffer, start, stop)?;
-        assert_eq!(rt; told(alloc, Ok(value))?.as_slice(), text);
+        all = all && is_between(alloc, buffer, start, stop, text)?;
     }
+    Ok(all)
+}
+
+#[test]
+fn text_is_got_line_by_line(rt: HostRuntime) -> Result<(), Failed> {
+    let mut buffer = Buffer::new(rt.alloc(), 1)?;
+    assert!(rt; is_got(rt.alloc(), &mut buffer)?);
     Ok(())
 }
