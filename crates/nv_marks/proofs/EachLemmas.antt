@@ -1,5 +1,5 @@
 -- Lemmas on what holds of each element, and on lists in order.
-use Rattle.std.proofs.Common.{◌≡◌, ◌≤◌, ◌<◌, ◌+◌, List, [], ◌∷◌, ◌++◌, ℕ, zero, suc, refl, ap, sym, ◌∙◌, length, take, drop, get_or, map, arith, All, Bool, true, false, cond, subst}
+use Rattle.std.proofs.Common.{◌≡◌, ◌<◌, ◌+◌, List, [], ◌∷◌, ◌++◌, ℕ, zero, suc, refl, sym, length, take, drop, get_or, map, arith, All, Bool, true, false, cond, subst}
 use Rattle.std.specs.Prelude.{IsPermutation, IsSortedBy, filter}
 use Rattle.std.proofs.lemmas.Bool.{both_ways}
 use Rattle.std.specs.Cmp.{IsStrictWeakOrder}

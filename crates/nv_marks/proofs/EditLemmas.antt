@@ -1,16 +1,13 @@
 -- One chunk extended_list anew, split into two, or joined with the next one: the chunks stay laid.
-use Rattle.std.proofs.Common.{◌≡◌, ◌≤◌, ◌<◌, ◌+◌, ◌-◌, List, [], ◌∷◌, ◌++◌, ℕ, zero, suc, refl, ap, sym, ◌∙◌, append_assoc, length, length-append, take, drop, get_or, map, arith, Bool, true, false, subst, inl, inr}
-use Rattle.std.specs.Prelude.{IsPermutation, insert, remove}
-use Rattle.std.proofs.lemmas.List.{length-take-le, length-drop, length-map, take-append-drop, append-nil, drop_more, drop-drop}
-use Rattle.std.proofs.lemmas.List.Sorted.{IsPermutation-append_left, IsPermutation-append_right, IsPermutation-refl, IsPermutation-trans, IsPermutation-middle, IsPermutation-sym, length_permutation}
-use Rattle.nv_places.specs.declared.place.Pos.{Pos}
-use Rattle.nv_places.specs.Places.{IsNarrow, is_before}
+use Rattle.std.proofs.Common.{◌≡◌, ◌≤◌, ◌<◌, ◌+◌, ◌-◌, List, [], ◌∷◌, ◌++◌, ℕ, zero, suc, refl, ap, sym, ◌∙◌, append_assoc, length, take, drop, get_or, map, arith, false, subst}
+use Rattle.std.specs.Prelude.{IsPermutation, insert}
+use Rattle.std.proofs.lemmas.List.{length-take-le, length-drop, length-map, take-append-drop, append-nil, drop_more}
+use Rattle.std.proofs.lemmas.List.Sorted.{IsPermutation-append_left, IsPermutation-append_right, IsPermutation-trans, IsPermutation-middle, IsPermutation-sym}
+use Rattle.nv_places.specs.Places.{IsNarrow}
 use Rattle.nv_marks.specs.declared.record.Record.{Record}
-use Rattle.nv_marks.specs.declared.record.Kept.{Kept}
-use Rattle.nv_marks.specs.inside.Records.{ForEach, Rises, Sort, precedes}
-use Rattle.nv_marks.specs.inside.Chunks.{Piece, placed_record, kept_from, records_of, spread_records, base_of, refilled_piece, IsFit, IsBased, IsAmple, Ample, IsLaid, IsSpare, starts_before, pieces_edited_at, parted_pieces, held_records}
-use Rattle.nv_marks.proofs.EachLemmas.{Each-append, Each-left, Each-right, Each-weaker, Each-get_or, Each-permutation, Rises-left, Rises-right, Rises-cross, Rises-append}
-use Rattle.nv_marks.proofs.PlacesLemmas.{through, record_ranks}
+use Rattle.nv_marks.specs.inside.Records.{ForEach, Sort, precedes}
+use Rattle.nv_marks.specs.inside.Chunks.{Piece, kept_from, records_of, spread_records, base_of, refilled_piece, IsFit, IsBased, Ample, IsLaid, IsSpare, pieces_edited_at, parted_pieces, held_records}
+use Rattle.nv_marks.proofs.EachLemmas.{Each-append, Each-left, Each-right, Each-get_or, Each-permutation, Rises-left, Rises-right, Rises-cross, Rises-append}
 use Rattle.nv_marks.proofs.SpreadLemmas.{spread-append, length-records, read_back, refilled_based, spread_at}
 
 -- ---- the chunk at a place, and those before and behind it

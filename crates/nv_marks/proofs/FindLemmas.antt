@@ -1,7 +1,7 @@
 -- Records found by their key among chunks.
-use Rattle.std.proofs.Common.{◌≡◌, ◌≤◌, ◌<◌, ◌+◌, ◌-◌, List, [], ◌∷◌, ◌++◌, ℕ, zero, suc, refl, ap, sym, ◌∙◌, append_assoc, length, length-append, take, drop, get_or, map, arith, All, Bool, true, false, cond, subst, Option, Some, None}
+use Rattle.std.proofs.Common.{◌≡◌, ◌≤◌, ◌<◌, ◌+◌, List, [], ◌∷◌, ◌++◌, ℕ, refl, ap, sym, ◌∙◌, length, take, drop, get_or, map, arith, All, Bool, true, false, cond, subst, Some, None}
 use Rattle.std.specs.Prelude.{find, position}
-use Rattle.std.proofs.lemmas.List.{get_or-map, length-map, append-nil, take-append-drop, take_all}
+use Rattle.std.proofs.lemmas.List.{get_or-map, take_all}
 use Rattle.std.proofs.lemmas.List.Elements.{All-head, All-tail}
 use Rattle.std.proofs.lemmas.List.Quantifiers.{position-Some}
 use Rattle.nv_marks.specs.declared.record.Record.{Record}
@@ -9,9 +9,9 @@ use Rattle.nv_marks.specs.declared.record.Kept.{Kept}
 use Rattle.nv_marks.specs.inside.Records.{ForEach, has_key, is_key}
 use Rattle.nv_marks.specs.inside.Chunks.{Piece, placed_record, records_of, spread_records, held_records, IsFoundAt}
 use Rattle.nv_marks.proofs.NameLemmas.{find-none, find_at, fail_from_position}
-use Rattle.nv_marks.proofs.EachLemmas.{Each-append, Each-from_all, All-from_each}
+use Rattle.nv_marks.proofs.EachLemmas.{Each-append, All-from_each}
 use Rattle.nv_marks.proofs.SpreadLemmas.{spread-append, spread_more, length-records}
-use Rattle.nv_marks.proofs.EditLemmas.{no_piece, at_split, held_one}
+use Rattle.nv_marks.proofs.EditLemmas.{at_split, held_one}
 
 pub find-behind : {X : Type 0} (t : X → Bool) (xs ys : List X) → ForEach (λ x. t x ≡ false) xs → find t (xs ++ ys) ≡ find t ys
 find-behind t [] ys none = refl
@@ -36,7 +36,7 @@ not_among ns id end p nowhere = all p.kept (fail_from_position (λ (k : Kept). i
     all (k ∷ ks) each =
         (All-head (λ (k : Kept). is_key ns id end k.info ≡ false) k ks each, all ks (All-tail (λ (k : Kept). is_key ns id end k.info ≡ false) k ks each))
 
-is_among : (ns id : ℕ) (end : Bool) (p : Piece) (i : ℕ) (d : Record) → position (λ (k : Kept). is_key ns id end k.info) p.kept ≡ Some i
+pub is_among : (ns id : ℕ) (end : Bool) (p : Piece) (i : ℕ) (d : Record) → position (λ (k : Kept). is_key ns id end k.info) p.kept ≡ Some i
     → (i < length (records_of p)) × (find (has_key ns id end) (records_of p) ≡ Some (get_or (records_of p) i d))
 is_among ns id end p i d there =
     let k0 : Kept = record { by = record { rows = 0; cols = 0 }; info = d.info } in

@@ -15,3 +15,4 @@ pub mod SwapLemmas
 pub mod PartsLemmas
 pub mod WithinLemmas
 pub mod StoredLemmas
+pub mod IndexLemmas

@@ -1,21 +1,19 @@
 -- Marks and their records.
-use Rattle.std.proofs.Common.{◌≡◌, ◌≤◌, ◌<◌, ◌+◌, ◌-◌, ◌*◌, inl, inr, List, [], ◌∷◌, ◌++◌, ℕ, zero, suc, refl, ap, sym, ◌∙◌, append_assoc, length, length-append, get_or, map, arith, All, Bool, true, false, not, ◌&&◌, cond, eqb, subst, Option, Some, None}
-use Rattle.std.specs.Prelude.{IsPermutation, IsSorted, take, drop, filter, find, option_map, option_to_list, is_some, IfSome}
-use Rattle.std.specs.List.{IsDistinct, flat_map, AllByRecursion}
+use Rattle.std.proofs.Common.{◌≡◌, ◌≤◌, ◌<◌, ◌+◌, ◌-◌, ◌*◌, inl, inr, List, [], ◌∷◌, ◌++◌, ℕ, zero, suc, refl, ap, sym, ◌∙◌, append_assoc, length, length-append, get_or, map, arith, Bool, true, false, not, ◌&&◌, cond, eqb, subst, Option, Some, None}
+use Rattle.std.specs.Prelude.{IsPermutation, take, drop, filter, find, position, option_map, option_to_list, is_some, IfSome}
+use Rattle.std.specs.List.{IsDistinct}
 use Rattle.std.specs.Ordering.{is_lt}
 use Rattle.std.proofs.lemmas.Bool.Decides.{nat_tests}
 use Rattle.std.proofs.lemmas.Bool.{both_ways, cases_lt}
-use Rattle.std.proofs.lemmas.List.{map-append, length-map, get_or-map, append-nil, length-take-le, take_all, take-append-le, take-append-drop}
+use Rattle.std.proofs.lemmas.List.{map-append, length-map, get_or-map, append-nil, length-take-le, take_all, take-append-le}
 use Rattle.std.proofs.Math.Seq.{take-append-add}
 use Rattle.std.proofs.lemmas.List.Elements.{filter-append}
-use Rattle.std.proofs.lemmas.List.Concat.{flat_map-append}
-use Rattle.std.proofs.lemmas.List.Kept.{AllPairs-filter}
 use Rattle.std.proofs.lemmas.List.Elements.{recursion_from_All, All-from_recursion}
 use Rattle.std.proofs.lemmas.Map.Keys.{IsDistinct-head, IsDistinct-tail, IsDistinct-cons, IsDistinct-IsPermutation, IsDistinct-from_apart, apart_from_distinct}
-use Rattle.std.proofs.lemmas.List.Sorted.{IsPermutation-refl, IsPermutation-trans, IsPermutation-sym, IsPermutation-map, IsPermutation-cons, IsPermutation-append_comm, IsPermutation-append_right, length_permutation}
+use Rattle.std.proofs.lemmas.List.Sorted.{IsPermutation-refl, IsPermutation-trans, IsPermutation-sym, IsPermutation-map, IsPermutation-cons, IsPermutation-append_comm, IsPermutation-append_right}
 use Rattle.nv_places.specs.declared.place.Pos.{Pos}
 use Rattle.nv_places.specs.declared.place.Extent.{Extent}
-use Rattle.nv_places.specs.Places.{IsNarrow, is_before}
+use Rattle.nv_places.specs.Places.{IsNarrow}
 use Rattle.nv_places.specs.Moves.{moved_place}
 use Rattle.nv_marks.specs.Marks.{is_named, mark_at, without}
 use Rattle.nv_marks.specs.Order.{mark_order, IsInOrder, is_within, starts_within}
@@ -25,14 +23,16 @@ use Rattle.nv_marks.specs.Moves.{moved_far, moved_mark, MovesNarrowly}
 use Rattle.nv_marks.specs.declared.extmark.Far.{Far}
 use Rattle.nv_marks.specs.declared.extmark.Mark.{Mark}
 use Rattle.nv_marks.specs.declared.record.Record.{Record}
-use Rattle.nv_marks.specs.inside.Records.{ForEach, Rises, Sort, place, precedes, moved_record, MovesInRange, has_key, same_key, belongs_to, is_start, far_in, end_among, mark_among, marks_among, start_record, end_record, records_of_mark, records_of_marks}
+use Rattle.nv_marks.specs.inside.Records.{ForEach, Rises, Sort, place, precedes, moved_record, MovesInRange, has_key, is_key, same_key, belongs_to, is_start, far_in, end_among, mark_among, marks_among, start_record, end_record, records_of_mark, records_of_marks}
 use Rattle.nv_marks.specs.inside.Stored.{IsEndKnown, extended_list, listed_marks}
 use Rattle.nv_marks.proofs.NameLemmas.{find-All, find-map, find-permutation, find-none, filter-all, none_passes, others_fail, named_once}
-use Rattle.nv_marks.proofs.EachLemmas.{Each-append, Each-left, Each-right, Each-weaker, Each-always, Each-map, Each-permutation, Each-filter, All-from_each, Each-from_all, sorted_from_rises}
+use Rattle.nv_marks.proofs.EachLemmas.{Each-append, Each-weaker, Each-always, Each-map, Each-permutation, Each-filter, All-from_each, Each-from_all, sorted_from_rises}
 use Rattle.nv_marks.proofs.SwapLemmas.{IsPermutation-flat, IsPermutation-filter}
-use Rattle.nv_marks.specs.inside.Chunks.{Piece, spread_records}
+use Rattle.nv_marks.specs.declared.record.Kept.{Kept}
+use Rattle.nv_marks.specs.inside.Chunks.{Piece, records_of, spread_records, held_records, IsFoundAt}
 use Rattle.nv_marks.proofs.SpreadLemmas.{spread-append}
-use Rattle.nv_marks.proofs.FindLemmas.{find-behind, find-front}
+use Rattle.nv_marks.proofs.EditLemmas.{at_split, held_one}
+use Rattle.nv_marks.proofs.FindLemmas.{find-behind, find-front, is_among}
 
 -- ---- keys
 pub key_once : (ns id : ℕ) (end : Bool) (x y : Record) → has_key ns id end x ≡ true → has_key ns id end y ≡ true → same_key x y ≡ true
@@ -617,6 +617,14 @@ list_full n had more full =
     let none : n - length had ≡ 0 = omega arith in
     sym (ap (λ (k : ℕ). had ++ take k more) none ∙ append-nil had)
 
+pub list_stop : (n : ℕ) (rs : List Record) (from to : Pos) (had now : List Mark) (xs ys all : List Record) → now ≡ extended_list n had (listed_marks rs from to xs)
+    → n ≤ length now → all ≡ xs ++ ys → now ≡ extended_list n had (listed_marks rs from to all)
+list_stop n rs from to had now xs ys all is full parts =
+    list_full n now (listed_marks rs from to ys) full
+    ∙ ap (λ (l : List Mark). extended_list n l (listed_marks rs from to ys)) is
+    ∙ filled-filled n had (listed_marks rs from to xs) (listed_marks rs from to ys)
+    ∙ ap (λ (l : List Mark). extended_list n had l) (sym (listed-append rs from to xs ys) ∙ ap (listed_marks rs from to) (sym parts))
+
 pub list_push : (n : ℕ) (had : List Mark) (m : Mark) → length had < n → had ++ m ∷ [] ≡ extended_list n had (m ∷ [])
 list_push n had m room =
     let some : n - length had ≡ suc (n - length had - 1) = omega arith in
@@ -671,22 +679,30 @@ filled_begun n held had more now within is = ap (take held) is ∙ take-append-l
 pub filled_longer : (n : ℕ) (had more now : List Mark) → now ≡ extended_list n had more → length had ≤ length now
 filled_longer n had more now is = omega (arith, ap length is, length-append had (take (n - length had) more))
 
--- ---- a record looked for from a chunk on
-pub narrow_behind : (ps rest : List Piece) (n : ℕ) → rest ≡ drop n ps → ForEach (λ r. IsNarrow r.pos) (spread_records ps)
-    → ForEach (λ r. IsNarrow r.pos) (spread_records rest)
-narrow_behind ps rest n is narrow =
-    subst (λ (l : List Piece). ForEach (λ (r : Record). IsNarrow r.pos) (spread_records l)) (sym is)
-    (Each-right (λ (r : Record). IsNarrow r.pos) (spread_records (take n ps)) (spread_records (drop n ps))
-    (subst (λ (l : List Record). ForEach (λ (r : Record). IsNarrow r.pos) l)
-    (ap spread_records (sym (take-append-drop n ps)) ∙ spread-append (take n ps) (drop n ps)) narrow))
-
-pub found_behind : (t : Record → Bool) → ((x y : Record) → t x ≡ true → t y ≡ true → same_key x y ≡ true) → (ps rest : List Piece) (n : ℕ) (x : Record)
-    → rest ≡ drop n ps → IsDistinct same_key (spread_records ps) → find t (spread_records rest) ≡ Some x → find t (spread_records ps) ≡ Some x
-found_behind t once ps rest n x is apart found =
+-- ---- a record looked for in one chunk
+pub found_here : (ns id : ℕ) (end : Bool) (ps : List Piece) (n : ℕ) (p : Piece) → n < length ps → p ≡ get_or ps n p → IsDistinct same_key (spread_records ps)
+    → (o : Option ℕ) → o ≡ position (λ (k : Kept). is_key ns id end k.info) p.kept → IfSome o (λ i. IsFoundAt (has_key ns id end) ps n i)
+found_here ns id end ps n p within here apart None is = tt
+found_here ns id end ps n p within here apart (Some i) is =
+    let t : Record → Bool = has_key ns id end in
     let front : List Record = spread_records (take n ps) in
-    let back : List Record = spread_records (drop n ps) in
-    let whole : spread_records ps ≡ front ++ back = ap spread_records (sym (take-append-drop n ps)) ∙ spread-append (take n ps) (drop n ps) in
-    let apart_parts : IsDistinct same_key (front ++ back) = subst (λ (l : List Record). IsDistinct same_key l) whole apart in
-    ap (find t) whole
-    ∙ sym (find-permutation same_key t once (front ++ back) (back ++ front) (IsPermutation-append_comm front back) apart_parts)
-    ∙ find-front t back front x (ap (λ (l : List Piece). find t (spread_records l)) (sym is) ∙ found)
+    let back : List Record = spread_records (drop (n + 1) ps) in
+    let one : held_records n 1 ps ≡ records_of p = held_one ps n p within ∙ ap records_of (sym here) in
+    let parts : spread_records ps ≡ front ++ (records_of p ++ back) =
+    ap spread_records (at_split ps n p within) ∙ spread-append (take n ps) (get_or ps n p ∷ drop (n + 1) ps)
+    ∙ ap (λ (q : Piece). front ++ (records_of q ++ back)) (sym here) in
+    let apart_parts : IsDistinct same_key (front ++ (records_of p ++ back)) = subst (λ (l : List Record). IsDistinct same_key l) parts apart in
+    record {
+      chunk = within;
+      place = subst (λ (l : List Record). i < length l) (sym one) (is_among ns id end p i no_record (sym is)).0;
+      found = λ d.
+          ap (find t) parts
+          ∙ sym (find-permutation same_key t (key_once ns id end) (front ++ (records_of p ++ back)) ((records_of p ++ back) ++ front)
+          (IsPermutation-append_comm front (records_of p ++ back)) apart_parts)
+          ∙ find-front t (records_of p ++ back) front (get_or (records_of p) i d)
+          (find-front t (records_of p) back (get_or (records_of p) i d) (is_among ns id end p i d (sym is)).1)
+          ∙ ap (λ (l : List Record). Some (get_or l i d)) (sym one);
+    }
+  where
+    no_record : Record
+    no_record = record { pos = record { row = 0; col = 0 }; info = record { ns = 0; id = 0; right = false; is_end = false; has_end = false; paint = None; priority = 0 } }

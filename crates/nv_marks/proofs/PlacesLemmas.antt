@@ -1,5 +1,5 @@
 -- Places relative to a base, and how moves keep the order of places and of records.
-use Rattle.std.proofs.Common.{◌≡◌, ◌≢◌, ◌≤◌, ◌<◌, ◌+◌, ◌-◌, ◌^◌, ℕ, suc, refl, ap, sym, ◌∙◌, arith, Bool, true, false, cond, eqb, ltb, inl, inr, subst, ◌⊎◌}
+use Rattle.std.proofs.Common.{◌≡◌, ◌≢◌, ◌+◌, ◌-◌, refl, ap, sym, ◌∙◌, arith, Bool, true, false, cond, eqb, inl, inr, subst, ◌⊎◌}
 use Rattle.std.specs.Ordering.{is_lt, ordering_then, nat_cmp, bool_cmp}
 use Rattle.std.specs.declared.cmp.Ordering.{Ordering}
 use Rattle.std.specs.Cmp.{IsTotalOrder, IsStrictWeakOrder, then_total, on_total, nat_cmp_total, bool_cmp_total}

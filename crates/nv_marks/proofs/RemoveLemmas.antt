@@ -1,16 +1,15 @@
 -- A record taken out of a chunk, and two chunks joined: the chunks stay laid.
-use Rattle.std.proofs.Common.{◌≡◌, ◌≤◌, ◌<◌, ◌+◌, ◌-◌, List, [], ◌∷◌, ◌++◌, ℕ, zero, suc, refl, ap, sym, ◌∙◌, append_assoc, length, length-append, take, drop, get_or, map, arith, Bool, true, false, subst, inl, inr}
-use Rattle.std.specs.Prelude.{IsPermutation, insert, remove}
-use Rattle.std.proofs.lemmas.List.{length-take-le, length-drop, length-map, take-append-drop, append-nil, drop_more, drop-drop, get_or-append-add, get_or_append_left}
-use Rattle.std.proofs.lemmas.List.Sorted.{IsPermutation-append_left, IsPermutation-append_right, IsPermutation-refl, IsPermutation-trans, IsPermutation-middle, IsPermutation-sym, IsPermutation-remove, length_permutation}
-use Rattle.nv_places.specs.declared.place.Pos.{Pos}
+use Rattle.std.proofs.Common.{◌≡◌, ◌≤◌, ◌<◌, ◌+◌, ◌-◌, List, [], ◌∷◌, ◌++◌, ℕ, zero, suc, refl, ap, sym, ◌∙◌, length, length-append, take, drop, get_or, map, arith, false, subst}
+use Rattle.std.specs.Prelude.{IsPermutation, remove}
+use Rattle.std.proofs.lemmas.List.{length-map, take-append-drop, drop-drop, get_or-append-add, get_or_append_left}
+use Rattle.std.proofs.lemmas.List.Sorted.{IsPermutation-append_left, IsPermutation-append_right, IsPermutation-trans, IsPermutation-middle, IsPermutation-remove}
 use Rattle.nv_places.specs.Places.{IsNarrow}
 use Rattle.nv_marks.specs.declared.record.Record.{Record}
-use Rattle.nv_marks.specs.inside.Records.{ForEach, Rises, Sort, precedes}
-use Rattle.nv_marks.specs.inside.Chunks.{Piece, kept_from, records_of, spread_records, base_of, refilled_piece, IsFit, IsBased, IsAmple, Ample, IsLaid, pieces_edited_at, held_records}
-use Rattle.nv_marks.proofs.EachLemmas.{Each-append, Each-left, Each-right, Each-weaker, Each-get_or, Each-take, Each-drop, Rises-left, Rises-right, Rises-cross, Rises-append}
+use Rattle.nv_marks.specs.inside.Records.{ForEach, Sort, precedes}
+use Rattle.nv_marks.specs.inside.Chunks.{Piece, kept_from, records_of, spread_records, base_of, refilled_piece, IsFit, IsBased, Ample, IsLaid, pieces_edited_at, held_records}
+use Rattle.nv_marks.proofs.EachLemmas.{Each-append, Each-left, Each-right, Each-get_or, Each-take, Each-drop, Rises-left, Rises-right}
 use Rattle.nv_marks.proofs.SpreadLemmas.{spread-append, length-records}
-use Rattle.nv_marks.proofs.EditLemmas.{no_piece, at_split, edited_split, held_one, held_few, ample_big, ample_behind, Ample-left, Ample-right, spread_filled, laid_filled}
+use Rattle.nv_marks.proofs.EditLemmas.{no_piece, at_split, edited_split, held_one, ample_big, ample_behind, Ample-left, Ample-right, spread_filled, laid_filled}
 
 -- ---- an element less
 length-remove_at : (xs : List Record) (i : ℕ) → i < length xs → length (remove xs i) + 1 ≡ length xs

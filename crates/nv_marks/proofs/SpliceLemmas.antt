@@ -1,11 +1,11 @@
 -- A splice over chunks: which chunks it writes, that they stay laid, and how many steps it takes.
-use Rattle.std.proofs.Common.{◌≡◌, ◌≤◌, ◌<◌, ◌+◌, ◌-◌, ◌*◌, ◌/◌, List, [], ◌∷◌, ◌++◌, ℕ, zero, suc, refl, ap, sym, ◌∙◌, append_assoc, length, length-append, take, drop, get_or, map, max, not, ◌&&◌, cond, arith, Bool, true, false, subst, inl, inr, None}
+use Rattle.std.proofs.Common.{◌≡◌, ◌≤◌, ◌<◌, ◌+◌, ◌-◌, ◌*◌, ◌/◌, List, [], ◌∷◌, ◌++◌, ℕ, zero, suc, refl, ap, sym, ◌∙◌, append_assoc, length, length-append, take, drop, get_or, map, max, not, cond, arith, Bool, true, false, subst, inl, inr, None}
 use Rattle.std.specs.Prelude.{IsPermutation}
 use Rattle.std.specs.List.Sorted.{IsPartitionedBy}
 use Rattle.std.proofs.lemmas.Bool.{cases_lt, both_ways}
 use Rattle.std.proofs.lemmas.Bool.Decides.{nat_tests}
-use Rattle.std.proofs.lemmas.List.{length-take-le, length-drop, length-map, take-append-drop, map-append, append-nil, drop-drop, drop-take, drop_at}
-use Rattle.std.proofs.lemmas.List.Sorted.{IsPermutation-append_left, IsPermutation-append_right, IsPermutation-refl, length_permutation}
+use Rattle.std.proofs.lemmas.List.{length-take-le, length-drop, length-map, take-append-drop, map-append, drop-drop, drop-take, drop_at}
+use Rattle.std.proofs.lemmas.List.Sorted.{IsPermutation-append_left, IsPermutation-append_right, length_permutation}
 use Rattle.nv_places.specs.declared.place.Pos.{Pos}
 use Rattle.nv_places.specs.declared.place.Extent.{Extent}
 use Rattle.nv_places.specs.Places.{IsNarrow, further, is_before}
@@ -14,10 +14,10 @@ use Rattle.nv_marks.specs.Order.{is_within}
 use Rattle.nv_marks.specs.Cost.{count_within}
 use Rattle.nv_marks.specs.declared.record.Record.{Record}
 use Rattle.nv_marks.specs.declared.record.Kept.{Kept}
-use Rattle.nv_marks.specs.inside.Records.{ForEach, Rises, Sort, place, precedes, moved_record, MovesInRange}
+use Rattle.nv_marks.specs.inside.Records.{ForEach, Sort, place, precedes, moved_record, MovesInRange}
 use Rattle.nv_marks.specs.inside.Chunks.{Piece, placed_record, records_of, spread_records, base_of, IsFit, IsBased, Ample, IsLaid, starts_before, refilled_pieces, refit_pieces, carried_piece, pieces_carried_from}
-use Rattle.nv_marks.proofs.EachLemmas.{Each-append, Each-left, Each-right, Each-weaker, Each-map, Each-permutation, Each-take, Each-drop, Rises-left, Rises-right, Rises-cross, Rises-append}
-use Rattle.nv_marks.proofs.PlacesLemmas.{follows, through, before_trans, before_far, at_least, moved-before, moved-behind, record_ranks}
+use Rattle.nv_marks.proofs.EachLemmas.{Each-append, Each-left, Each-right, Each-weaker, Each-map, Each-permutation, Each-take, Each-drop, Rises-left, Rises-right, Rises-cross}
+use Rattle.nv_marks.proofs.PlacesLemmas.{follows, at_least, moved-before, moved-behind, record_ranks}
 use Rattle.nv_marks.proofs.SpreadLemmas.{spread-append, length-records, from_base, spread_carried, all_carried_based, behind_all, refit_parts, carried_parts, spread_refilled, refills_based, sizes, rooms, fit_same, ample_same, sizes_refilled, rooms_refilled, sizes_carried, rooms_carried, in_order_again}
 
 -- ---- the first records of chunks

@@ -1,18 +1,17 @@
 -- Records in chunks: what is read back of what was written_piece, and what a move of a base means.
-use Rattle.std.proofs.Common.{◌≡◌, ◌≤◌, ◌<◌, ◌+◌, ◌-◌, List, [], ◌∷◌, ◌++◌, ℕ, zero, suc, refl, ap, sym, ◌∙◌, append_assoc, length, length-append, take, drop, get_or, map, arith, Bool, true, false, subst}
+use Rattle.std.proofs.Common.{◌≡◌, ◌≤◌, ◌<◌, ◌+◌, List, [], ◌∷◌, ◌++◌, ℕ, zero, suc, refl, ap, sym, ◌∙◌, append_assoc, length, length-append, take, drop, get_or, map, arith, true, false, subst}
 use Rattle.std.specs.Prelude.{IsPermutation}
 use Rattle.std.proofs.lemmas.List.{length-take-le, length-drop, length-map, take-append-drop, map-append, append-nil, take_more}
-use Rattle.std.proofs.lemmas.List.Sorted.{IsPermutation-append_left, IsPermutation-append_right, IsPermutation-refl, length_permutation}
 use Rattle.nv_places.specs.declared.place.Pos.{Pos}
 use Rattle.nv_places.specs.declared.place.Extent.{Extent}
-use Rattle.nv_places.specs.Places.{IsNarrow, further, is_before}
+use Rattle.nv_places.specs.Places.{further, is_before}
 use Rattle.nv_places.specs.Moves.{moved_place}
 use Rattle.nv_marks.specs.declared.record.Record.{Record}
 use Rattle.nv_marks.specs.declared.record.Kept.{Kept}
-use Rattle.nv_marks.specs.inside.Records.{ForEach, Rises, Sort, precedes, moved_record, MovesInRange}
-use Rattle.nv_marks.specs.inside.Chunks.{Piece, placed_record, kept_from, records_of, spread_records, base_of, refilled_piece, IsFit, IsBased, IsAmple, Ample, IsLaid, written_piece, refit_pieces, refilled_pieces, carried_piece, pieces_carried_from}
-use Rattle.nv_marks.proofs.EachLemmas.{Each-append, Each-left, Each-right, Each-weaker, Each-map, Each-permutation, Rises-left, Rises-right, Rises-cross, Rises-append}
-use Rattle.nv_marks.proofs.PlacesLemmas.{follows, before_itself, reached, carried_with, behind_base, cross_front, cross_behind, behind_order, at_least, before_far}
+use Rattle.nv_marks.specs.inside.Records.{ForEach, Sort, precedes, moved_record}
+use Rattle.nv_marks.specs.inside.Chunks.{Piece, placed_record, kept_from, records_of, spread_records, base_of, refilled_piece, IsFit, IsBased, Ample, written_piece, refit_pieces, refilled_pieces, carried_piece, pieces_carried_from}
+use Rattle.nv_marks.proofs.EachLemmas.{Each-append, Each-left, Each-right, Each-weaker, Each-permutation, Rises-left, Rises-right, Rises-cross, Rises-append}
+use Rattle.nv_marks.proofs.PlacesLemmas.{follows, before_itself, reached, carried_with, behind_base, cross_front, cross_behind, behind_order}
 use Rattle.nv_marks.proofs.WordLemmas.{written_is}
 
 -- ---- chunks one after another

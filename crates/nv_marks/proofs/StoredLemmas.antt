@@ -1,7 +1,6 @@
 -- What a set of marks keeps, through each of its calls.
-use Rattle.std.proofs.Common.{◌≡◌, ◌≤◌, ◌<◌, ◌+◌, ◌-◌, ◌*◌, ◌/◌, List, [], ◌∷◌, ◌++◌, ℕ, suc, refl, ap, sym, ◌∙◌, length, map, max, min, not, cond, eqb, arith, All, Bool, true, false, subst, Option, Some, None}
+use Rattle.std.proofs.Common.{◌≡◌, ◌≤◌, ◌+◌, ◌*◌, ◌/◌, List, [], ◌∷◌, ◌++◌, ℕ, suc, refl, ap, sym, ◌∙◌, length, map, max, not, cond, eqb, arith, All, Bool, true, false, subst, Option, Some, None}
 use Rattle.std.specs.Prelude.{IsPermutation, filter, option_map, is_some}
-use Rattle.std.specs.List.{IsDistinct}
 use Rattle.std.proofs.lemmas.List.{length-map}
 use Rattle.std.proofs.lemmas.List.Sorted.{IsPermutation-refl, IsPermutation-map, length_permutation}
 use Rattle.std.proofs.lemmas.Map.Keys.{IsDistinct-from_apart}
@@ -12,14 +11,13 @@ use Rattle.nv_marks.specs.Marks.{is_named, mark_at, without, greatest_id}
 use Rattle.nv_marks.specs.Order.{IsInOrder, is_within}
 use Rattle.nv_marks.specs.Cost.{places_of, count_within, most_steps}
 use Rattle.nv_marks.specs.Moves.{moved_mark, MovesNarrowly}
-use Rattle.nv_marks.specs.Sound.{same_name, IsSound}
+use Rattle.nv_marks.specs.Sound.{IsSound}
 use Rattle.nv_marks.specs.declared.extmark.Mark.{Mark}
 use Rattle.nv_marks.specs.declared.record.Record.{Record}
-use Rattle.nv_marks.specs.inside.Records.{ForEach, Sort, place, moved_record, MovesInRange, same_key, belongs_to, marks_among, records_of_mark, records_of_marks}
+use Rattle.nv_marks.specs.inside.Records.{ForEach, place, moved_record, MovesInRange, same_key, belongs_to, marks_among, records_of_mark, records_of_marks}
 use Rattle.nv_marks.specs.inside.Chunks.{Piece, IsLaid, IsSpare, spread_records}
 use Rattle.nv_marks.specs.inside.Stored.{HoldsMarks, IsEquipped, IsEndKnown, scratch_room}
 use Rattle.nv_marks.proofs.EachLemmas.{Each-from_all, Each-permutation}
-use Rattle.nv_marks.proofs.NameLemmas.{IsDistinct-without}
 use Rattle.nv_marks.proofs.SoundLemmas.{sound_none, sound_without, sound_moved, sound_with, mark_at-moved, mark_at-set}
 use Rattle.nv_marks.proofs.UniqueLemmas.{order_is_unique}
 use Rattle.nv_marks.proofs.SwapLemmas.{IsPermutation-filter}

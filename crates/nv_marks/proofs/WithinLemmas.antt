@@ -1,5 +1,5 @@
 -- The chunks in which records may stand within two places.
-use Rattle.std.proofs.Common.{◌≡◌, ◌≤◌, ◌+◌, ◌-◌, List, [], ◌∷◌, ◌++◌, ℕ, refl, ap, sym, ◌∙◌, length, take, drop, max, not, ◌&&◌, arith, Bool, true, false, subst}
+use Rattle.std.proofs.Common.{◌≡◌, ◌≤◌, ◌-◌, List, [], ◌∷◌, ◌++◌, ℕ, refl, ap, sym, ◌∙◌, length, take, drop, max, not, ◌&&◌, arith, Bool, true, false, subst}
 use Rattle.std.specs.Prelude.{filter}
 use Rattle.std.proofs.lemmas.List.{append-nil}
 use Rattle.std.proofs.lemmas.List.Elements.{filter-append}

@@ -1,15 +1,15 @@
 -- What single puts come to: loops over chunks and over the records of a chunk.
-use Rattle.std.proofs.Common.{◌≡◌, ◌≤◌, ◌<◌, ◌+◌, ◌-◌, List, [], ◌∷◌, ◌++◌, ℕ, zero, suc, refl, ap, sym, ◌∙◌, append_assoc, length, length-append, take, drop, get_or, set, map, arith, Bool, true, false, subst, inl, inr}
+use Rattle.std.proofs.Common.{◌≡◌, ◌≤◌, ◌<◌, ◌+◌, ◌-◌, List, [], ◌∷◌, ◌++◌, ℕ, zero, suc, refl, ap, sym, ◌∙◌, append_assoc, length, length-append, take, drop, get_or, set, map, arith, true, subst, inl, inr}
 use Rattle.std.proofs.lemmas.Bool.{cases_lt}
-use Rattle.std.proofs.lemmas.List.{length-take-le, length-take, length-drop, length-map, drop-drop, drop_all, drop_more, set_at, get_or_default}
+use Rattle.std.proofs.lemmas.List.{length-take-le, length-take, length-drop, drop-drop, drop_all, drop_more, set_at, get_or_default}
 use Rattle.nv_places.specs.declared.place.Pos.{Pos}
 use Rattle.nv_places.specs.declared.place.Extent.{Extent}
 use Rattle.nv_places.specs.Moves.{moved_place}
 use Rattle.nv_marks.specs.declared.record.Record.{Record}
 use Rattle.nv_marks.specs.declared.record.Kept.{Kept}
 use Rattle.nv_marks.specs.inside.Records.{ForEach}
-use Rattle.nv_marks.proofs.EachLemmas.{Each-drop, Each-get_or}
-use Rattle.nv_marks.specs.inside.Chunks.{Piece, kept_from, base_of, refilled_piece, with_base, with_kept, pieces_edited_at, piece_written_from, written_piece, refit_pieces, carried_piece, pieces_carried_from}
+use Rattle.nv_marks.proofs.EachLemmas.{Each-drop}
+use Rattle.nv_marks.specs.inside.Chunks.{Piece, kept_from, refilled_piece, with_base, with_kept, pieces_edited_at, piece_written_from, written_piece, refit_pieces, pieces_carried_from}
 
 -- ---- the n-th chunk changed
 pub put_is : (n : ℕ) (f : Piece → Piece) (ps : List Piece) (q r : Piece) → n < length ps → q ≡ get_or ps n q → r ≡ f q

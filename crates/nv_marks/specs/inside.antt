@@ -2,3 +2,4 @@ pub mod Records
 pub mod Chunks
 pub mod Stored
 pub mod Puts
+pub mod Names

@@ -5,7 +5,7 @@ ghost use Rattle.nv_marks.specs.inside.Records.{ForEach, is_key};
 ghost use Rattle.nv_places.specs.Places.{IsNarrow};
 ghost use Rattle.std.specs.Prelude.{◌≡◌, ◌+◌, ◌<◌, ◌≤◌, ◌++◌, [], IfOk, length, map, position, slice_index_or, vec_capacity, vec_len};
 
-use crate::record::{Kept, Record};
+use crate::record::{Info, Kept, Record};
 use nv_places::Pos;
 use std::alloc::{AllocError, Global};
 use std::marker::Model;
@@ -16,6 +16,8 @@ pub(crate) const MOST: usize = 64;
 /// Neighbouring records in order. The base is the place of the first.
 #[derive(Drop)]
 pub(crate) struct Chunk {
+    /// By this an index names the chunk.
+    number: usize,
     base: Pos,
     kept: Vec<Kept>,
 }
@@ -31,13 +33,19 @@ impl Model for Chunk {
 
 impl Chunk {
     /// A chunk with no records and with room for as many as it may have.
-    pub(crate) fn new(alloc: Global) -> Result<Chunk, AllocError>
+    pub(crate) fn new(alloc: Global, number: usize) -> Result<Chunk, AllocError>
         ensures { IfOk result (λ c. (c.kept ≡ []) × (64 ≤ c.room)) }
     {
         Ok(Chunk {
+            number,
             base: Pos::default(),
             kept: Vec::with_capacity(alloc, MOST)?,
         })
+    }
+
+    /// The number by which an index names the chunk.
+    pub(crate) fn number(&self) -> usize {
+        self.number
     }
 
     /// The number of records.
@@ -95,6 +103,14 @@ impl Chunk {
         self.kept
             .iter()
             .position(|kept| kept.info.is_key(ns, id, end))
+    }
+
+    /// Whether the start, or the end, that `info` is of stands at a place.
+    pub(crate) fn has_at(&self, at: usize, info: &Info) -> bool {
+        match self.kept.get(at) {
+            Some(kept) => kept.info.is_key(info.ns, info.id, info.is_end),
+            None => false,
+        }
     }
 
     /// The record at a place.

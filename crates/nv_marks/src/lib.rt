@@ -4,6 +4,7 @@
 
 mod chunk;
 mod extmark;
+mod index;
 mod laws;
 mod list;
 mod mark_set;

@@ -10,8 +10,9 @@ ghost use Rattle.std.specs.Prelude.{◌≡◌, ◌+◌, ◌-◌, ◌≤◌, ◌+
 
 use crate::chunk::Chunk;
 use crate::extmark::Mark;
+use crate::index::Index;
 use crate::parts::mark_of;
-use crate::record::{Kept, Record};
+use crate::record::{Info, Kept, Record};
 use crate::store::Store;
 use nv_places::Pos;
 use std::alloc::AllocError;
@@ -20,6 +21,7 @@ use std::alloc::AllocError;
 /// `limit` more than `held`.
 pub(crate) fn list(
     store: &Store,
+    index: &Index,
     from: Pos,
     to: Pos,
     held: usize,
@@ -42,7 +44,7 @@ pub(crate) fn list(
         held,
         limit,
     };
-    list_chunks(store, store.within(from, to), range, into)
+    list_chunks(store, index, store.within(from, to), range, into)
 }
 
 /// From which place up to which marks are listed, and how many behind those that are held.
@@ -57,6 +59,7 @@ struct Range {
 /// Lists the marks that start in chunks.
 fn list_chunks(
     store: &Store,
+    index: &Index,
     chunks: &[Chunk],
     range: Range,
     into: &mut Vec<Mark>,
@@ -74,7 +77,10 @@ fn list_chunks(
     ensures begun { take range.held into.new.items ≡ take range.held into.old.items }
 {
     for chunk in chunks {
-        list_kept(store, chunk.base(), chunk.kept(), range, into)?;
+        if range.limit <= into.len() - range.held {
+            return Ok(());
+        }
+        list_kept(store, index, chunk.base(), chunk.kept(), range, into)?;
     }
     Ok(())
 }
@@ -82,6 +88,7 @@ fn list_chunks(
 /// Lists the marks that start in one chunk.
 fn list_kept(
     store: &Store,
+    index: &Index,
     base: Pos,
     kept: &[Kept],
     range: Range,
@@ -101,7 +108,7 @@ fn list_kept(
     ensures more { length into.old.items ≤ length into.new.items }
 {
     for one in kept {
-        list_one(store, one.placed(base), range, into)?;
+        list_one(store, index, one.placed(base), range, into)?;
     }
     Ok(())
 }
@@ -109,6 +116,7 @@ fn list_kept(
 /// Lists the mark of a record, where it is a start within the range.
 fn list_one(
     store: &Store,
+    index: &Index,
     one: Record,
     range: Range,
     into: &mut Vec<Mark>,
@@ -128,6 +136,15 @@ fn list_one(
     if into.len() - range.held >= range.limit {
         return Ok(());
     }
-    into.push(mark_of(store, one))?;
+    into.push(mark_of(store, one, end_place(index, &one.info)))?;
     Ok(())
+}
+
+/// Where the chunk stood last in which the end of a mark is.
+fn end_place(index: &Index, start: &Info) -> usize {
+    if start.has_end {
+        index.place_of(start.ns, start.id, true)
+    } else {
+        0
+    }
 }

@@ -6,12 +6,14 @@ ghost use Rattle.nv_marks.specs.Moves.{MovesNarrowly, moved_mark};
 ghost use Rattle.nv_marks.specs.Order.{IsInOrder, starts_within};
 ghost use Rattle.nv_marks.specs.Sound.{IsSound};
 ghost use Rattle.nv_marks.specs.inside.Chunks.{IsSpare};
+ghost use Rattle.nv_marks.specs.inside.Names.{is_indexed, is_one_name};
 ghost use Rattle.nv_marks.specs.inside.Records.{ForEach};
 ghost use Rattle.nv_places.specs.Places.{IsNarrow, further};
-ghost use Rattle.std.specs.Prelude.{◌≡◌, ◌+◌, ◌*◌, ◌<◌, ◌≤◌, ◌++◌, ◌∷◌, ◌==◌, ℕ, [], All, IfOk, IfSome, OnErr, OnOk, SomeIff, if◌then◌else◌, length, map, max, min, is_some, option_map, take, filter, vec_capacity, vec_len};
+ghost use Rattle.std.specs.Prelude.{◌≡◌, ◌+◌, ◌*◌, ◌<◌, ◌≤◌, ◌++◌, ◌∷◌, ◌==◌, ◌&&◌, ◌||◌, ℕ, [], All, IfOk, IfSome, OnErr, OnOk, SomeIff, if◌then◌else◌, false, length, map, max, min, is_some, not, true, option_map, take, filter, vec_capacity, vec_len};
 
 use crate::chunk::Chunk;
 use crate::extmark::Mark;
+use crate::index::Index;
 use crate::list::list;
 use crate::parts::{find_mark, put_mark, take_found};
 use crate::record::Record;
@@ -31,6 +33,7 @@ use std::sync::ledger::{Blank, Ledger};
 pub struct MarkSet {
     alloc: Global,
     store: Store,
+    index: Index,
     /// How many marks there are.
     count: usize,
     /// Chunks that wait to be filled.
@@ -46,6 +49,7 @@ impl Model for MarkSet {
     ghost Value = { Marks };
 
     ghost use Rattle.nv_marks.specs.inside.Chunks.{spread_records};
+    ghost use Rattle.nv_marks.specs.inside.Names.{IsIndexOf};
     ghost use Rattle.nv_marks.specs.inside.Records.{marks_among};
     ghost use Rattle.nv_marks.specs.inside.Stored.{IsEquipped, HoldsMarks};
     ghost use Rattle.std.specs.Prelude.{vec_capacity, vec_len};
@@ -57,7 +61,8 @@ impl Model for MarkSet {
 
     ghost invariant = { λ s. HoldsMarks s.store.chunks.items s.greatest.entries
         × IsEquipped s.count s.store.chunks.items s.scratch.items (vec_len s.scratch)
-        (vec_capacity s.scratch) s.spare.items };
+        (vec_capacity s.scratch) s.spare.items
+        × IsIndexOf s.index (marks_among (spread_records s.store.chunks.items)) };
 }
 
 impl MarkSet {
@@ -68,6 +73,7 @@ impl MarkSet {
         Ok(MarkSet {
             alloc,
             store: Store::new(alloc),
+            index: Index::new(alloc),
             count: 0,
             spare: Vec::new(alloc),
             scratch: Vec::new(alloc),
@@ -87,7 +93,7 @@ impl MarkSet {
     pub fn find(&self, ns: u32, id: u32) -> Option<Mark>
         ensures { result ≡ mark_at self.now.marks ns id }
     {
-        find_mark(&self.store, ns, id)
+        find_mark(&self.store, &self.index, ns, id)
     }
 
     /// Sets a mark, in place of the one of the same namespace and id if there is one.
@@ -102,15 +108,28 @@ impl MarkSet {
             else greatest_id self.old.greatest ns)) }
         ensures err { OnErr result (self.new ≡ self.old) }
     {
-        let found = find_mark(&self.store, mark.ns, mark.id);
+        let Mark { ns, id, .. } = mark;
+        let found = find_mark(&self.store, &self.index, ns, id);
         let room = scratch_room(self.count).ok_or(AllocError)?;
         self.scratch.reserve(room)?;
         self.store.reserve()?;
-        stock(self.alloc, &mut self.spare)?;
-        let greatest = self.greatest.get(&mark.ns).copied().unwrap_or(0);
-        self.greatest.insert(mark.ns, greatest.max(mark.id))?;
-        take_found(&mut self.store, found, mark.ns, mark.id, &mut self.scratch);
-        put_mark(&mut self.store, mark, &mut self.spare, &mut self.scratch);
+        stock(self.alloc, &mut self.index, &mut self.spare)?;
+        enter(&mut self.index, &mut self.greatest, ns, id, found.is_none())?;
+        take_found(
+            &mut self.store,
+            &mut self.index,
+            found,
+            ns,
+            id,
+            &mut self.scratch,
+        );
+        put_mark(
+            &mut self.store,
+            &mut self.index,
+            mark,
+            &mut self.spare,
+            &mut self.scratch,
+        );
         self.count = count_with(self.count, found);
         Ok(())
     }
@@ -121,8 +140,16 @@ impl MarkSet {
         ensures marks { self.new.marks ≡ without ns id self.old.marks }
         ensures greatest { self.new.greatest ≡ self.old.greatest }
     {
-        let found = find_mark(&self.store, ns, id)?;
-        take_found(&mut self.store, Some(found), ns, id, &mut self.scratch);
+        let found = find_mark(&self.store, &self.index, ns, id)?;
+        take_found(
+            &mut self.store,
+            &mut self.index,
+            Some(found),
+            ns,
+            id,
+            &mut self.scratch,
+        );
+        self.index.forget(ns, id);
         self.count -= 1;
         Some(found)
     }
@@ -141,7 +168,7 @@ impl MarkSet {
         ensures err { OnErr result (into.new.items ≡ into.old.items) }
     {
         let held = into.len();
-        let result = list(&self.store, from, to, held, limit, into);
+        let result = list(&self.store, &self.index, from, to, held, limit, into);
         if result.is_err() {
             into.truncate(held);
         }
@@ -180,7 +207,7 @@ impl MarkSet {
         ensures cost { steps.new ≤ steps.old + most_steps start old self.old.marks }
     {
         self.store
-            .splice_counted(start, old, new, &mut self.scratch, steps);
+            .splice_counted(start, old, new, &mut self.index, &mut self.scratch, steps);
         self.scratch.clear();
     }
 
@@ -204,8 +231,9 @@ impl MarkSet {
     /// One more than the greatest id that was ever set in this namespace, from 1. `None` where that
     /// greatest one is the greatest `u32`.
     pub fn next_id(&self, ns: u32) -> Option<u32>
-        ensures { SomeIff result (greatest_id self.now.greatest ns < 4294967295)
+        ensures next { SomeIff result (greatest_id self.now.greatest ns < 4294967295)
             (greatest_id self.now.greatest ns + 1) }
+        ensures within { greatest_id self.now.greatest ns ≤ 4294967295 }
     {
         self.greatest.get(&ns).copied().unwrap_or(0).checked_add(1)
     }
@@ -220,25 +248,76 @@ fn scratch_room(count: usize) -> Option<usize>
 }
 
 /// Makes sure that there are two spare chunks.
-fn stock(alloc: Global, spare: &mut Vec<Chunk>) -> Result<(), AllocError>
+fn stock(alloc: Global, index: &mut Index, spare: &mut Vec<Chunk>) -> Result<(), AllocError>
     requires { ForEach IsSpare spare.old.items }
     ensures ok { OnOk result (1 < vec_len spare.new) }
     ensures spares { ForEach IsSpare spare.new.items }
+    ensures index { index.new ≡ index.old }
 {
-    stock_one(alloc, spare)?;
-    stock_one(alloc, spare)
+    stock_one(alloc, index, spare)?;
+    stock_one(alloc, index, spare)
 }
 
 /// Makes one more spare chunk where there are fewer than two.
-fn stock_one(alloc: Global, spare: &mut Vec<Chunk>) -> Result<(), AllocError>
+fn stock_one(alloc: Global, index: &mut Index, spare: &mut Vec<Chunk>) -> Result<(), AllocError>
     requires { ForEach IsSpare spare.old.items }
     ensures ok { OnOk result (min 2 (vec_len spare.old + 1) ≤ vec_len spare.new) }
     ensures spares { ForEach IsSpare spare.new.items }
+    ensures index { index.new ≡ index.old }
 {
     if spare.len() < 2 {
-        spare.push(Chunk::new(alloc)?)?;
+        let number = index.new_number()?;
+        spare.push(Chunk::new(alloc, number)?)?;
     }
     Ok(())
+}
+
+/// Enters the name of a mark, where it is a new one, and counts its id.
+fn enter(
+    index: &mut Index,
+    greatest: &mut BTreeMap<u32, u32>,
+    ns: u32,
+    id: u32,
+    is_new: bool,
+) -> Result<(), AllocError>
+    requires { is_indexed index.old ns id ≡ not is_new }
+    ensures names { OnOk result ((n i : ℕ) → is_indexed index.new n i
+        ≡ (is_one_name ns id n i || is_indexed index.old n i)) }
+    ensures greatest { OnOk result ((n : ℕ) → greatest_id greatest.new.entries n
+        ≡ (if n == ns then max (greatest_id greatest.old.entries n) id
+        else greatest_id greatest.old.entries n)) }
+    ensures err_names { OnErr result
+        ((n i : ℕ) → is_indexed index.new n i ≡ is_indexed index.old n i) }
+    ensures err_greatest { OnErr result (greatest.new.entries ≡ greatest.old.entries) }
+{
+    enter_name(index, ns, id, is_new)?;
+    let most = greatest.get(&ns).copied().unwrap_or(0);
+    if greatest.insert(ns, most.max(id)).is_err() {
+        leave_name(index, ns, id, is_new);
+        return Err(AllocError);
+    }
+    Ok(())
+}
+
+/// Enters a name where it is a new one.
+fn enter_name(index: &mut Index, ns: u32, id: u32, is_new: bool) -> Result<(), AllocError>
+    requires { is_indexed index.old ns id ≡ not is_new }
+    ensures ok { OnOk result ((n i : ℕ) → is_indexed index.new n i
+        ≡ (is_one_name ns id n i || is_indexed index.old n i)) }
+    ensures err { OnErr result (index.new ≡ index.old) }
+{
+    if is_new { index.enter(ns, id) } else { Ok(()) }
+}
+
+/// Takes a name out that was entered as a new one.
+fn leave_name(index: &mut Index, ns: u32, id: u32, is_new: bool)
+    ensures new { is_new ≡ true → (n i : ℕ) → is_indexed index.new n i
+        ≡ (not (is_one_name ns id n i) && is_indexed index.old n i) }
+    ensures old { is_new ≡ false → index.new ≡ index.old }
+{
+    if is_new {
+        index.forget(ns, id);
+    }
 }
 
 /// How many marks there are once one was set, in the place of the one that was found.

@@ -2,6 +2,7 @@
 
 ghost use Rattle.nv_marks.specs.Marks.{mark_at};
 ghost use Rattle.nv_marks.specs.inside.Chunks.{IsLaid, IsSpare, spread_records};
+ghost use Rattle.nv_marks.specs.inside.Names.{IsIndexOf};
 ghost use Rattle.nv_marks.specs.inside.Records.{ForEach, belongs_to, end_among, has_key, mark_among, marks_among, records_of_mark, records_of_marks, same_key, start_record, end_record};
 ghost use Rattle.nv_marks.specs.inside.Stored.{IsEndKnown};
 ghost use Rattle.nv_places.specs.Places.{IsNarrow};
@@ -10,23 +11,26 @@ ghost use Rattle.std.specs.Prelude.{◌≡◌, ◌+◌, ◌≤◌, ◌<◌, ◌+
 
 use crate::chunk::Chunk;
 use crate::extmark::{Far, Mark};
+use crate::index::Index;
 use crate::record::{Info, Record};
 use crate::store::Store;
 
 /// The mark of a namespace and id.
-pub(crate) fn find_mark(store: &Store, ns: u32, id: u32) -> Option<Mark>
+pub(crate) fn find_mark(store: &Store, index: &Index, ns: u32, id: u32) -> Option<Mark>
     requires laid { IsLaid store.now.chunks.items }
     requires once { IsDistinct same_key (spread_records store.now.chunks.items) }
     requires ends { ForEach (IsEndKnown (spread_records store.now.chunks.items))
         (spread_records store.now.chunks.items) }
+    requires index { IsIndexOf index.now (marks_among (spread_records store.now.chunks.items)) }
     ensures { result ≡ mark_at (marks_among (spread_records store.now.chunks.items)) ns id }
 {
-    let start = store.find(ns, id, false)?;
-    Some(mark_of(store, start))
+    let home = index.home(ns, id)?;
+    let start = store.find(index.place(home.start), ns, id, false)?;
+    Some(mark_of(store, start, index.place(home.end)))
 }
 
-/// The mark of a start.
-pub(crate) fn mark_of(store: &Store, start: Record) -> Mark
+/// The mark of a start, with its end from the chunk at `near`, if it is there.
+pub(crate) fn mark_of(store: &Store, start: Record, near: usize) -> Mark
     requires laid { IsLaid store.now.chunks.items }
     requires once { IsDistinct same_key (spread_records store.now.chunks.items) }
     requires end { start.info.has_end
@@ -38,14 +42,14 @@ pub(crate) fn mark_of(store: &Store, start: Record) -> Mark
         id: start.info.id,
         start: start.pos,
         right: start.info.right,
-        stop: end_of(store, start),
+        stop: end_of(store, start, near),
         paint: start.info.paint,
         priority: start.info.priority,
     }
 }
 
-/// The end of the mark of a start: mostly it stands near.
-fn end_of(store: &Store, start: Record) -> Option<Far>
+/// The end of the mark of a start.
+fn end_of(store: &Store, start: Record, near: usize) -> Option<Far>
     requires laid { IsLaid store.now.chunks.items }
     requires once { IsDistinct same_key (spread_records store.now.chunks.items) }
     requires end { start.info.has_end
@@ -62,7 +66,7 @@ fn end_of(store: &Store, start: Record) -> Option<Far>
     if !has_end {
         return None;
     }
-    let end = store.find_from(start.pos, ns, id, true)?;
+    let end = store.find(near, ns, id, true)?;
     Some(Far {
         pos: end.pos,
         right: end.info.right,
@@ -70,7 +74,14 @@ fn end_of(store: &Store, start: Record) -> Option<Far>
 }
 
 /// Takes the start, or the end, of the mark of a namespace and id out.
-fn take_key(store: &mut Store, ns: u32, id: u32, end: bool, scratch: &mut Vec<Record>)
+fn take_key(
+    store: &mut Store,
+    index: &mut Index,
+    ns: u32,
+    id: u32,
+    end: bool,
+    scratch: &mut Vec<Record>,
+)
     requires laid { IsLaid store.old.chunks.items }
     requires once { IsDistinct same_key (spread_records store.old.chunks.items) }
     requires none { scratch.old.items ≡ [] }
@@ -84,15 +95,18 @@ fn take_key(store: &mut Store, ns: u32, id: u32, end: bool, scratch: &mut Vec<Re
     ensures room { vec_capacity scratch.new ≡ vec_capacity scratch.old }
     ensures place { vec_capacity store.new.chunks ≡ vec_capacity store.old.chunks }
     ensures places { vec_len store.new.chunks ≤ vec_len store.old.chunks }
+    ensures index { index.new ≡ index.old }
 {
-    if let Some((at, place)) = store.locate(ns, id, end) {
-        let _ = store.take_out(at, place, scratch);
+    let near = index.place_of(ns, id, end);
+    if let Some((at, place)) = store.locate(near, ns, id, end) {
+        let _ = store.take_out(at, place, index, scratch);
     }
 }
 
 /// Takes the records of a mark out, its end only where it has one.
 pub(crate) fn take_mark(
     store: &mut Store,
+    index: &mut Index,
     ns: u32,
     id: u32,
     has_end: bool,
@@ -113,16 +127,18 @@ pub(crate) fn take_mark(
     ensures room { vec_capacity scratch.new ≡ vec_capacity scratch.old }
     ensures place { vec_capacity store.new.chunks ≡ vec_capacity store.old.chunks }
     ensures places { vec_len store.new.chunks ≤ vec_len store.old.chunks }
+    ensures index { index.new ≡ index.old }
 {
-    take_key(store, ns, id, false, scratch);
+    take_key(store, index, ns, id, false, scratch);
     if has_end {
-        take_key(store, ns, id, true, scratch);
+        take_key(store, index, ns, id, true, scratch);
     }
 }
 
 /// Takes the records of a mark out that was found, and none where none was.
 pub(crate) fn take_found(
     store: &mut Store,
+    index: &mut Index,
     found: Option<Mark>,
     ns: u32,
     id: u32,
@@ -145,15 +161,17 @@ pub(crate) fn take_found(
     ensures room { vec_capacity scratch.new ≡ vec_capacity scratch.old }
     ensures place { vec_capacity store.new.chunks ≡ vec_capacity store.old.chunks }
     ensures places { vec_len store.new.chunks ≤ vec_len store.old.chunks }
+    ensures index { index.new ≡ index.old }
 {
     if let Some(mark) = found {
-        take_mark(store, ns, id, mark.stop.is_some(), scratch);
+        take_mark(store, index, ns, id, mark.stop.is_some(), scratch);
     }
 }
 
 /// Puts the records of a mark in, with two spare chunks.
 pub(crate) fn put_mark(
     store: &mut Store,
+    index: &mut Index,
     mark: Mark,
     spare: &mut Vec<Chunk>,
     scratch: &mut Vec<Record>,
@@ -173,14 +191,15 @@ pub(crate) fn put_mark(
     ensures empty { vec_len scratch.new ≡ 0 }
     ensures room { vec_capacity scratch.new ≡ vec_capacity scratch.old }
     ensures spares { ForEach IsSpare spare.new.items }
+    ensures index { index.new ≡ index.old }
 {
     let start = start_record(&mark);
     match mark.stop {
         Some(far) => {
-            store.insert(end_record(&mark, far), spare, scratch);
-            store.insert(start, spare, scratch);
+            store.insert(end_record(&mark, far), index, spare, scratch);
+            store.insert(start, index, spare, scratch);
         }
-        None => store.insert(start, spare, scratch),
+        None => store.insert(start, index, spare, scratch),
     }
 }
 

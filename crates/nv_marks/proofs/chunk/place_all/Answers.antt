@@ -1,5 +1,4 @@
-use Rattle.std.proofs.Common.{◌≡◌, ◌∙◌, ap, sym, ◌++◌, append_assoc, map, take, get_or, length, arith, rules}
-use Rattle.std.proofs.lemmas.List.{map_more, take_all}
+use Rattle.std.proofs.Common.{get_or, arith}
 use Rattle.nv_places.specs.Places.{IsNarrow}
 use Rattle.nv_marks.specs.declared.record.Kept.{Kept}
 use Rattle.nv_marks.specs.declared.record.Record.{Record}

@@ -1,4 +1,4 @@
-use Rattle.std.proofs.Common.{◌≡◌, ◌∙◌, ◌+◌, ◌++◌, ap, sym, take}
+use Rattle.std.proofs.Common.{◌∙◌, ◌+◌, ap}
 use Rattle.std.proofs.lemmas.Result.{on_ok_weaker}
 use Rattle.std.specs.Prelude.{filter}
 use Rattle.nv_marks.specs.Order.{starts_within}

@@ -1,14 +1,14 @@
-use Rattle.std.proofs.Common.{◌≡◌, ◌≤◌, ◌∙◌, ◌+◌, ◌++◌, ◌∷◌, [], ap, sym, subst, map, take, get_or, length, length-append, arith, List}
+use Rattle.std.proofs.Common.{◌≡◌, ◌∙◌, ◌+◌, ◌++◌, ap, sym, subst, map, take, drop, get_or, arith, List}
+use Rattle.std.proofs.lemmas.List.{take-append-drop}
 use Rattle.nv_places.specs.declared.place.Pos.{Pos}
 use Rattle.nv_places.specs.Places.{IsNarrow}
-use Rattle.nv_marks.specs.declared.extmark.Mark.{Mark}
 use Rattle.nv_marks.specs.declared.record.Kept.{Kept}
 use Rattle.nv_marks.specs.declared.record.Record.{Record}
 use Rattle.nv_marks.specs.inside.Records.{ForEach}
 use Rattle.nv_marks.specs.inside.Chunks.{Piece, placed_record, records_of, spread_records}
-use Rattle.nv_marks.specs.inside.Stored.{IsEndKnown, extended_list, listed_marks}
-use Rattle.nv_marks.proofs.SpreadLemmas.{spread_at, spread_more}
-use Rattle.nv_marks.proofs.PartsLemmas.{list_more}
+use Rattle.nv_marks.specs.inside.Stored.{IsEndKnown}
+use Rattle.nv_marks.proofs.SpreadLemmas.{spread_at, spread_more, spread-append}
+use Rattle.nv_marks.proofs.PartsLemmas.{list_more, list_stop}
 use Rattle.nv_marks.proofs.list.list_chunks.Goals as goal
 
 -- the records of a chunk by its two parts
@@ -43,3 +43,11 @@ loop-chunk-preserved c = (
   c.list_kept.ensures.begun ∙ c.loop-chunk.invariant.1,
   omega (arith, c.loop-chunk.invariant.2, c.list_kept.ensures.more),
 )
+
+pub returns-then-range-len-clause-ok : goal.returns-then-range-len-clause-ok
+returns-then-range-len-clause-ok c =
+    list_stop (c.args.range.held + c.args.range.limit) (spread_records c.args.store.now.chunks.items) c.args.range.from c.args.range.to c.args.into.now.items
+    c.loop-chunk.into.items (spread_records (take c.loop-chunk.chunk-index c.args.chunks.now)) (spread_records (drop c.loop-chunk.chunk-index c.args.chunks.now))
+    (spread_records c.args.chunks.now) c.loop-chunk.invariant.0 (omega arith)
+    (ap spread_records (sym (take-append-drop c.loop-chunk.chunk-index c.args.chunks.now))
+    ∙ spread-append (take c.loop-chunk.chunk-index c.args.chunks.now) (drop c.loop-chunk.chunk-index c.args.chunks.now))

@@ -1,11 +1,10 @@
-use Rattle.std.proofs.Common.{◌≡◌, ◌≤◌, ◌∙◌, ◌+◌, ◌++◌, ◌∷◌, [], ap, sym, subst, map, take, get_or, length, length-append, arith, List}
-use Rattle.std.proofs.lemmas.List.{map_more, take-append-le}
+use Rattle.std.proofs.Common.{◌∙◌, ◌+◌, ◌++◌, ◌∷◌, [], ap, sym, subst, map, take, get_or, arith}
+use Rattle.std.proofs.lemmas.List.{map_more}
 use Rattle.nv_places.specs.Places.{IsNarrow}
-use Rattle.nv_marks.specs.declared.extmark.Mark.{Mark}
 use Rattle.nv_marks.specs.declared.record.Kept.{Kept}
 use Rattle.nv_marks.specs.declared.record.Record.{Record}
 use Rattle.nv_marks.specs.inside.Chunks.{placed_record, spread_records}
-use Rattle.nv_marks.specs.inside.Stored.{IsEndKnown, extended_list, listed_marks}
+use Rattle.nv_marks.specs.inside.Stored.{IsEndKnown}
 use Rattle.nv_marks.proofs.EachLemmas.{Each-get_or, Each-unmap}
 use Rattle.nv_marks.proofs.PartsLemmas.{list_more, filled_begun, filled_longer}
 use Rattle.nv_marks.proofs.list.list_kept.Goals as goal

@@ -1,4 +1,4 @@
-use Rattle.std.proofs.Common.{◌≡◌, ap, sym, subst, List, ◌∷◌, ◌++◌, Option, Some}
+use Rattle.std.proofs.Common.{◌≡◌, sym, subst, List, ◌∷◌, ◌++◌, Option, Some}
 use Rattle.std.specs.Prelude.{IsPermutation, option_map, option_to_list}
 use Rattle.std.proofs.lemmas.List.Sorted.{IsPermutation-cons, IsPermutation-trans}
 use Rattle.nv_marks.specs.declared.extmark.Far.{Far}

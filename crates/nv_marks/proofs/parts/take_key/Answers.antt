@@ -1,7 +1,6 @@
-use Rattle.std.proofs.Common.{◌≡◌, ◌∙◌, ap, sym, subst, Some, List}
-use Rattle.std.specs.Prelude.{MatchOption, find, None}
+use Rattle.std.proofs.Common.{◌∙◌, ap, sym, Some}
 use Rattle.nv_marks.specs.inside.Records.{has_key}
-use Rattle.nv_marks.specs.inside.Chunks.{spread_records, IsFoundAt}
+use Rattle.nv_marks.specs.inside.Chunks.{spread_records}
 use Rattle.nv_marks.proofs.PartsLemmas.{key_once, taken_rest, none_taken, found_passes}
 use Rattle.nv_marks.proofs.parts.take_key.Goals as goal
 

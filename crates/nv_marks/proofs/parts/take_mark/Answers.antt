@@ -1,4 +1,4 @@
-use Rattle.std.proofs.Common.{false, true}
+use Rattle.std.proofs.Common.{false}
 use Rattle.nv_marks.specs.inside.Records.{has_key}
 use Rattle.nv_marks.specs.inside.Chunks.{spread_records}
 use Rattle.nv_marks.proofs.PartsLemmas.{once_left, both_taken, start_taken}

@@ -1,4 +1,4 @@
-use Rattle.std.proofs.Common.{◌≡◌, ◌<◌, ◌∙◌, ap, sym, subst, map, get_or, length, arith, rules, List}
+use Rattle.std.proofs.Common.{◌<◌, ◌∙◌, ap, sym, subst, get_or, length}
 use Rattle.std.proofs.lemmas.List.{get_or-map}
 use Rattle.nv_places.specs.Places.{IsNarrow}
 use Rattle.nv_marks.specs.declared.record.Kept.{Kept}

@@ -1,7 +1,9 @@
-use Rattle.std.proofs.Common.{◌≡◌, ◌∙◌, ap, sym, subst, arith}
+use Rattle.std.proofs.Common.{◌≡◌, ◌∙◌, ap, sym, subst, ℕ, List, arith}
 use Rattle.nv_marks.specs.Marks.{Marks, without}
 use Rattle.nv_marks.specs.inside.Records.{marks_among}
 use Rattle.nv_marks.specs.inside.Chunks.{spread_records}
+use Rattle.nv_marks.specs.inside.Names.{IsIndexOf}
+use Rattle.nv_marks.proofs.IndexLemmas.{index_less}
 use Rattle.nv_marks.proofs.StoredLemmas.{ends_of_stored, stored_less, marks_left, count_less}
 use Rattle.nv_marks.proofs.PartsLemmas.{as_many_without}
 use Rattle.nv_marks.proofs.mark_set.MarkSet.remove.Goals as goal
@@ -31,6 +33,11 @@ invariant_of-self c = (
     room = omega (arith, c.self.invariant.1.room, c.take_found.ensures.room);
     spares = c.self.invariant.1.spares;
   },
+  index_less c.take_found.new.index c.forget.new.self (marks_among (spread_records c.self.inside.store.chunks.items))
+      (marks_among (spread_records c.take_found.new.store.chunks.items)) c.args.ns c.args.id c.forget.ensures
+      (marks_left c.args.ns c.args.id c.self.inside.store.chunks.items c.take_found.new.store.chunks.items c.self.inside.greatest.entries c.self.invariant.0
+      c.take_found.ensures.laid c.take_found.ensures.rest)
+      (subst (λ (l : List (ℕ × ℕ)). IsIndexOf l (marks_among (spread_records c.self.inside.store.chunks.items))) (sym c.take_found.ensures.index) c.self.invariant.2),
 )
 
 pub returns-clause-marks : goal.returns-clause-marks

@@ -1,4 +1,4 @@
-use Rattle.std.proofs.Common.{◌≡◌, ◌≤◌, ◌+◌, ◌∙◌, ap, sym, subst, map, All, ℕ, arith}
+use Rattle.std.proofs.Common.{◌≤◌, ◌+◌, ◌∙◌, ap, sym, subst, map, All, ℕ, List, arith}
 use Rattle.std.specs.Prelude.{option_map, vec_len, vec_capacity}
 use Rattle.nv_marks.specs.Marks.{Marks, mark_at}
 use Rattle.nv_marks.specs.Order.{IsInOrder}
@@ -6,6 +6,8 @@ use Rattle.nv_marks.specs.Cost.{most_steps}
 use Rattle.nv_marks.specs.Moves.{moved_mark, MovesNarrowly}
 use Rattle.nv_marks.specs.inside.Records.{marks_among}
 use Rattle.nv_marks.specs.inside.Chunks.{spread_records}
+use Rattle.nv_marks.specs.inside.Names.{IsIndexOf}
+use Rattle.nv_marks.proofs.IndexLemmas.{index_moved}
 use Rattle.nv_marks.proofs.StoredLemmas.{moves_records, records_fit, stored_moved, ordered_moved, found_moved, count_moved, cost_in_marks}
 use Rattle.nv_marks.proofs.mark_set.MarkSet.splice_counted.Goals as goal
 
@@ -32,6 +34,12 @@ invariant_of-self g c = (
     room = omega (arith, c.clear.ensures.capacity, c.splice_counted.ensures.room, c.self.invariant.1.room);
     spares = c.self.invariant.1.spares;
   },
+  subst (λ (l : List (ℕ × ℕ)). IsIndexOf l (marks_among (spread_records c.splice_counted.new.self.chunks.items))) (sym c.splice_counted.ensures.index)
+      (index_moved c.self.inside.index (marks_among (spread_records c.self.inside.store.chunks.items))
+      (marks_among (spread_records c.splice_counted.new.self.chunks.items)) (moved_mark c.args.start c.args.old c.args.new)
+      (found_moved c.args.start c.args.old c.args.new c.self.inside.store.chunks.items c.splice_counted.new.self.chunks.items c.self.inside.greatest.entries
+      c.self.invariant.0 c.splice_counted.ensures.laid c.splice_counted.ensures.same_records)
+      c.self.invariant.2),
 )
 
 pub returns-clause-marks : goal.returns-clause-marks
