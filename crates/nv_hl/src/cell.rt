@@ -2,7 +2,7 @@
 
 ghost use Rattle.nv_hl.specs.Cells.{cell_of, is_right_half, right_half, same_cell, space, with_cells};
 ghost use Rattle.nv_hl.specs.Attributes.{empty_attr};
-ghost use Rattle.std.specs.Prelude.{◌≡◌, ◌∷◌, [], IfOk, replicate};
+ghost use Rattle.std.specs.Prelude.{◌≡◌, ◌≤◌, ◌+◌, ◌∷◌, ◌++◌, [], IfOk, OnOk, OnErr, length, replicate};
 
 use crate::attribute::{Attr, is_same_attr};
 use crate::celltext::CellText;
@@ -107,6 +107,17 @@ fn lay_cells(row: &mut Vec<Cell>, col: usize, cells: Vec<Cell>)
     }
 }
 
+fn push_spaces(row: &mut Vec<Cell>, count: usize) -> Result<(), AllocError>
+    ensures ok { OnOk result (row.new.items
+        ≡ row.old.items ++ replicate count (space empty_attr)) }
+    ensures most { length row.new.items ≤ length row.old.items + count }
+{
+    for _ in 0..count {
+        row.push(Cell::space(Attr::EMPTY))?;
+    }
+    Ok(())
+}
+
 impl Row {
     /// A row of spaces with the empty attribute.
     pub fn blank(alloc: Global, width: u32) -> Result<Row, AllocError>
@@ -116,6 +127,14 @@ impl Row {
         for _ in 0..width {
             cells.push(Cell::space(Attr::EMPTY))?;
         }
+        Ok(Row { cells })
+    }
+
+    /// A row without cells, with room for so many.
+    pub fn with_capacity(alloc: Global, count: usize) -> Result<Row, AllocError>
+        ensures { IfOk result (λ r. r ≡ []) }
+    {
+        let cells = Vec::with_capacity(alloc, count)?;
         Ok(Row { cells })
     }
 
@@ -131,6 +150,23 @@ impl Row {
         ensures { result.now ≡ self.now }
     {
         self.cells.as_slice()
+    }
+
+    /// Puts cells behind its last one.
+    pub fn append(&mut self, cells: Vec<Cell>) -> Result<(), AllocError>
+        ensures ok { OnOk result (self.new ≡ self.old ++ cells.items) }
+        ensures err { OnErr result (self.new ≡ self.old) }
+    {
+        let mut cells = cells;
+        self.cells.append(&mut cells)
+    }
+
+    /// Puts so many spaces with the empty attribute behind its last cell.
+    pub fn append_spaces(&mut self, count: usize) -> Result<(), AllocError>
+        ensures ok { OnOk result (self.new ≡ self.old ++ replicate count (space empty_attr)) }
+        ensures most { length self.new ≤ length self.old + count }
+    {
+        push_spaces(&mut self.cells, count)
     }
 
     /// Puts cells in place of those from a column on; what would pass the row's end is left out.

@@ -58,6 +58,18 @@ impl Grid {
         })
     }
 
+    /// A screen of these rows, as many as it is high, each as wide as it is.
+    pub fn from_rows(width: u32, height: u32, rows: Vec<Row>) -> Grid
+        requires { IsSized (record { width = width; height = height; rows = rows.items }) }
+        ensures { result ≡ record { width = width; height = height; rows = rows.items } }
+    {
+        Grid {
+            width,
+            height,
+            rows,
+        }
+    }
+
     /// The number of columns.
     pub fn width(&self) -> u32
         ensures { result ≡ self.now.width }

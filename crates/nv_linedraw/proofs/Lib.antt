@@ -1,4 +1,5 @@
 pub mod FirstLemmas
 pub mod LayLemmas
+pub mod PlaceLemmas
 pub mod RowLemmas
 pub mod WholeLemmas

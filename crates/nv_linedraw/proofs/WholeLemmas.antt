@@ -108,10 +108,10 @@ round_rows w k = round_rows-by (k + 1 == w) w k refl
 
 module _ (w : ℕ) (f : Cell) where
   -- the column behind an atom, and how many rows' ends its cells pass
-  record Passes (col : ℕ) (cs : List Cell) (next : ℕ) : Type 0 where
-    within : next < w
-    rows : ℕ
-    is : col + length cs ≡ rows * w + next
+  pub record Passes (col : ℕ) (cs : List Cell) (next : ℕ) : Type 0 where
+    pub within : next < w
+    pub rows : ℕ
+    pub is : col + length cs ≡ rows * w + next
 
   pair_passes : (b e : Bool) (col : ℕ) (c : Cell) → (w == 1) ≡ b → (col + 1 == w) ≡ e → col < w
       → Passes col (cond b (f ∷ []) (cond e (f ∷ c ∷ right_half c.attr ∷ []) (c ∷ right_half c.attr ∷ [])))
@@ -143,7 +143,7 @@ module _ (w : ℕ) (f : Cell) where
       let more = round_rows w col in record { within = round-lt w col lt; rows = more.0; is = more.1 }
   atom_passes col (double c) lt = pair_passes (w == 1) (col + 1 == w) col c refl refl lt
 
-  passes_all : (col : ℕ) (xs : List Atom) → col < w → Passes col (cells_from_column w f col xs) (col_after w col xs)
+  pub passes_all : (col : ℕ) (xs : List Atom) → col < w → Passes col (cells_from_column w f col xs) (col_after w col xs)
   passes_all col [] lt = record { within = lt; rows = 0; is = omega arith }
   passes_all col (x ∷ xs) lt =
       let first = atom_passes col x lt in

@@ -1,5 +1,5 @@
 -- The cells that a line is drawn in, row by row.
-use Rattle.std.specs.Prelude.{ℕ, ◌+◌, ◌-◌, ◌/◌, ◌%◌, Bool, true, false, ◌&&◌, ◌==◌, nat_le, nat_lt, if◌then◌else◌, List, [], ◌∷◌, ◌++◌, length, replicate, slice_range, bit_xor}
+use Rattle.std.specs.Prelude.{ℕ, ◌+◌, ◌-◌, ◌/◌, ◌%◌, Bool, true, false, not, ◌&&◌, ◌==◌, nat_le, nat_lt, if◌then◌else◌, List, [], ◌∷◌, ◌++◌, length, replicate, slice_range, bit_xor}
 use Rattle.nv_text.specs.declared.piece.Kind.{Kind}
 use Rattle.nv_text.specs.declared.piece.Kind.TheVariants.{Tab, Control, Escape, Cluster}
 use Rattle.nv_text.specs.declared.piece.Piece.{Piece}
@@ -166,3 +166,28 @@ no_looks = record { nontext = empty_attr; special = empty_attr; beyond = empty_a
 -- how many rows of a width a line has
 abbrev pub rows_of_line : ℕ → ℕ → List ℕ → ℕ
 rows_of_line width tabstop line = length (cells_of_line width tabstop line [] no_looks) / width
+
+-- ---- the cell of a byte
+
+-- a pair that has one column left stands behind the filler, which is no cell of it
+abbrev pub cells_ahead : ℕ → ℕ → Kind → ℕ
+cells_ahead width col (Cluster n) =
+    if (n == 2) && not (width == 1) && (col + 1 == width) then 1 else 0
+cells_ahead width col kind = 0
+
+-- the number of the first cell of the piece that holds a byte, where `at` cells stand before these
+-- pieces; the line's first cell where none of them does (own rule)
+abbrev pub cell_of_byte_from : ℕ → ℕ → List ℕ → ℕ → ℕ → ℕ → ℕ → List Piece → ℕ
+cell_of_byte_from width tabstop line byte stop col at [] = 0
+cell_of_byte_from width tabstop line byte stop col at (p ∷ ps) =
+    let xs = piece_atoms tabstop stop line [] empty_attr p in
+    if nat_lt byte p.to then at + cells_ahead width col p.kind
+    else
+    cell_of_byte_from width tabstop line byte (stop_after tabstop stop p.kind)
+    (col_after width col xs)
+    (at + length (cells_from_column width (space empty_attr) col xs))
+    ps
+
+abbrev pub cell_of_byte : ℕ → ℕ → List ℕ → ℕ → ℕ
+cell_of_byte width tabstop line byte =
+    cell_of_byte_from width tabstop line byte 0 0 0 (pieces_of line)

@@ -1,1 +1,2 @@
 pub mod DrawnCells
+pub mod Placing

@@ -83,6 +83,40 @@ fn escape_text(byte: u8) -> [u8; 4]
     [b'<', hex_digit(byte / 16), hex_digit(byte % 16), b'>']
 }
 
+/// How many cells of the line stand behind the last tab stop once a piece more stands there.
+pub fn stop_after(tabstop: u32, stop: u32, kind: Kind) -> u32
+    requires { stop < tabstop }
+    ensures value { result ≡ stop_after tabstop stop kind }
+    ensures within { result < tabstop }
+{
+    match kind {
+        Kind::Tab => 0,
+        Kind::Control(_) | Kind::Cluster(2) => round(tabstop, round(tabstop, stop)),
+        Kind::Escape(_) => {
+            let half = round(tabstop, round(tabstop, stop));
+            round(tabstop, round(tabstop, half))
+        }
+        Kind::Cluster(_) => round(tabstop, stop),
+    }
+}
+
+/// The attribute of a control or an escape.
+fn special_attr(d: &Drawn, attr: Attr) -> Attr
+    ensures { result ≡ combined d.now.looks.now.special attr }
+{
+    combine(d.looks.special, attr)
+}
+
+/// The cell of a cluster, most often one byte.
+fn cluster_cell(alloc: Global, text: &[u8], attr: Attr) -> Result<Cell, AllocError>
+    ensures { IfOk result (λ c. c ≡ cell_of text.now attr) }
+{
+    if let [byte] = text {
+        return Ok(Cell::from_byte(*byte, attr));
+    }
+    Cell::new(alloc, text, attr)
+}
+
 /// The cell that stands where a pair doesn't fit.
 fn filler(d: &Drawn) -> Cell
     ensures { result ≡ filler_of d.now.looks.now }
@@ -188,29 +222,27 @@ impl Flow {
         ensures stop_within { IfOk result (λ s. s < d.now.tabstop) }
     {
         let attr = attr_at(d.spans, piece.from);
-        let special = combine(d.looks.special, attr);
         match piece.kind {
             Kind::Tab => {
                 self.put_spaces(d, d.tabstop - stop, attr)?;
-                Ok(0)
+                Ok(stop_after(d.tabstop, stop, piece.kind))
             }
             Kind::Control(byte) => {
-                self.put_bytes(d, &[b'^', byte ^ 0x40], special)?;
-                Ok(round(d.tabstop, round(d.tabstop, stop)))
+                self.put_bytes(d, &[b'^', byte ^ 0x40], special_attr(d, attr))?;
+                Ok(stop_after(d.tabstop, stop, piece.kind))
             }
             Kind::Escape(byte) => {
-                self.put_bytes(d, &escape_text(byte), special)?;
-                let half = round(d.tabstop, round(d.tabstop, stop));
-                Ok(round(d.tabstop, round(d.tabstop, half)))
+                self.put_bytes(d, &escape_text(byte), special_attr(d, attr))?;
+                Ok(stop_after(d.tabstop, stop, piece.kind))
             }
             Kind::Cluster(2) => {
                 self.put_pair(alloc, d, &d.line[piece.from..piece.to], attr)?;
-                Ok(round(d.tabstop, round(d.tabstop, stop)))
+                Ok(stop_after(d.tabstop, stop, piece.kind))
             }
             Kind::Cluster(_) => {
-                let text = &d.line[piece.from..piece.to];
-                self.put_one(d.width, Cell::new(alloc, text, attr)?)?;
-                Ok(round(d.tabstop, stop))
+                let cell = cluster_cell(alloc, &d.line[piece.from..piece.to], attr)?;
+                self.put_one(d.width, cell)?;
+                Ok(stop_after(d.tabstop, stop, piece.kind))
             }
         }
     }

@@ -5,10 +5,12 @@ mod flow;
 mod laws;
 mod lines;
 mod looks;
+mod places;
 
 pub use laws::row_laws;
 pub use lines::{cells, first_cells, first_rows, rows};
 pub use looks::{Looks, Span};
+pub use places::place_of_byte;
 
 #[cfg(test)]
 mod tests;

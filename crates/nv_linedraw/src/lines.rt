@@ -108,8 +108,9 @@ pub fn first_cells(
         width,
         tabstop,
     };
+    let room = line.len().saturating_add(width as usize).min(most);
     let mut flow = Flow {
-        cells: Vec::new(alloc),
+        cells: Vec::with_capacity(alloc, room)?,
         col: 0,
     };
     let pieces = first_pieces(alloc, line, most)?;
