@@ -1,3 +1,13 @@
+pub mod CanvasLemmas
+pub mod CursorLemmas
+pub mod LayLemmas
+pub mod PatchLemmas
+pub mod ShapeLemmas
+pub mod SoundLemmas
+pub mod StatusLemmas
 pub mod Strips
+pub mod TextLemmas
 pub mod WholeScreens
+pub mod WindowLemmas
 pub mod WorkedLines
+pub mod WorkedScreens

@@ -8,17 +8,17 @@ use Rattle.nv_hl.specs.Cells.{with_cells}
 use Rattle.nv_screen.specs.Laws.{StripsShow, cell_over}
 
 -- where the cells lie
-inside : (col : ℕ) (cs : List Cell) (at : ℕ) (under : Cell) → col ≤ at → at < col + length cs → cell_over col cs at under ≡ get_or cs (at - col) under
+pub inside : (col : ℕ) (cs : List Cell) (at : ℕ) (under : Cell) → col ≤ at → at < col + length cs → cell_over col cs at under ≡ get_or cs (at - col) under
 inside col cs at under le lt =
     let yes : (nat_le col at && nat_lt at (col + length cs)) ≡ true = grind (arith, nat_tests) in
     ap (λ b. cond b (get_or cs (at - col) under) under) yes
 
-before : (col : ℕ) (cs : List Cell) (at : ℕ) (under : Cell) → at < col → cell_over col cs at under ≡ under
+pub before : (col : ℕ) (cs : List Cell) (at : ℕ) (under : Cell) → at < col → cell_over col cs at under ≡ under
 before col cs at under lt =
     let no : (nat_le col at && nat_lt at (col + length cs)) ≡ false = grind (arith, nat_tests) in
     ap (λ b. cond b (get_or cs (at - col) under) under) no
 
-behind : (col : ℕ) (cs : List Cell) (at : ℕ) (under : Cell) → col + length cs ≤ at → cell_over col cs at under ≡ under
+pub behind : (col : ℕ) (cs : List Cell) (at : ℕ) (under : Cell) → col + length cs ≤ at → cell_over col cs at under ≡ under
 behind col cs at under le =
     let no : (nat_le col at && nat_lt at (col + length cs)) ≡ false = grind (arith, nat_tests) in
     ap (λ b. cond b (get_or cs (at - col) under) under) no

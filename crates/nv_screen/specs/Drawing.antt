@@ -112,10 +112,12 @@ with_panes looks bars rows [] = rows
 with_panes looks bars rows (p ∷ ps) = with_panes looks bars (with_pane looks bars rows p) ps
 
 -- a column of U+2502 (help: hl-WinSeparator)
+abbrev pub separator_cell : Bars → Cell
+separator_cell bars = cell_of (0xE2 ∷ 0x94 ∷ 0x82 ∷ []) bars.separator
+
 abbrev pub with_separator : Bars → List (List Cell) → Rect → List (List Cell)
 with_separator bars rows r =
-    with_rows rows r.row r.col (replicate r.height
-    (cell_of (0xE2 ∷ 0x94 ∷ 0x82 ∷ []) bars.separator ∷ []))
+    with_rows rows r.row r.col (replicate r.height (separator_cell bars ∷ []))
 
 abbrev pub with_separators : Bars → List (List Cell) → List Rect → List (List Cell)
 with_separators bars rows [] = rows
@@ -149,13 +151,21 @@ abbrev pub with_patches : List (List Cell) → List Patch → List (List Cell)
 with_patches rows [] = rows
 with_patches rows (p ∷ ps) = with_patches (with_patch_cells rows p.row p.col p.cells.items) ps
 
--- windows, separators and patches on a blank screen
+-- windows and separators on a blank screen
+abbrev pub rows_without_patches : Scene → List (List Cell)
+rows_without_patches s =
+    with_separators s.bars
+    (with_panes s.looks s.bars (blank_rows s.width s.height) s.panes.items)
+    s.separators.items
+
+-- and patches over them
 unfoldable pub drawn_rows : Scene → List (List Cell)
-drawn_rows s =
-    with_patches
-    (with_separators s.bars (with_panes s.looks s.bars
-    (blank_rows s.width s.height) s.panes.items) s.separators.items)
-    s.patches.items
+drawn_rows s = with_patches (rows_without_patches s) s.patches.items
 
 abbrev pub screen_of_scene : Scene → Screen
 screen_of_scene s = record { width = s.width; height = s.height; rows = drawn_rows s }
+
+-- the first text rows of a window, as a screen of their own
+abbrev pub pane_screen : Looks → Pane → ℕ → Screen
+pane_screen looks p n =
+    record { width = p.rect.width; height = n; rows = take n (pane_rows looks p) }

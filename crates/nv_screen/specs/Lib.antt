@@ -1,3 +1,7 @@
+pub mod Cursor
 pub mod Drawing
 pub mod Laws
+pub mod Screens
+pub mod Sound
 pub mod Worked
+pub mod inside

@@ -1,8 +1,20 @@
 //! What is seen of an editor as plain data, and the screen that it is drawn as.
 #![tactic(auto)]
 
+mod canvas;
+mod cursor;
+mod drawing;
 mod laws;
+mod laying;
+mod patches;
 mod scene;
+mod status;
+mod text;
 
-pub use laws::{drawing_laws, worked_lines, worked_patches};
+pub use cursor::cursor_cell;
+pub use drawing::{draw, pane_grid};
+pub use laws::{drawing_laws, sound_scene_laws, worked_lines, worked_patches, worked_screens};
 pub use scene::{Bars, Pane, Patch, Scene, SceneLine, Spot};
+
+#[cfg(test)]
+mod tests;
