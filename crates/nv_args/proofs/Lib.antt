@@ -1,5 +1,8 @@
 pub mod ArgLemmas
 pub mod Handles
+pub mod CallLemmas
+pub mod ColourLemmas
+pub mod DictLemmas
 pub mod HeldLemmas
 pub mod KeyLemmas
 pub mod KindLemmas

@@ -8,7 +8,7 @@ use Rattle.nv_args.specs.declared.faults.Fail.TheVariants.{Api, NoMemory}
 use Rattle.nv_value.specs.declared.fault.ApiFault.{ApiFault}
 use Rattle.nv_args.specs.Refusals.{Refuses}
 use Rattle.nv_args.specs.inside.Telling.{TellsFault}
-use Rattle.nv_args.specs.Faults.{wrong_count, wrong_type, no_buffer}
+use Rattle.nv_args.specs.Faults.{wrong_count, wrong_type, no_buffer, no_window, no_tabpage}
 
 -- what tells a fault whose words are short refuses with it
 pub refuses_told : (fail : Fail) (kind code : ℕ) (words wanted : List ℕ)
@@ -31,6 +31,12 @@ signed-short (negsuc n) fits = omega (arith, decimal-short (suc n) (omega (arith
 
 pub no_buffer-short : (z : ℤ) → FitsSigned w64 z → length (no_buffer z).words < 2 ^ 32
 no_buffer-short z fits = omega (arith, length-append (codes "Invalid buffer id: ") (signed_decimal z), signed-short z fits)
+
+pub no_window-short : (z : ℤ) → FitsSigned w64 z → length (no_window z).words < 2 ^ 32
+no_window-short z fits = omega (arith, length-append (codes "Invalid window id: ") (signed_decimal z), signed-short z fits)
+
+pub no_tabpage-short : (z : ℤ) → FitsSigned w64 z → length (no_tabpage z).words < 2 ^ 32
+no_tabpage-short z fits = omega (arith, length-append (codes "Invalid tabpage id: ") (signed_decimal z), signed-short z fits)
 
 pub wrong_count-short : (n m : ℕ) → n < 2 ^ 64 → m < 2 ^ 64 → length (wrong_count n m).words < 2 ^ 32
 wrong_count-short n m a b =

@@ -5,8 +5,12 @@ pub mod Weight
 pub mod Table
 pub mod Reading
 pub mod Maps
+pub mod KeyValues
+pub mod Dicts
+pub mod Naming
 pub mod Texts
 pub mod inside
 pub mod Args
 pub mod Kinds
+pub mod Rules
 pub mod Methods

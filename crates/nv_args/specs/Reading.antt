@@ -133,3 +133,22 @@ object_at args place = object_of (slice_get args place)
 -- the lines of an Array of Strings
 abbrev pub lines_at : List Arg → ℕ → List (List ℕ)
 lines_at args place = unwrap_or (strings_in (values_at args place)) []
+
+-- the name and the arguments of a call as a value, `[name, arguments]` (help: nvim_call_atomic())
+abbrev pub first_string : List Tree → List ℕ
+first_string [] = []
+first_string (name ∷ ts) = unwrap_or (string_in name) []
+
+abbrev pub values_in : Tree → List Tree
+values_in (Tree.list ts) = tree_list ts
+values_in _ = []
+
+abbrev pub second_values : List Tree → List Tree
+second_values (name ∷ arguments ∷ ts) = values_in arguments
+second_values _ = []
+
+abbrev pub name_of_call : Tree → List ℕ
+name_of_call value = first_string (values_in value)
+
+abbrev pub arguments_of_call : Tree → List Tree
+arguments_of_call value = second_values (values_in value)

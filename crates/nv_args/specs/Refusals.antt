@@ -1,6 +1,6 @@
 -- What a step of a call gives, beside the answer that is wanted of it. Want of memory may always
 -- come in its place.
-use Rattle.std.specs.Prelude.{◌≡◌, ◌^◌, ◌<◌, length, ⊤, Result, Ok, Err}
+use Rattle.std.specs.Prelude.{◌≡◌, ◌^◌, ◌<◌, length, ⊤, Option, Some, None, Result, Ok, Err}
 use Rattle.nv_value.specs.declared.fault.ApiFault.{ApiFault}
 use Rattle.nv_args.specs.declared.faults.Fail.{Fail}
 use Rattle.nv_args.specs.declared.faults.Fail.TheVariants.{Api, NoMemory}
@@ -26,3 +26,9 @@ abbrev pub RefusedKeeps : {A B : Type 0} → Result A Fail → B → B → Type 
 RefusedKeeps (Ok a) after before = ⊤
 RefusedKeeps (Err (Api fault)) after before = after ≡ before
 RefusedKeeps (Err NoMemory) after before = ⊤
+
+-- a look for a fault finds this one, or none where there is none, or memory was wanting
+abbrev pub Finds : {A : Type 0} → Result A Fail → Option ApiFault → Type 0
+Finds (Ok a) wanted = wanted ≡ None
+Finds (Err (Api fault)) wanted = (wanted ≡ Some fault) × CanBeTold fault
+Finds (Err NoMemory) wanted = ⊤

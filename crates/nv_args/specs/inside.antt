@@ -2,3 +2,5 @@
 pub mod Held
 pub mod Ordered
 pub mod Telling
+pub mod Colours
+pub mod Looking

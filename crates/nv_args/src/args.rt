@@ -6,7 +6,7 @@ ghost use Rattle.nv_msgpack.specs.Handle.{integer_of};
 ghost use Rattle.nv_args.specs.Arguments.{truth_in, string_in, strings_in, pairs_in};
 ghost use Rattle.nv_args.specs.Methods.{signature_of};
 ghost use Rattle.nv_args.specs.Kinds.{kind_of};
-ghost use Rattle.nv_args.specs.Reading.{read, array_in, number_of, number_at, flag_at, string_at, values_at, pairs_at, object_at, lines_at};
+ghost use Rattle.nv_args.specs.Reading.{read, array_in, number_of, number_at, flag_at, string_at, values_at, pairs_at, object_at, lines_at, name_of_call, arguments_of_call};
 ghost use Rattle.nv_args.specs.Refusals.{Meets};
 ghost use Rattle.nv_args.specs.Args.{typed_arguments, SameElsewhere};
 ghost use Rattle.nv_args.specs.inside.Held.{arg_held, first_wrong, is_flag_kind, is_string_kind, is_list_kind, is_map_kind, is_any_kind};
@@ -14,7 +14,7 @@ ghost use Rattle.nv_args.specs.inside.Held.{arg_held, first_wrong, is_flag_kind,
 use crate::faults::{Fail, wrong_count, wrong_type};
 use crate::kinds::{BUFFER, Kind, TABPAGE, WINDOW, handle_number};
 use crate::methods::Method;
-use nv_value::{Bytes, Fields, Items, Value};
+use nv_value::{Bytes, Fields, Items, Pair, Value};
 use std::alloc::{AllocError, Global};
 use std::mem;
 
@@ -125,6 +125,19 @@ impl Args {
         }
         match self.value(place) {
             Some(value) => items_in(value),
+            None => &[],
+        }
+    }
+
+    /// The pairs of the Dict at a place, from 0, lent; none where the argument is no Dict.
+    pub fn pairs(&self, place: usize) -> &[Pair]
+        ensures { map pair_content result.now ≡ pairs_at (typed_arguments self.now) place }
+    {
+        if !is_map_kind(self.kind(place)) {
+            return &[];
+        }
+        match self.value(place) {
+            Some(value) => pairs_in(value),
             None => &[],
         }
     }
@@ -268,6 +281,15 @@ fn items_in(value: &Value) -> &[Value]
     }
 }
 
+fn pairs_in(value: &Value) -> &[Pair]
+    ensures { map pair_content result.now ≡ unwrap_or (pairs_in (content value.now)) [] }
+{
+    match value {
+        Value::Pairs(fields) => fields.as_slice(),
+        _ => &[],
+    }
+}
+
 fn text_of(value: Value) -> Option<Bytes>
     ensures { result ≡ string_in (content value) }
 {
@@ -302,6 +324,26 @@ fn fields_of(alloc: Global, value: Value) -> Fields
         Value::Pairs(fields) => fields,
         _ => Vec::new(alloc),
     }
+}
+
+/// A call among those of `nvim_call_atomic()`.
+#[derive(Drop)]
+pub struct NamedCall {
+    pub name: Bytes,
+    pub params: Items,
+}
+
+/// The name and the arguments of a call as a value, moved out of it. A value of another form has
+/// the empty name, or no arguments.
+pub fn call_in(alloc: Global, value: Value) -> Result<NamedCall, AllocError>
+    ensures name { IfOk result (λ call. call.name ≡ name_of_call (content value)) }
+    ensures params { IfOk result (λ call. map content call.params.items
+        ≡ arguments_of_call (content value)) }
+{
+    let mut parts = items_of(alloc, value);
+    let name = string_of(alloc, take(&mut parts, 0))?;
+    let params = items_of(alloc, take(&mut parts, 1));
+    Ok(NamedCall { name, params })
 }
 
 // The strings of a list, and none where one of its values isn't a string.

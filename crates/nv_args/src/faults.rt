@@ -3,7 +3,7 @@ ghost use Rattle.std.specs.Prelude.{◌≡◌, ◌+◌, ◌++◌, ◌^◌, ◌<�
 ghost use Rattle.nv_args.specs.declared.faults.Fail.TheVariants.{NoMemory};
 ghost use Rattle.nv_args.specs.Refusals.{Refuses};
 ghost use Rattle.nv_args.specs.inside.Telling.{TellsFault};
-ghost use Rattle.nv_args.specs.Faults.{unknown_method, wrong_count, wrong_type, no_buffer, invalid_key, out_of_bounds, start_after_end, newline_inside, not_modifiable, unknown_name, limit_reached};
+ghost use Rattle.nv_args.specs.Faults.{unknown_method, wrong_count, wrong_type, no_buffer, invalid_key, invalid_value, out_of_bounds, start_after_end, newline_inside, not_modifiable, unknown_name, limit_reached, no_window, no_tabpage, no_id_left, no_room, last_one, name_in_use, unsaved_changes, not_attached, already_attached};
 
 use nv_value::{ApiFault, Bytes};
 use std::alloc::{AllocError, Global};
@@ -111,6 +111,14 @@ pub fn invalid_key(alloc: Global, key: &[u8]) -> Fail
     named(alloc, 1, 7, "Invalid key: ", key)
 }
 
+/// The value of the key isn't one that it takes, or the key is missing.
+pub fn invalid_value(alloc: Global, key: &[u8]) -> Fail
+    requires { length key.now < 2 ^ 31 }
+    ensures { Refuses result (invalid_value key.now) }
+{
+    named(alloc, 1, 8, "Invalid value for key: ", key)
+}
+
 /// An index, a place or the number of a change lies outside its range.
 pub fn out_of_bounds(alloc: Global) -> Fail
     ensures { Refuses result out_of_bounds }
@@ -152,4 +160,73 @@ pub fn limit_reached(alloc: Global) -> Fail
     ensures { Refuses result limit_reached }
 {
     fixed(alloc, 0, 19, "Limit reached")
+}
+
+/// The handle names no window.
+pub fn no_window(alloc: Global, handle: i64) -> Fail
+    ensures { Refuses result (no_window handle) }
+{
+    match format!(in alloc; "Invalid window id: {handle}") {
+        Ok(words) => fault(1, 5, words),
+        Err(_) => Fail::NoMemory,
+    }
+}
+
+/// The handle names no tabpage.
+pub fn no_tabpage(alloc: Global, handle: i64) -> Fail
+    ensures { Refuses result (no_tabpage handle) }
+{
+    match format!(in alloc; "Invalid tabpage id: {handle}") {
+        Ok(words) => fault(1, 6, words),
+        Err(_) => Fail::NoMemory,
+    }
+}
+
+/// The next number would pass the last one.
+pub fn no_id_left(alloc: Global) -> Fail
+    ensures { Refuses result no_id_left }
+{
+    fixed(alloc, 0, 12, "No id left")
+}
+
+/// The windows wouldn't fit the screen.
+pub fn no_room(alloc: Global) -> Fail
+    ensures { Refuses result no_room }
+{
+    fixed(alloc, 0, 14, "Not enough room")
+}
+
+/// The last window or tabpage is to close.
+pub fn last_one(alloc: Global) -> Fail
+    ensures { Refuses result last_one }
+{
+    fixed(alloc, 0, 15, "Cannot close the last one")
+}
+
+/// Another buffer has the name.
+pub fn name_in_use(alloc: Global) -> Fail
+    ensures { Refuses result name_in_use }
+{
+    fixed(alloc, 0, 16, "Name already in use")
+}
+
+/// A modified buffer is deleted without force.
+pub fn unsaved_changes(alloc: Global) -> Fail
+    ensures { Refuses result unsaved_changes }
+{
+    fixed(alloc, 0, 17, "Unsaved changes, use force")
+}
+
+/// The session has no UI.
+pub fn not_attached(alloc: Global) -> Fail
+    ensures { Refuses result not_attached }
+{
+    fixed(alloc, 0, 20, "UI not attached")
+}
+
+/// The session has a UI.
+pub fn already_attached(alloc: Global) -> Fail
+    ensures { Refuses result already_attached }
+{
+    fixed(alloc, 0, 20, "UI already attached")
 }

@@ -4,27 +4,44 @@
 
 mod args;
 mod arguments;
+mod dicts;
 mod faults;
+mod getting;
 mod indexing;
 mod keys;
 mod kinds;
 mod methods;
+mod reading;
+mod rules;
 mod typed;
 
-pub use args::{Args, read};
+pub use args::{Args, NamedCall, call_in, read};
 pub use arguments::{buffer_of, fields_of, integer_of, lines_of, string_of, truth_of};
+pub use dicts::{
+    is_group_name, map_fault, missing_key, naming_fault, unknown_key, value_of, wrong_value,
+    wrong_value_of,
+};
 pub use faults::{
-    Fail, invalid_key, limit_reached, newline_inside, no_buffer, not_modifiable, out_of_bounds,
-    start_after_end, unknown_method, unknown_name, wrong_count, wrong_type,
+    Fail, already_attached, invalid_key, invalid_value, last_one, limit_reached, name_in_use,
+    newline_inside, no_buffer, no_id_left, no_room, no_tabpage, no_window, not_attached,
+    not_modifiable, out_of_bounds, start_after_end, unknown_method, unknown_name, unsaved_changes,
+    wrong_count, wrong_type,
+};
+pub use getting::{
+    buffer_at, bytes_at, colour_at, flag_or, integer_at, integer_between, integer_from, integer_or,
+    tabpage_at, terminal_colour_at, window_at,
 };
 pub use indexing::{is_outside, leaves_text, row_of_index, text_col, text_row};
 pub use keys::no_pairs;
 pub use methods::{Method, method_of};
+pub use rules::{Rule, Takes};
 pub use typed::{
     buffer_argument, check_count, dict_argument, integer_argument, lines_argument, string_argument,
     truth_argument,
 };
 
+#[cfg(test)]
+mod dict_tests;
 #[cfg(test)]
 mod reading_tests;
 #[cfg(test)]

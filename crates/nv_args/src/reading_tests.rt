@@ -25,7 +25,7 @@ fn digit(letter: u8) -> u8
 }
 
 // The values of the list that these digits spell.
-fn params(alloc: Global, hex: &str) -> Result<Items, AllocError> {
+pub fn params(alloc: Global, hex: &str) -> Result<Items, AllocError> {
     let mut bytes = Vec::new(alloc);
     for pair in hex.as_bytes().chunks(2) {
         if let [high, low] = pair {
