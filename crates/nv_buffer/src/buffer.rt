@@ -354,8 +354,9 @@ impl Buffer {
         })
     }
 
-    // Makes an edit that fits: in the text, the marks, and what is kept of it.
-    pub(crate) fn put_edit(&mut self, edit: Edit) -> Result<Spliced, AllocError>
+    /// Makes an edit that fits: in the text, the marks, and what is kept of it. Where memory is
+    /// wanting nothing changes.
+    pub fn put_edit(&mut self, edit: Edit) -> Result<Spliced, AllocError>
         requires fits { Fits self.old.text edit }
         requires tick { self.old.tick <ℤ i64.MAX }
         ensures ok { OnOk result (self.new ≡ after_edit self.old edit) }
@@ -459,8 +460,8 @@ impl Buffer {
         self.tree.last()
     }
 
-    // What is known of each buffer.
-    pub(crate) fn known(&self)
+    /// What is known of each buffer, for callers whose proofs need it. It does nothing.
+    pub fn known(&self)
         ensures buffer { IsBuffer self.now.text self.now.tick self.now.undo self.now.unsealed }
         ensures small { kept_count self.now.undo self.now.unsealed < 2 ^ 63 }
         ensures text { IsBufferText self.now.text }
@@ -488,8 +489,8 @@ impl Buffer {
         self.tree.parent(n).unwrap_or(0)
     }
 
-    // The child last entered of the current number.
-    pub(crate) fn child(&self) -> Option<u64>
+    /// The child last entered of the current number (help: :redo).
+    pub fn child(&self) -> Option<u64>
         ensures number { result ≡ child_of self.now.undo self.now.undo.current }
         ensures child { IfSome result
             (λ n. parent_of self.now.undo n ≡ Some self.now.undo.current) }
@@ -497,8 +498,8 @@ impl Buffer {
         self.tree.child()
     }
 
-    // The legs from the current number to another.
-    pub(crate) fn legs_to(&self, n: u64) -> Result<Vec<Leg>, AllocError>
+    /// The legs from the current number to another, by their nearest common ancestor.
+    pub fn legs_to(&self, n: u64) -> Result<Vec<Leg>, AllocError>
         requires { n ≤ last self.now.undo }
         ensures path { IfOk result (λ legs. legs.items
             ≡ path self.now.undo self.now.undo.current n) }
@@ -520,8 +521,8 @@ impl Buffer {
         }
     }
 
-    // An edit of a leg once more, by its place from 0.
-    pub(crate) fn leg_edit(&self, leg: Leg, place: usize) -> Result<Edit, AllocError>
+    /// An edit of a leg once more, by its place from 0.
+    pub fn leg_edit(&self, leg: Leg, place: usize) -> Result<Edit, AllocError>
         requires { place < length (leg_edits self.now.undo leg) }
         ensures { IfOk result (λ edit. slice_get (leg_edits self.now.undo leg) place ≡ Some edit) }
     {
@@ -554,8 +555,8 @@ impl Buffer {
         }
     }
 
-    // Goes a leg in the tree, once its edits are made.
-    pub(crate) fn arrive(&mut self, leg: Leg)
+    /// Goes a leg in the tree, once its edits are made.
+    pub fn arrive(&mut self, leg: Leg)
         requires next { IsNext self.old.undo leg }
         requires text { self.old.text
             ≡ text_at self.old.undo (tree_after_leg leg self.old.undo).current }

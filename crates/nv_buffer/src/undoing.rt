@@ -126,8 +126,8 @@ impl Buffer {
         Ok(())
     }
 
-    // How many edits a leg has.
-    fn leg_len(&self, leg: Leg) -> usize
+    /// How many edits a leg has.
+    pub fn leg_len(&self, leg: Leg) -> usize
         ensures { result ≡ length (leg_edits self.now.undo leg) }
     {
         match leg {
