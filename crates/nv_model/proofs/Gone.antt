@@ -119,7 +119,7 @@ run_back (s ∷ ss) m n x there =
       stage = rest.stage ∙ (λ i. stage_with_views n (text i) ss (stage i));
     }
 
-all-append : (cs ds : List Operation) (m : ModelEditor) → after_operations (cs ++ ds) m ≡ after_operations ds (after_operations cs m)
+pub all-append : (cs ds : List Operation) (m : ModelEditor) → after_operations (cs ++ ds) m ≡ after_operations ds (after_operations cs m)
 all-append [] ds m = refl
 all-append (c ∷ cs) ds m = all-append cs ds (after_operation c m)
 

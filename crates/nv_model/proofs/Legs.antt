@@ -106,20 +106,20 @@ within-append text [] ts are then = then
 within-append text (s ∷ ss) ts are then = (are.0, within-append (text_after text s) ss ts are.1 then)
 
 -- ---- trees after a leg
-gone_changes : {E : Type 0} (leg : Leg) (undo : Undo E) → (tree_after_leg leg undo).changes ≡ undo.changes
+pub gone_changes : {E : Type 0} (leg : Leg) (undo : Undo E) → (tree_after_leg leg undo).changes ≡ undo.changes
 gone_changes (Back n) undo = refl
 gone_changes (Ahead n) undo = refl
 
-gone_tree : {E : Type 0} (leg : Leg) (undo : Undo E) → IsTree undo → ((n : ℕ) → leg ≡ Ahead n → parent_of undo n ≡ Some undo.current)
+pub gone_tree : {E : Type 0} (leg : Leg) (undo : Undo E) → IsTree undo → ((n : ℕ) → leg ≡ Ahead n → parent_of undo n ≡ Some undo.current)
     → IsTree (tree_after_leg leg undo)
 gone_tree (Back n) undo tree next = back_tree undo tree
 gone_tree (Ahead n) undo tree next = child_tree n undo tree (next n refl)
 
-next_parent : (undo : Undo (List Edit)) (leg : Leg) → IsNext undo leg → (n : ℕ) → leg ≡ Ahead n → parent_of undo n ≡ Some undo.current
+pub next_parent : (undo : Undo (List Edit)) (leg : Leg) → IsNext undo leg → (n : ℕ) → leg ≡ Ahead n → parent_of undo n ≡ Some undo.current
 next_parent undo (Back k) next n is = absurd (cc)
 next_parent undo (Ahead k) next n is = subst (λ (j : ℕ). parent_of undo j ≡ Some undo.current) (grind arith) next
 
-changes-same : (undo other : Undo (List Edit)) → undo.changes ≡ other.changes → (n : ℕ) (cs : List (ℕ × List Edit))
+pub changes-same : (undo other : Undo (List Edit)) → undo.changes ≡ other.changes → (n : ℕ) (cs : List (ℕ × List Edit))
     → kept_changes undo n cs ≡ kept_changes other n cs
 changes-same undo other same n [] = refl
 changes-same undo other same n (c ∷ cs) =
@@ -128,7 +128,7 @@ changes-same undo other same n (c ∷ cs) =
     let rest = changes-same undo other same (suc n) cs in
     λ i. (c.0, record { splices = splices_of (parent i) c.1; text = flat (own i) }) ∷ rest i
 
-gone_kept : (leg : Leg) (undo : Undo (List Edit)) → kept_undo (tree_after_leg leg undo) ≡ tree_after_leg leg (kept_undo undo)
+pub gone_kept : (leg : Leg) (undo : Undo (List Edit)) → kept_undo (tree_after_leg leg undo) ≡ tree_after_leg leg (kept_undo undo)
 gone_kept (Back n) undo =
     let changes = changes-same (tree_after_leg (Back n) undo) undo refl 1 undo.changes in
     let current = ap (λ (o : Option ℕ). unwrap_or o undo.current) (sym (parent-kept undo undo.current)) in

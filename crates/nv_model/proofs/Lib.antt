@@ -16,3 +16,4 @@ pub mod Trees
 pub mod Legs
 pub mod Told
 pub mod Gone
+pub mod AnswersTell

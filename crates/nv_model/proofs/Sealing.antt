@@ -19,11 +19,11 @@ use Rattle.nv_model.specs.Standing.{splices_of, kept_change, kept_changes, kept_
 use Rattle.nv_model.specs.Keeping.{SealIsKept}
 
 -- ---- the trees
-length-kept : (undo : Undo (List Edit)) (n : ℕ) (changes : List (ℕ × List Edit)) → length (kept_changes undo n changes) ≡ length changes
+pub length-kept : (undo : Undo (List Edit)) (n : ℕ) (changes : List (ℕ × List Edit)) → length (kept_changes undo n changes) ≡ length changes
 length-kept undo n [] = refl
 length-kept undo n (c ∷ cs) = ap (λ k. suc k) (length-kept undo (suc n) cs)
 
-kept-push : (undo : Undo (List Edit)) (n : ℕ) (changes : List (ℕ × List Edit)) (c : ℕ × List Edit)
+pub kept-push : (undo : Undo (List Edit)) (n : ℕ) (changes : List (ℕ × List Edit)) (c : ℕ × List Edit)
     → kept_changes undo n (changes ++ c ∷ []) ≡ kept_changes undo n changes ++ kept_change undo (n + length changes) c ∷ []
 kept-push undo n [] c = ap (λ (k : ℕ). kept_change undo k c ∷ []) (omega arith)
 kept-push undo n (d ∷ ds) c =
@@ -32,7 +32,7 @@ kept-push undo n (d ∷ ds) c =
     ∙ ap (λ (k : ℕ). kept_changes undo (suc n) ds ++ kept_change undo k c ∷ []) (omega arith))
 
 -- a change that is made leaves the others
-kept-stay : (undo : Undo (List Edit)) (edits : List Edit) (n : ℕ) (changes : List (ℕ × List Edit)) → n + length changes ≤ suc (last undo)
+pub kept-stay : (undo : Undo (List Edit)) (edits : List Edit) (n : ℕ) (changes : List (ℕ × List Edit)) → n + length changes ≤ suc (last undo)
     → All (λ (c : ℕ × List Edit). c.0 ≤ last undo) changes
     → kept_changes (pushed edits undo) n changes ≡ kept_changes undo n changes
 kept-stay undo edits n [] low parents = refl
@@ -43,7 +43,7 @@ kept-stay undo edits n (c ∷ cs) low parents =
     λ i. (c.0, record { splices = splices_of (parent i) c.1; text = flat (own i) }) ∷ rest i
 
 -- the parents are among the numbers
-parents_low : (undo : Undo (List Edit)) → IsTree undo → All (λ (c : ℕ × List Edit). c.0 ≤ last undo) undo.changes
+pub parents_low : (undo : Undo (List Edit)) → IsTree undo → All (λ (c : ℕ × List Edit). c.0 ≤ last undo) undo.changes
 parents_low undo tree i d low =
     let here : numbered undo (suc i) ≡ Some _ = slice_get-get_or undo.changes i d low in
     let below = tree.below (suc i) _ (ap (option_map (λ (c : ℕ × List Edit). c.0)) here) in
@@ -78,7 +78,7 @@ changes_lead k first undo tree lead since n c here = elim (cases_eq n (suc (last
 ]
 
 -- so does each change of what is kept
-edits_stay : (undo : Undo (List Edit)) (edits : List Edit) → IsTree undo
+pub edits_stay : (undo : Undo (List Edit)) (edits : List Edit) → IsTree undo
     → ((n : ℕ) (es : List Edit) → change_of undo n ≡ Some es → IsChangeOf (text_at undo (origin undo n)) es)
     → IsChangeOf (text_at undo undo.current) edits
     → (n : ℕ) (es : List Edit) → change_of (pushed edits undo) n ≡ Some es → IsChangeOf (text_at (pushed edits undo) (origin (pushed edits undo) n)) es

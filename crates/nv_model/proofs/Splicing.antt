@@ -86,28 +86,12 @@ lines_put lines new from to order within =
     ∙ ap (take (length new)) rest
     ∙ take_at new (drop to lines) (length new) refl
 
-module _ (b later : Content) (s : Splice) (event : Spliced) (m : ModelBuffer) (sp : IsSpliced b later s event) (is : StandsFor b m) where
-  flat_is : flat later.text ≡ text_after (flat b.text) s
+module _ (b later : Content) (s : Splice) (event : Spliced) (sp : IsSpliced b later s event) where
+  pub flat_is : flat later.text ≡ text_after (flat b.text) s
   flat_is =
       sp.edit.flat_text
       ∙ ap (λ (n : ℕ). splice (flat b.text) n (event.edit.at + event.edit.old) s.bytes) sp.from
       ∙ ap (λ (n : ℕ). splice (flat b.text) s.from n s.bytes) sp.until
-
-  text_is : text_of (with_splice s m) ≡ text_after (text_of m) s
-  unfolding text_of
-  text_is = text-more m.first m.splices s
-
-  within : IsWithin (text_of m) s
-  within = record {
-    order = omega (arith, sp.from, sp.until);
-    within = omega (arith, sp.until, sp.edit.within, ap length is.text);
-  }
-
-  flat_now : flat later.text ≡ text_of (with_splice s m)
-  flat_now = flat_is ∙ ap (λ (t : List ℕ). text_after t s) is.text ∙ sym text_is
-
-  base : List (List ℕ)
-  base = text_at b.undo b.undo.current
 
   bytes_are : take event.edit.new (drop event.edit.at (flat (lines_after b.text event.edit))) ≡ s.bytes
   bytes_are =
@@ -118,28 +102,13 @@ module _ (b later : Content) (s : Splice) (event : Spliced) (m : ModelBuffer) (s
       ∙ ap (λ (t : List ℕ). take (length s.bytes) (drop s.from t)) after
       ∙ bytes_put (flat b.text) s low
 
-  splice_is : splice_of b.text event.edit ≡ s
+  pub splice_is : splice_of b.text event.edit ≡ s
   splice_is =
       let from = sp.from in
       let until = sp.until in
       let bytes = bytes_are in
       let rows = sp.rows in
       λ i. record { from = from i; until = until i; bytes = bytes i; rows = rows i }
-
-  unsealed_is : splices_of base (b.unsealed ++ event.edit ∷ []) ≡ m.unsealed ++ s ∷ []
-  unfolding base
-  unsealed_is =
-      splices-push base b.unsealed event.edit
-      ∙ ap (λ (ss : List Splice). ss ++ splice_of (fold lines_after base b.unsealed) event.edit ∷ []) is.unsealed
-      ∙ ap (λ (t : List (List ℕ)). m.unsealed ++ splice_of t event.edit ∷ []) (sym is.since)
-      ∙ ap (λ (t : Splice). m.unsealed ++ t ∷ []) splice_is
-
-  since_is : later.text ≡ fold lines_after base (b.unsealed ++ event.edit ∷ [])
-  unfolding base
-  since_is =
-      sp.edit.lines
-      ∙ ap (λ (t : List (List ℕ)). lines_after t event.edit) is.since
-      ∙ sym (fold-append lines_after base b.unsealed (event.edit ∷ []))
 
   lines_put_are : All IsLine event.edit.lines
   lines_put_are =
@@ -166,7 +135,7 @@ module _ (b later : Content) (s : Splice) (event : Spliced) (m : ModelBuffer) (s
         put = sp.reach ∙ ap extent_of (sym bytes_are);
       }
 
-  edit_is : IsEditOf b.text event.edit
+  pub edit_is : IsEditOf b.text event.edit
   edit_is = record {
     order = sp.order;
     within = sp.within;
@@ -176,6 +145,38 @@ module _ (b later : Content) (s : Splice) (event : Spliced) (m : ModelBuffer) (s
     last = sp.last ∙ ap (λ (t : Splice). row_behind (flat b.text) t) (sym splice_is);
     placed = placed_is;
   }
+
+module _ (b later : Content) (s : Splice) (event : Spliced) (m : ModelBuffer) (sp : IsSpliced b later s event) (is : StandsFor b m) where
+  text_is : text_of (with_splice s m) ≡ text_after (text_of m) s
+  unfolding text_of
+  text_is = text-more m.first m.splices s
+
+  within : IsWithin (text_of m) s
+  within = record {
+    order = omega (arith, sp.from, sp.until);
+    within = omega (arith, sp.until, sp.edit.within, ap length is.text);
+  }
+
+  flat_now : flat later.text ≡ text_of (with_splice s m)
+  flat_now = flat_is b later s event sp ∙ ap (λ (t : List ℕ). text_after t s) is.text ∙ sym text_is
+
+  base : List (List ℕ)
+  base = text_at b.undo b.undo.current
+
+  unsealed_is : splices_of base (b.unsealed ++ event.edit ∷ []) ≡ m.unsealed ++ s ∷ []
+  unfolding base
+  unsealed_is =
+      splices-push base b.unsealed event.edit
+      ∙ ap (λ (ss : List Splice). ss ++ splice_of (fold lines_after base b.unsealed) event.edit ∷ []) is.unsealed
+      ∙ ap (λ (t : List (List ℕ)). m.unsealed ++ splice_of t event.edit ∷ []) (sym is.since)
+      ∙ ap (λ (t : Splice). m.unsealed ++ t ∷ []) (splice_is b later s event sp)
+
+  since_is : later.text ≡ fold lines_after base (b.unsealed ++ event.edit ∷ [])
+  unfolding base
+  since_is =
+      sp.edit.lines
+      ∙ ap (λ (t : List (List ℕ)). lines_after t event.edit) is.since
+      ∙ sym (fold-append lines_after base b.unsealed (event.edit ∷ []))
 
   -- the marks were moved by the splice
   moved_are : IsInOrder (map (move (flat b.text) s) b.marks.marks) later.marks.marks
@@ -242,7 +243,7 @@ module _ (b later : Content) (s : Splice) (event : Spliced) (m : ModelBuffer) (s
     since = since_is ∙ sym (ap (λ (c : Content). fold lines_after (text_at c.undo c.undo.current) c.unsealed) sp.edit.kept);
     edits =
         subst (λ (c : Content). AreEditsOf (text_at c.undo c.undo.current) c.unsealed) (sym sp.edit.kept)
-        (edits-push base b.unsealed b.text event.edit is.since is.edits edit_is);
+        (edits-push base b.unsealed b.text event.edit is.since is.edits (edit_is b later s event sp));
     changes = subst (λ (u : Undo (List Edit)). (n : ℕ) (es : List Edit) → change_of u n ≡ Some es → IsChangeOf (text_at u (origin u n)) es)
         (sym (ap (λ (c : Content). c.undo) sp.edit.kept)) is.changes;
     name = ap (λ (c : Content). c.name) sp.edit.kept ∙ is.name;
@@ -260,7 +261,7 @@ module _ (b later : Content) (s : Splice) (event : Spliced) (m : ModelBuffer) (s
       let last : event.edit.last ≡ row_behind (text_of m) s = sp.last ∙ ap (λ (t : List ℕ). row_behind t s) is.text in
       let before : b.text ≡ lines_of (text_of m) = sym (lines_of-flat b.text is.lines) ∙ ap lines_of is.text in
       let after : splice b.text event.edit.first event.edit.last event.edit.lines ≡ lines_of (text_after (text_of m) s) =
-      sym sp.edit.lines ∙ sym (lines_of-flat later.text sp.lines) ∙ ap lines_of (flat_is ∙ ap (λ (t : List ℕ). text_after t s) is.text) in
+      sym sp.edit.lines ∙ sym (lines_of-flat later.text sp.lines) ∙ ap lines_of (flat_is b later s event sp ∙ ap (λ (t : List ℕ). text_after t s) is.text) in
       let put : take (length (splice b.text event.edit.first event.edit.last event.edit.lines) - (length b.text - event.edit.last) - event.edit.first) (drop event.edit.first (splice b.text event.edit.first event.edit.last event.edit.lines)) ≡ event.edit.lines =
       lines_put b.text event.edit.lines event.edit.first event.edit.last sp.order sp.within in
       let lines = sym put ∙ read before after first last in

@@ -73,7 +73,7 @@ pub length-splices : (t : List (List ℕ)) (es : List Edit) → length (splices_
 length-splices t [] = refl
 length-splices t (e ∷ es) = ap (λ n. suc n) (length-splices (lines_after t e) es)
 
-length-inverses : (text : List ℕ) (ss : List Splice) → length (inverse_splices text ss) ≡ length ss
+pub length-inverses : (text : List ℕ) (ss : List Splice) → length (inverse_splices text ss) ≡ length ss
 length-inverses text [] = refl
 length-inverses text (s ∷ ss) =
     omega (arith, length-inverses (text_after text s) ss, length-append (inverse_splices (text_after text s) ss) (inverse_splice text s ∷ []))

@@ -8,3 +8,6 @@ pub mod Answers
 pub mod Standing
 pub mod Laws
 pub mod Keeping
+pub mod Answering
+pub mod Rows
+pub mod Deleting
