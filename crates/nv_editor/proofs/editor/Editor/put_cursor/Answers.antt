@@ -1,0 +1,12 @@
+use Rattle.std.proofs.Common.{◌≡◌, ◌∙◌, ap, sym, subst, rules}
+use Rattle.nv_model.specs.Stage.{Stage, in_workspace}
+use Rattle.nv_model.specs.Standing.{PresentEditor}
+use Rattle.nv_windows.specs.Operations.{with_cursor}
+use Rattle.nv_editor.proofs.WindowsKept.{windows_sound, cursor_shown}
+use Rattle.nv_editor.proofs.editor.Editor.put_cursor.Goals as goal
+
+pub invariant_of-self : goal.invariant_of-self
+invariant_of-self c =
+    let e : PresentEditor = record { buffers = c.self.inside.buffers; stage = c.self.inside.stage } in
+    let put : c.put_cursor.new.self ≡ in_workspace (with_cursor c.args.window c.args.pos) e.stage = search rules in
+    (windows_sound e.buffers e.stage c.put_cursor.new.self (with_cursor c.args.window c.args.pos) c.self.invariant.0 put c.put_cursor.ensures.sound (cursor_shown e e.stage.workspace c.args.window c.args.pos c.self.invariant.0.workspace c.self.invariant.0.shown (search rules)), c.self.invariant.1)

@@ -1,0 +1,7 @@
+pub mod Doing
+pub mod Sound
+pub mod Facts
+pub mod Light
+pub mod Namespaces
+pub mod Closing
+pub mod inside
