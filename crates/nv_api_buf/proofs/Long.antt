@@ -1,5 +1,5 @@
 -- Lemmas on lines that are too long, and on those that join what stands before and behind them.
-use Rattle.std.proofs.Common.{◌≡◌, ℕ, zero, suc, ◌+◌, ◌<◌, ◌≤◌, Bool, true, false, ◌||◌, List, [], ◌∷◌, length, take, get_or, All, Some, slice_get, refl, sym, ap, ap₂, ◌∙◌, arith}
+use Rattle.std.proofs.Common.{◌≡◌, ℕ, zero, suc, ◌+◌, ◌^◌, ◌<◌, ◌≤◌, Bool, true, false, ◌||◌, List, [], ◌∷◌, length, take, get_or, All, Some, slice_get, refl, sym, ap, ap₂, ◌∙◌, arith}
 use Rattle.std.proofs.lemmas.Bool.{false≢true}
 use Rattle.std.proofs.lemmas.Bool.Decides.{nat_tests}
 use Rattle.std.proofs.lemmas.List.{take_more, take_all}
@@ -9,8 +9,7 @@ use Rattle.std.proofs.lemmas.Option.{get_or_from_slice_get}
 use Rattle.std.specs.List.{list_any}
 use Rattle.nv_buffer.specs.Splices.{IsNarrowLine, with_front, with_back}
 use Rattle.nv_buffer.proofs.Between.{length-between}
-use Rattle.nv_api_buf.specs.Limits.{is_too_long}
-use Rattle.nv_api_buf.specs.inside.Parts.{joined_line}
+use Rattle.nv_api_buf.specs.inside.Parts.{joined_line, is_longer}
 use Rattle.nv_api_buf.proofs.Between.{joined-at}
 
 pub or_false : (a b : Bool) → a || b ≡ false → (a ≡ false) × (b ≡ false)
@@ -22,30 +21,30 @@ or_true true b e = refl
 or_true false b e = e
 
 -- one more line that isn't too long
-pub long-more : (lines : List (List ℕ)) (k : ℕ) → k < length lines → list_any is_too_long (take k lines) ≡ false
-    → is_too_long (get_or lines k []) ≡ false → list_any is_too_long (take (k + 1) lines) ≡ false
-long-more lines k h before this =
-    ap (list_any is_too_long) (take_more lines k [] h)
-    ∙ list_any-append is_too_long (take k lines) (get_or lines k [] ∷ [])
+pub long-more : (most : ℕ) (lines : List (List ℕ)) (k : ℕ) → k < length lines → list_any (is_longer most) (take k lines) ≡ false
+    → is_longer most (get_or lines k []) ≡ false → list_any (is_longer most) (take (k + 1) lines) ≡ false
+long-more most lines k h before this =
+    ap (list_any (is_longer most)) (take_more lines k [] h)
+    ∙ list_any-append (is_longer most) (take k lines) (get_or lines k [] ∷ [])
     ∙ ap₂ (λ a b. a || (b || false)) before this
 
 -- one that is too long
-pub long-found : (lines : List (List ℕ)) (k : ℕ) → k < length lines → is_too_long (get_or lines k []) ≡ true → true ≡ list_any is_too_long lines
-long-found [] k h e = absurd (omega arith)
-long-found (line ∷ lines) zero h e = sym (ap (λ b. b || list_any is_too_long lines) e)
-long-found (line ∷ lines) (suc k) h e = sym (or_true (is_too_long line) (list_any is_too_long lines) (sym (long-found lines k (omega arith) e)))
+pub long-found : (most : ℕ) (lines : List (List ℕ)) (k : ℕ) → k < length lines → is_longer most (get_or lines k []) ≡ true → true ≡ list_any (is_longer most) lines
+long-found most [] k h e = absurd (omega arith)
+long-found most (line ∷ lines) zero h e = sym (ap (λ b. b || list_any (is_longer most) lines) e)
+long-found most (line ∷ lines) (suc k) h e = sym (or_true (is_longer most line) (list_any (is_longer most) lines) (sym (long-found most lines k (omega arith) e)))
 
 -- none is where none of as many as there are is
-pub long-none : (lines : List (List ℕ)) (k : ℕ) → length lines ≤ k → list_any is_too_long (take k lines) ≡ false → false ≡ list_any is_too_long lines
-long-none lines k h none = sym (ap (list_any is_too_long) (sym (take_all k lines h)) ∙ none)
+pub long-none : (most : ℕ) (lines : List (List ℕ)) (k : ℕ) → length lines ≤ k → list_any (is_longer most) (take k lines) ≡ false → false ≡ list_any (is_longer most) lines
+long-none most lines k h none = sym (ap (list_any (is_longer most)) (sym (take_all k lines h)) ∙ none)
 
 -- lines of which none is too long are narrow
-pub short-narrow : (lines : List (List ℕ)) → list_any is_too_long lines ≡ false → All IsNarrowLine lines
-short-narrow [] none = All-nil IsNarrowLine
-short-narrow (line ∷ lines) none =
-    let parts = or_false (is_too_long line) (list_any is_too_long lines) none in
-    let here : length line ≤ 16777216 = let e : is_too_long line ≡ false = parts.0 in grind (arith, nat_tests) in
-    All-cons IsNarrowLine line lines (omega arith) (short-narrow lines parts.1)
+pub short-narrow : (most : ℕ) (lines : List (List ℕ)) → most < 2 ^ 32 → list_any (is_longer most) lines ≡ false → All IsNarrowLine lines
+short-narrow most [] few none = All-nil IsNarrowLine
+short-narrow most (line ∷ lines) few none =
+    let parts = or_false (is_longer most line) (list_any (is_longer most) lines) none in
+    let here : length line ≤ most = let e : is_longer most line ≡ false = parts.0 in grind (arith, nat_tests) in
+    All-cons IsNarrowLine line lines (omega arith) (short-narrow most lines few parts.1)
 
 -- the line that is got from a list
 pub line-is : (lines : List (List ℕ)) (k : ℕ) (line : List ℕ) → Some line ≡ slice_get lines k → get_or lines k [] ≡ line

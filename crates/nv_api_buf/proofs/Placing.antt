@@ -1,14 +1,15 @@
 -- Lemmas on the places that two numbers name.
-use Rattle.std.proofs.Common.{◌≡◌, ℕ, suc, ℤ, pos, negsuc, ◌-◌, ◌^◌, ◌<◌, ◌≤◌, Bool, true, false, cond, List, [], length, Some, None, Ok, Err, slice_get, refl, sym, ap, ◌∙◌, arith, Option}
+use Rattle.std.proofs.Common.{◌≡◌, ℕ, suc, ℤ, pos, negsuc, ◌-◌, ◌^◌, ◌<◌, ◌≤◌, Bool, true, false, cond, List, [], length, Some, None, slice_get, refl, sym, ap, ◌∙◌, arith, Option}
 use Rattle.std.proofs.lemmas.List.Elements.{All-get_or}
 use Rattle.std.proofs.lemmas.Option.{slice_get_within}
 use Rattle.std.proofs.lemmas.Bool.Decides.{nat_tests}
 use Rattle.std.specs.Prelude.{nat_lt}
 use Rattle.nv_places.specs.Flat.{line_at}
 use Rattle.nv_buffer.specs.Splices.{IsInLine, IsNarrowLine, IsNarrowText}
-use Rattle.nv_args.specs.Arguments.{text_row, text_col, require, answer_after}
-use Rattle.nv_args.specs.Faults.{out_of_bounds}
-use Rattle.nv_api_buf.specs.Text.{place_in}
+use Rattle.std.specs.Prelude.{option_map, option_and_then}
+use Rattle.nv_args.specs.Arguments.{text_row, text_col}
+use Rattle.nv_places.specs.declared.place.Pos.{Pos}
+use Rattle.nv_api_buf.specs.Texts.{place_in_row, place_named}
 use Rattle.nv_api_buf.proofs.Long.{line-is}
 
 row-some : (b : Bool) (r n k : ℕ) → nat_lt k n ≡ b → Some r ≡ cond b (Some (n - suc k)) None → r < n
@@ -39,12 +40,11 @@ col-within (negsuc k) n c e = col-some (nat_lt n k) c n k refl e
 
 -- the place that is named
 pub place-is : (lines : List (List ℕ)) (row col : ℤ) (r c : ℕ) (line : List ℕ) → Some r ≡ text_row row (length lines) → Some line ≡ slice_get lines r
-    → Some c ≡ text_col col (length line) → place_in row col lines ≡ Ok (record { row = r; col = c })
+    → Some c ≡ text_col col (length line) → Some (record { row = r; col = c }) ≡ place_named lines row col
 place-is lines row col r c line p q e =
-    let bytes : ℕ → ℕ = λ k. length (line_at lines k) in
-    let found : Some c ≡ text_col col (bytes r) = e ∙ ap (λ (l : List ℕ). text_col col (length l)) (sym (line-is lines r line q)) in
-    ap (λ (o : Option ℕ). answer_after {A = ℕ × ℕ} (require o out_of_bounds (λ k. require (text_col col (bytes k)) out_of_bounds (λ m. Ok (k, m)))) (λ place. Ok (record { row = place.0; col = place.1 }))) (sym p)
-    ∙ ap (λ (o : Option ℕ). answer_after {A = ℕ × ℕ} (require o out_of_bounds (λ m. Ok (r, m))) (λ place. Ok (record { row = place.0; col = place.1 }))) (sym found)
+    let found : Some c ≡ text_col col (length (line_at lines r)) = e ∙ ap (λ (l : List ℕ). text_col col (length l)) (sym (line-is lines r line q)) in
+    ap (option_map (λ (k : ℕ). let q : Pos = record { row = r; col = k } in q)) found
+    ∙ ap (λ (o : Option ℕ). option_and_then (place_in_row lines col) o) p
 
 pub place-within : (lines : List (List ℕ)) (row col : ℤ) (r c : ℕ) (line : List ℕ) → Some r ≡ text_row row (length lines) → Some line ≡ slice_get lines r
     → Some c ≡ text_col col (length line) → IsInLine lines (record { row = r; col = c })
@@ -55,12 +55,11 @@ place-within lines row col r c line p q e = record {
 
 -- a row that is named, and no column of it
 pub place-none : (lines : List (List ℕ)) (row col : ℤ) (r : ℕ) (line : List ℕ) → Some r ≡ text_row row (length lines) → Some line ≡ slice_get lines r
-    → None ≡ text_col col (length line) → place_in row col lines ≡ Err out_of_bounds
+    → None ≡ text_col col (length line) → None ≡ place_named lines row col
 place-none lines row col r line p q e =
-    let bytes : ℕ → ℕ = λ k. length (line_at lines k) in
-    let found : None ≡ text_col col (bytes r) = e ∙ ap (λ (l : List ℕ). text_col col (length l)) (sym (line-is lines r line q)) in
-    ap (λ (o : Option ℕ). answer_after {A = ℕ × ℕ} (require o out_of_bounds (λ k. require (text_col col (bytes k)) out_of_bounds (λ m. Ok (k, m)))) (λ place. Ok (record { row = place.0; col = place.1 }))) (sym p)
-    ∙ ap (λ (o : Option ℕ). answer_after {A = ℕ × ℕ} (require o out_of_bounds (λ m. Ok (r, m))) (λ place. Ok (record { row = place.0; col = place.1 }))) (sym found)
+    let found : None ≡ text_col col (length (line_at lines r)) = e ∙ ap (λ (l : List ℕ). text_col col (length l)) (sym (line-is lines r line q)) in
+    ap (option_map (λ (k : ℕ). let q : Pos = record { row = r; col = k } in q)) found
+    ∙ ap (λ (o : Option ℕ). option_and_then (place_in_row lines col) o) p
 
 -- a column of a narrow line fits 32 bits
 pub col-narrow : (lines : List (List ℕ)) (col : ℤ) (r c : ℕ) (line : List ℕ) → IsNarrowText lines → Some line ≡ slice_get lines r → Some c ≡ text_col col (length line) → c < 2 ^ 32

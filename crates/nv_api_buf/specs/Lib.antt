@@ -1,6 +1,10 @@
-pub mod Limits
-pub mod Counts
-pub mod Lines
-pub mod Text
+pub mod Texts
+pub mod TextRows
+pub mod BufferRows
+pub mod OptionRows
 pub mod Commands
+pub mod CommandRows
+pub mod Metadata
+pub mod Rows
+pub mod Laws
 pub mod inside

@@ -1,23 +1,33 @@
-//! The commands, and the method that runs one.
-ghost use Rattle.std.specs.Prelude.{◌≡◌, ◌+ℤ◌, ◌≤ℤ◌, ◌≤◌, pos, map, nat_lt, length, IfOk};
-ghost use Rattle.nv_value.specs.View.{content, contents};
+//! The commands, and the method that runs one (help: nvim_command()).
+ghost use Rattle.std.specs.Prelude.{◌≡◌, ◌≤◌, ◌≤ℤ◌, ◌+ℤ◌, ℕ, ℤ, pos, [], ◌∷◌, ◌^◌, ◌<◌, true, false, nat_lt, length, option_map, IfOk, IfSome};
+ghost use Rattle.nv_value.specs.View.{content};
+ghost use Rattle.nv_msgpack.specs.Shortest.{HasSpelling};
 ghost use Rattle.nv_undo.specs.Tree.{last};
-ghost use Rattle.nv_buffer.specs.Content.{after_seal};
-ghost use Rattle.nv_args.specs.Refusals.{Meets, RefusedKeeps};
-ghost use Rattle.nv_args.specs.Weight.{AreLight, weights};
-ghost use Rattle.nv_api_buf.specs.Limits.{may_move};
-ghost use Rattle.nv_api_buf.specs.Commands.{order_in, words_argument, order_argument, buffer_after_order, command};
+ghost use Rattle.nv_undo.specs.Ways.{undo_legs, redo_legs, legs_to};
+ghost use Rattle.nv_args.specs.Args.{typed_arguments};
 ghost use Rattle.nv_args.specs.Texts.{decimal_number};
+ghost use Rattle.nv_model.specs.Answers.{Answer};
+ghost use Rattle.nv_model.specs.Seen.{sealed_undo};
+ghost use Rattle.nv_model.specs.Standing.{seen_now, seen_buffer_now};
+ghost use Rattle.nv_editor.specs.Doing.{GivesAnswer};
+ghost use Rattle.nv_editor.specs.Light.{AreLightArgs};
+ghost use Rattle.nv_editor.specs.Sound.{content_at, is_live_buffer};
+ghost use Rattle.nv_api_buf.specs.Commands.{command_of, undo_number, undo, redo, undo_to, tabnew, tabclose};
+ghost use Rattle.nv_api_buf.specs.CommandRows.{command_answer, legs_answer, nvim_command, no_tab_left, tabs_are_full};
+ghost use Rattle.nv_api_buf.specs.inside.Deciding.{Leaves};
+ghost use Rattle.nv_api_buf.specs.inside.Orders.{command_told, unless_moved, unless_tabs_full};
 
+use crate::buffers::are_full;
+use crate::finding::{Live, buffer_at, live_of};
 use crate::limits::tick_passes;
+use crate::options::name_given;
 use nv_args::{
-    Fail, check_count, limit_reached, not_modifiable, out_of_bounds, string_argument, unknown_name,
+    Args, Fail, last_one, limit_reached, no_id_left, not_modifiable, out_of_bounds, unknown_name,
 };
-use nv_buffer::Buffer;
-use nv_value::{Bytes, Items};
-use std::alloc::Global;
+use nv_editor::{Editor, Happened};
+use nv_value::Value;
 
-/// A command (Neovim help `undo-commands`).
+/// A command (help: undo-commands, :tabnew, :tabclose).
 #[derive(Clone, Copy)]
 pub enum Order {
     /// Back to the parent of the current change.
@@ -26,6 +36,8 @@ pub enum Order {
     Redo,
     /// To the change of this number; 0 is the text at first.
     UndoTo(u64),
+    Tabnew,
+    Tabclose,
 }
 
 // The number that 1 to 18 decimal digits write.
@@ -45,16 +57,10 @@ fn number_of(digits: &[u8]) -> Option<u64>
     Some(number)
 }
 
-/// The command that a text is.
-pub fn order_of(words: &[u8]) -> Option<Order>
-    ensures { result ≡ order_in words.now }
+// The command of `undo N`.
+fn undo_order(words: &[u8]) -> Option<Order>
+    ensures { option_map command_told result ≡ undo_number words.now }
 {
-    if words == b"undo".as_slice() {
-        return Some(Order::Undo);
-    }
-    if words == b"redo".as_slice() {
-        return Some(Order::Redo);
-    }
     match words.strip_prefix(b"undo ".as_slice()) {
         Some(digits) => match number_of(digits) {
             Some(number) => Some(Order::UndoTo(number)),
@@ -64,97 +70,202 @@ pub fn order_of(words: &[u8]) -> Option<Order>
     }
 }
 
-// Refuses so many splices that undo or redo where the buffer isn't modifiable, and where they would
-// pass the greatest changedtick.
-fn may_move(alloc: Global, buffer: &Buffer, splices: u64) -> Result<(), Fail>
-    ensures row { Meets (λ _. buffer.now) result (may_move splices buffer.now) }
-    ensures tick { IfOk result (λ _. (buffer.now.tick +ℤ pos splices) ≤ℤ i64.MAX) }
+// The command that a text is.
+pub(crate) fn order_of(words: &[u8]) -> Option<Order>
+    ensures { option_map command_told result ≡ command_of words.now }
 {
-    let tick = buffer.tick();
+    if words == b"undo".as_slice() {
+        return Some(Order::Undo);
+    }
+    if words == b"redo".as_slice() {
+        return Some(Order::Redo);
+    }
+    if words == b"tabnew".as_slice() {
+        return Some(Order::Tabnew);
+    }
+    if words == b"tabclose".as_slice() {
+        return Some(Order::Tabclose);
+    }
+    undo_order(words)
+}
+
+// Refuses so many splices of undo commands where the buffer isn't modifiable, and where they would
+// pass the greatest changedtick. No splice is never refused.
+fn may_move(editor: &Editor, live: Live, splices: u64) -> Result<(), Fail>
+    requires { is_live_buffer editor.now live.handle ≡ true }
+    ensures row { (answer : Answer) → Leaves (unless_moved editor.now.stage.limits
+        (seen_buffer_now (content_at editor.now live.handle)) splices answer) (λ _. answer) result }
+    ensures tick { IfOk result
+        (λ _. ((content_at editor.now live.handle).tick +ℤ pos splices) ≤ℤ i64.MAX) }
+{
+    let buffer = buffer_at(editor, live);
+    let _tick = buffer.tick();
     if splices == 0 {
         return Ok(());
     }
     if !buffer.modifiable() {
-        return Err(not_modifiable(alloc));
+        return Err(not_modifiable(editor.alloc()));
     }
-    if tick_passes(tick, splices) {
-        return Err(limit_reached(alloc));
+    if tick_passes(editor.limits(), buffer, splices) {
+        return Err(limit_reached(editor.alloc()));
     }
     Ok(())
 }
 
-// Whether a number lies above the last change, once the edits since then are one.
-fn is_past(buffer: &Buffer, number: u64) -> bool
-    ensures { result ≡ nat_lt (last (after_seal buffer.now).undo) number }
+fn go_back(editor: &mut Editor, live: Live, happened: &mut Happened) -> Result<Value, Fail>
+    requires { is_live_buffer editor.old live.handle ≡ true }
+    ensures row { let b = seen_buffer_now (content_at editor.old live.handle) in
+        GivesAnswer (legs_answer (seen_now editor.old) live.handle b (undo_legs (sealed_undo b)))
+        result editor.old editor.new happened.old happened.new }
+    ensures spelled { IfOk result (λ value. HasSpelling (content value)) }
 {
-    if buffer.unsealed_len() == 0 {
-        number > buffer.changes()
+    may_move(editor, live, editor.cost_back(live.handle))?;
+    editor.undo(live.handle, happened)?;
+    Ok(Value::Nil)
+}
+
+fn go_ahead(editor: &mut Editor, live: Live, happened: &mut Happened) -> Result<Value, Fail>
+    requires { is_live_buffer editor.old live.handle ≡ true }
+    ensures row { let b = seen_buffer_now (content_at editor.old live.handle) in
+        GivesAnswer (legs_answer (seen_now editor.old) live.handle b (redo_legs (sealed_undo b)))
+        result editor.old editor.new happened.old happened.new }
+    ensures spelled { IfOk result (λ value. HasSpelling (content value)) }
+{
+    may_move(editor, live, editor.cost_ahead(live.handle))?;
+    editor.redo(live.handle, happened)?;
+    Ok(Value::Nil)
+}
+
+// Goes to a change by its number, which is one of the buffer.
+fn go_to(
+    editor: &mut Editor,
+    live: Live,
+    number: u64,
+    happened: &mut Happened,
+) -> Result<Value, Fail>
+    requires live { is_live_buffer editor.old live.handle ≡ true }
+    requires within { number
+        ≤ last (sealed_undo (seen_buffer_now (content_at editor.old live.handle))) }
+    ensures row { let b = seen_buffer_now (content_at editor.old live.handle) in
+        GivesAnswer (legs_answer (seen_now editor.old) live.handle b
+        (legs_to number (sealed_undo b))) result editor.old editor.new happened.old happened.new }
+    ensures spelled { IfOk result (λ value. HasSpelling (content value)) }
+{
+    may_move(editor, live, editor.cost_to(live.handle, number))?;
+    editor.undo_to(live.handle, number, happened)?;
+    Ok(Value::Nil)
+}
+
+// Refuses a further tabpage where a handle is wanting, and where it would pass a limit.
+fn may_make_tab(editor: &Editor) -> Result<(), Fail>
+    ensures row { (answer : Answer) → Leaves (unless_tabs_full (seen_now editor.now) answer)
+        (λ _. answer) result }
+    ensures room { IfOk result (λ _. no_tab_left editor.now.stage ≡ false) }
+{
+    let windows = editor.windows();
+    if !editor.handle_left() || !windows.window_left() || !windows.tabpage_left() {
+        return Err(no_id_left(editor.alloc()));
+    }
+    if are_full(editor) || windows.windows().len() >= editor.limits().windows as usize {
+        return Err(limit_reached(editor.alloc()));
+    }
+    Ok(())
+}
+
+// Makes a tabpage with a new buffer.
+fn make_tab(editor: &mut Editor, happened: &mut Happened) -> Result<Value, Fail>
+    ensures row { GivesAnswer (command_answer (seen_now editor.old) tabnew) result
+        editor.old editor.new happened.old happened.new }
+    ensures spelled { IfOk result (λ value. HasSpelling (content value)) }
+{
+    let _ = happened.len();
+    may_make_tab(editor)?;
+    let Some(buffer) = editor.make_buffer(true)? else {
+        return Err(Fail::NoMemory);
+    };
+    editor.make_tab(buffer)?;
+    Ok(Value::Nil)
+}
+
+// Closes the current tabpage.
+fn close_tab(editor: &mut Editor, happened: &mut Happened) -> Result<Value, Fail>
+    ensures row { GivesAnswer (command_answer (seen_now editor.old) tabclose) result
+        editor.old editor.new happened.old happened.new }
+    ensures spelled { IfOk result (λ value. HasSpelling (content value)) }
+{
+    let _ = happened.len();
+    if editor.close_tab() {
+        Ok(Value::Nil)
     } else {
-        number > 0 && number - 1 > buffer.changes()
+        Err(last_one(editor.alloc()))
     }
 }
 
-fn undo_to(alloc: Global, number: u64, buffer: &mut Buffer) -> Result<(), Fail>
-    ensures row { Meets (λ _. buffer.new) result
-        (buffer_after_order (Order.UndoTo number) buffer.old) }
-    ensures kept { RefusedKeeps result buffer.new buffer.old }
+// The three undo commands, for the current buffer.
+fn undo_current(editor: &mut Editor, happened: &mut Happened) -> Result<Value, Fail>
+    ensures row { GivesAnswer (command_answer (seen_now editor.old) undo) result
+        editor.old editor.new happened.old happened.new }
+    ensures spelled { IfOk result (λ value. HasSpelling (content value)) }
 {
-    if is_past(buffer, number) {
-        return Err(out_of_bounds(alloc));
-    }
-    may_move(alloc, buffer, buffer.cost_to(number))?;
-    buffer.undo_to(number)?;
-    Ok(())
+    let live = live_of(editor, 0)?;
+    go_back(editor, live, happened)
 }
 
-/// Runs a command. Where it is refused the buffer stays as it was.
-pub fn obey(alloc: Global, order: Order, buffer: &mut Buffer) -> Result<(), Fail>
-    ensures row { Meets (λ _. buffer.new) result (buffer_after_order order buffer.old) }
-    ensures kept { RefusedKeeps result buffer.new buffer.old }
+fn redo_current(editor: &mut Editor, happened: &mut Happened) -> Result<Value, Fail>
+    ensures row { GivesAnswer (command_answer (seen_now editor.old) redo) result
+        editor.old editor.new happened.old happened.new }
+    ensures spelled { IfOk result (λ value. HasSpelling (content value)) }
+{
+    let live = live_of(editor, 0)?;
+    go_ahead(editor, live, happened)
+}
+
+fn undo_current_to(editor: &mut Editor, number: u64, happened: &mut Happened) -> Result<Value, Fail>
+    ensures row { GivesAnswer (command_answer (seen_now editor.old) (undo_to number)) result
+        editor.old editor.new happened.old happened.new }
+    ensures spelled { IfOk result (λ value. HasSpelling (content value)) }
+{
+    let live = live_of(editor, 0)?;
+    if number > editor.changes(live.handle) {
+        return Err(out_of_bounds(editor.alloc()));
+    }
+    go_to(editor, live, number, happened)
+}
+
+// Runs a command.
+pub(crate) fn obey(
+    editor: &mut Editor,
+    order: Order,
+    happened: &mut Happened,
+) -> Result<Value, Fail>
+    ensures row { GivesAnswer (command_answer (seen_now editor.old) (command_told order)) result
+        editor.old editor.new happened.old happened.new }
+    ensures spelled { IfOk result (λ value. HasSpelling (content value)) }
 {
     match order {
-        Order::Undo => {
-            may_move(alloc, buffer, buffer.cost_back())?;
-            buffer.undo()?;
-            Ok(())
-        }
-        Order::Redo => {
-            may_move(alloc, buffer, buffer.cost_ahead())?;
-            buffer.redo()?;
-            Ok(())
-        }
-        Order::UndoTo(number) => undo_to(alloc, number, buffer),
+        Order::Undo => undo_current(editor, happened),
+        Order::Redo => redo_current(editor, happened),
+        Order::UndoTo(number) => undo_current_to(editor, number, happened),
+        Order::Tabnew => make_tab(editor, happened),
+        Order::Tabclose => close_tab(editor, happened),
     }
 }
 
-// The text of a call of `nvim_command`.
-fn words_argument(alloc: Global, params: Items) -> Result<Bytes, Fail>
-    ensures row { Meets (λ words. words) result (words_argument (map content params.items)) }
-    ensures light { IfOk result (λ words. length words ≤ weights (contents params.items)) }
+/// `nvim_command`: runs one of the known commands. Any other text is refused.
+pub fn nvim_command(
+    editor: &mut Editor,
+    args: &Args,
+    happened: &mut Happened,
+) -> Result<Value, Fail>
+    requires { AreLightArgs (typed_arguments args.now) }
+    ensures row { (session : ℕ) → GivesAnswer (nvim_command (seen_now editor.old) session
+        (typed_arguments args.now)) result editor.old editor.new happened.old happened.new }
+    ensures spelled { IfOk result (λ value. HasSpelling (content value)) }
 {
-    check_count(alloc, 1, params.as_slice())?;
-    string_argument(alloc, "nvim_command", params, 0)
-}
-
-// The command of a call of `nvim_command`.
-fn order_argument(alloc: Global, params: Items) -> Result<Order, Fail>
-    requires { AreLight (contents params.items) }
-    ensures { Meets (λ order. order) result (order_argument (map content params.items)) }
-{
-    let words = words_argument(alloc, params)?;
-    match order_of(words.as_slice()) {
-        Some(order) => Ok(order),
-        None => Err(unknown_name(alloc, words.as_slice())),
+    let _ = happened.len();
+    let words = name_given(args);
+    match order_of(words) {
+        Some(order) => obey(editor, order, happened),
+        None => Err(unknown_name(editor.alloc(), words)),
     }
-}
-
-/// `nvim_command`: undoes or redoes changes. Where the call is refused the buffer stays as it was;
-/// where memory is wanting some of the splices may have been made.
-pub fn nvim_command(alloc: Global, params: Items, buffer: &mut Buffer) -> Result<(), Fail>
-    requires { AreLight (contents params.items) }
-    ensures row { Meets (λ _. buffer.new) result (command (map content params.items) buffer.old) }
-    ensures kept { RefusedKeeps result buffer.new buffer.old }
-{
-    let order = order_argument(alloc, params)?;
-    obey(alloc, order, buffer)
 }

@@ -1,72 +1,54 @@
 //! The methods on whole lines.
-ghost use Rattle.std.specs.Prelude.{◌≡◌, ◌≤◌, ◌<◌, ◌^◌, ◌+◌, ◌↔◌, [], map, length, slice_range, IsTrue, IfOk, OnErr};
+ghost use Rattle.std.specs.Prelude.{◌≡◌, ◌≤◌, ℕ, true, length, slice_range, IfOk};
 ghost use Rattle.nv_value.specs.Content.{list};
 ghost use Rattle.nv_value.specs.View.{content, contents};
 ghost use Rattle.nv_msgpack.specs.Shortest.{HasSpelling};
 ghost use Rattle.nv_buffer.specs.Splices.{IsNarrowText};
-ghost use Rattle.nv_buffer.specs.Changes.{rows_edit};
-ghost use Rattle.nv_args.specs.Refusals.{Meets};
-ghost use Rattle.nv_api_buf.specs.Limits.{put_edit};
-ghost use Rattle.nv_api_buf.specs.Lines.{range_in, rows_in, get_lines, put_lines, set_arguments, set_lines};
-ghost use Rattle.nv_args.specs.Texts.{strings};
+ghost use Rattle.nv_args.specs.Args.{typed_arguments};
+ghost use Rattle.nv_args.specs.Texts.{lines_put, strings};
+ghost use Rattle.nv_model.specs.Answers.{Answer};
+ghost use Rattle.nv_model.specs.Answering.{splice_answer};
+ghost use Rattle.nv_model.specs.Buffers.{rows_splice};
+ghost use Rattle.nv_model.specs.Standing.{seen_now, seen_buffer_now};
+ghost use Rattle.nv_editor.specs.Doing.{GivesAnswer, ReadsAnswer};
+ghost use Rattle.nv_editor.specs.Sound.{content_at, is_live_buffer};
+ghost use Rattle.nv_api_buf.specs.TextRows.{nvim_buf_get_lines, nvim_buf_set_lines};
+ghost use Rattle.nv_api_buf.specs.inside.Deciding.{Leaves, unless_barred, unless_outside, lines_answer};
+ghost use Rattle.nv_api_buf.specs.inside.Ranges.{range_rows, ordered_rows};
+ghost use Rattle.nv_api_buf.specs.declared.lines.Rows.{Rows};
 
-use crate::limits::{first_handle, the_buffer};
-use crate::replacement::{left_with, lines_from, may_put};
-use nv_args::{
-    Fail, integer_argument, leaves_text, lines_argument, newline_inside, out_of_bounds,
-    row_of_index, start_after_end, truth_argument,
-};
+use crate::finding::{Live, buffer_at, live_given};
+use crate::replacement::{left_with, may_put_rows, new_lines};
+use nv_args::{Args, Fail, leaves_text, out_of_bounds, row_of_index, start_after_end};
 use nv_buffer::{Buffer, LineList, Lines};
-use nv_value::{Bytes, Items, Value};
+use nv_editor::{Editor, Happened};
+use nv_value::{Items, Value};
 use std::alloc::{AllocError, Global};
 
-/// The lines of a buffer from a start to before an end (Neovim help `api-indexing`).
+// Rows of a text: from the first to before the second.
 #[derive(Clone, Copy)]
-pub struct Range {
-    /// The buffer's handle; 0 is the current buffer.
-    pub buffer: i64,
-    /// The index of the first line, from 0, or a negative one.
-    pub start: i64,
-    /// The index behind the last line.
-    pub end: i64,
-    /// Whether an index outside the text is refused.
-    pub strict: bool,
+struct Rows {
+    from: usize,
+    to: usize,
 }
 
-// The range of a call of `method`, which has `expected` parameters.
-fn range_of(alloc: Global, method: &str, expected: usize, params: &[Value]) -> Result<Range, Fail>
-    requires some { 4 ≤ expected }
-    requires short { length method.now < 2 ^ 15 }
-    ensures { Meets (λ range. range) result
-        (range_in method.now expected (map content params.now)) }
+// The rows of a text that the range of the second to the fourth argument names.
+fn rows_of(alloc: Global, buffer: &Buffer, args: &Args) -> Result<Rows, Fail>
+    ensures row { (answer : Rows → Answer) → Leaves
+        (unless_outside (typed_arguments args.now) (length buffer.now.text)
+        (answer (range_rows (typed_arguments args.now) (length buffer.now.text)))) answer result }
+    ensures from { IfOk result (λ rows. rows.from ≤ length buffer.now.text) }
+    ensures to { IfOk result (λ rows. rows.to ≤ length buffer.now.text) }
 {
-    let buffer = first_handle(alloc, method, expected, params)?;
-    let start = integer_argument(alloc, method, params, 1)?;
-    let end = integer_argument(alloc, method, params, 2)?;
-    let strict = truth_argument(alloc, method, params, 3)?;
-    Ok(Range {
-        buffer,
-        start,
-        end,
-        strict,
-    })
-}
-
-// The rows of a range of the buffer, from the first to before the second.
-fn rows_of(alloc: Global, range: &Range, buffer: &Buffer) -> Result<(usize, usize), Fail>
-    ensures row { Meets (λ rows. (rows.0, rows.1)) result (rows_in range.now buffer.now) }
-    ensures within { IfOk result (λ rows. (rows.0 ≤ length buffer.now.text)
-        × (rows.1 ≤ length buffer.now.text)) }
-{
-    the_buffer(alloc, range.buffer, buffer)?;
     let count = buffer.text().count();
-    if leaves_text(range.strict, range.start, range.end, count) {
+    let (start, end) = (args.number(1), args.number(2));
+    if leaves_text(args.flag(3), start, end, count) {
         return Err(out_of_bounds(alloc));
     }
-    Ok((
-        row_of_index(range.start, count),
-        row_of_index(range.end, count),
-    ))
+    Ok(Rows {
+        from: row_of_index(start, count),
+        to: row_of_index(end, count),
+    })
 }
 
 // Lines as strings. They are moved, and no bytes are copied.
@@ -97,87 +79,82 @@ fn strings_of(alloc: Global, text: &Lines, from: usize, to: usize) -> Result<Ite
     Ok(items)
 }
 
-/// `nvim_buf_get_lines`: the lines of a range.
-pub fn nvim_buf_get_lines(alloc: Global, params: Items, buffer: &Buffer) -> Result<Value, Fail>
-    ensures row { Meets content result (get_lines (map content params.items) buffer.now) }
+// The lines of a range of a buffer.
+fn lines_answer(alloc: Global, buffer: &Buffer, args: &Args) -> Result<Value, Fail>
+    ensures row { ReadsAnswer (lines_answer (seen_buffer_now buffer.now) (typed_arguments args.now))
+        result }
     ensures spelled { IfOk result (λ value. HasSpelling (content value)) }
 {
-    let range = range_of(alloc, "nvim_buf_get_lines", 4, params.as_slice())?;
-    let (from, to) = rows_of(alloc, &range, buffer)?;
-    let items = strings_of(alloc, buffer.text(), from, to)?;
+    let rows = rows_of(alloc, buffer, args)?;
+    let items = strings_of(alloc, buffer.text(), rows.from, rows.to)?;
     Ok(Value::List(items))
 }
 
-// Whether no row is removed and no line put.
-fn is_nothing(from: usize, to: usize, new: &LineList) -> bool
-    ensures { IsTrue result ↔ ((from ≡ to) × (new.now ≡ [])) }
+/// `nvim_buf_get_lines`: the lines of a range, and none where its start isn't before its end.
+pub fn nvim_buf_get_lines(editor: &Editor, args: &Args) -> Result<Value, Fail>
+    ensures row { (session : ℕ) → ReadsAnswer (nvim_buf_get_lines (seen_now editor.now) session
+        (typed_arguments args.now)) result }
+    ensures spelled { IfOk result (λ value. HasSpelling (content value)) }
 {
-    from == to && new.is_empty()
+    let live = live_given(editor, args)?;
+    lines_answer(editor.alloc(), buffer_at(editor, live), args)
 }
 
-// Puts lines in place of the rows from `from` to before `to`, where that is allowed.
+// Puts lines in place of rows, where that is allowed.
 fn put_rows(
-    alloc: Global,
-    buffer: &mut Buffer,
-    from: usize,
-    to: usize,
+    editor: &mut Editor,
+    live: Live,
+    rows: Rows,
     new: LineList,
-) -> Result<(), Fail>
-    requires order { from ≤ to }
-    requires within { to ≤ length buffer.old.text }
-    requires left { to < from + length new + length buffer.old.text }
-    requires some { ¬ ((from ≡ to) × (new ≡ [])) }
-    ensures row { Meets (λ _. buffer.new) result
-        (put_edit (rows_edit buffer.old.text from to new) buffer.old) }
-    ensures kept { OnErr result (buffer.new ≡ buffer.old) }
+    happened: &mut Happened,
+) -> Result<Value, Fail>
+    requires live { is_live_buffer editor.old live.handle ≡ true }
+    requires order { rows.from ≤ rows.to }
+    requires within { rows.to ≤ length (content_at editor.old live.handle).text }
+    ensures row { let b = content_at editor.old live.handle in
+        let put = lines_put rows.from rows.to new b.text in
+        let splice = rows_splice b.text rows.from rows.to put in
+        GivesAnswer (unless_barred editor.old.stage.limits (seen_buffer_now b) splice
+        (splice_answer live.handle (seen_buffer_now b) splice)) result editor.old editor.new
+        happened.old happened.new }
+    ensures spelled { IfOk result (λ value. HasSpelling (content value)) }
 {
-    may_put(alloc, buffer, from, to, &new)?;
-    buffer.put_lines(from, to, new)?;
-    Ok(())
+    let (from, to) = (rows.from, rows.to);
+    let alloc = editor.alloc();
+    let buffer = buffer_at(editor, live);
+    let new = left_with(alloc, buffer.text(), from, to, new)?;
+    may_put_rows(alloc, editor.limits(), buffer, from, to, &new)?;
+    editor.put_lines(live.handle, from, to, new, happened)?;
+    Ok(Value::Nil)
 }
 
-// Puts lines in place of the rows from `from` to before `to`.
-fn put_lines(
-    alloc: Global,
-    buffer: &mut Buffer,
-    from: usize,
-    to: usize,
-    new: Vec<Bytes>,
-) -> Result<(), Fail>
-    requires within { (from ≤ length buffer.old.text) × (to ≤ length buffer.old.text) }
-    ensures row { Meets (λ _. buffer.new) result (put_lines from to new.items buffer.old) }
-    ensures kept { OnErr result (buffer.new ≡ buffer.old) }
+// The rows of a range of a buffer. An end before the start is refused.
+fn rows_in_order(alloc: Global, buffer: &Buffer, args: &Args) -> Result<Rows, Fail>
+    ensures row { (answer : Rows → Answer) → Leaves
+        (ordered_rows (typed_arguments args.now) (length buffer.now.text) answer) answer result }
+    ensures order { IfOk result (λ rows. rows.from ≤ rows.to) }
+    ensures within { IfOk result (λ rows. rows.to ≤ length buffer.now.text) }
 {
-    if to < from {
+    let rows = rows_of(alloc, buffer, args)?;
+    if rows.to < rows.from {
         return Err(start_after_end(alloc));
     }
-    let Some(new) = lines_from(alloc, new)? else {
-        return Err(newline_inside(alloc));
-    };
-    let new = left_with(alloc, buffer.text(), from, to, new)?;
-    if is_nothing(from, to, &new) {
-        return Ok(());
-    }
-    put_rows(alloc, buffer, from, to, new)
+    Ok(rows)
 }
 
-// The range of a call of `nvim_buf_set_lines`, and the strings of its last argument.
-fn set_arguments(alloc: Global, params: Items) -> Result<(Range, Vec<Bytes>), Fail>
-    ensures { Meets (λ found. (found.0, found.1.items)) result
-        (set_arguments (map content params.items)) }
+/// `nvim_buf_set_lines`: puts lines in place of those of a range.
+pub fn nvim_buf_set_lines(
+    editor: &mut Editor,
+    args: &mut Args,
+    happened: &mut Happened,
+) -> Result<Value, Fail>
+    ensures row { (session : ℕ) → GivesAnswer (nvim_buf_set_lines (seen_now editor.old) session
+        (typed_arguments args.old)) result editor.old editor.new happened.old happened.new }
+    ensures spelled { IfOk result (λ value. HasSpelling (content value)) }
 {
-    let range = range_of(alloc, "nvim_buf_set_lines", 5, params.as_slice())?;
-    let new = lines_argument(alloc, "nvim_buf_set_lines", params, 4)?;
-    Ok((range, new))
-}
-
-/// `nvim_buf_set_lines`: puts lines in place of a range. Where the call is refused, and where
-/// memory is wanting, the buffer stays as it was.
-pub fn nvim_buf_set_lines(alloc: Global, params: Items, buffer: &mut Buffer) -> Result<(), Fail>
-    ensures row { Meets (λ _. buffer.new) result (set_lines (map content params.items) buffer.old) }
-    ensures kept { OnErr result (buffer.new ≡ buffer.old) }
-{
-    let (range, new) = set_arguments(alloc, params)?;
-    let (from, to) = rows_of(alloc, &range, buffer)?;
-    put_lines(alloc, buffer, from, to, new)
+    let live = live_given(editor, args)?;
+    let rows = rows_in_order(editor.alloc(), buffer_at(editor, live), args)?;
+    let strings = args.take_lines(4)?;
+    let new = new_lines(editor.alloc(), strings)?;
+    put_rows(editor, live, rows, new, happened)
 }

@@ -1,20 +1,27 @@
-//! Lines that are put into a text, and whether they may be.
-ghost use Rattle.std.specs.Prelude.{◌≡◌, ◌≤◌, ◌<◌, ◌^◌, ◌+◌, ◌<ℤ◌, true, false, All, length, IfOk, IfSome, IfNone};
-ghost use Rattle.std.specs.List.{list_any, splice};
-ghost use Rattle.nv_args.specs.Refusals.{Meets};
+//! Lines that are put in place of rows, and whether they may be.
+ghost use Rattle.std.specs.Prelude.{◌≡◌, ◌≤◌, ◌<◌, ◌^◌, ◌+◌, ◌<ℤ◌, ◌↔◌, [], true, false, All, length, IfOk, IfSome, IfNone, IsTrue};
+ghost use Rattle.std.specs.List.{list_any};
+ghost use Rattle.nv_places.specs.Flat.{flat, lines_of};
 ghost use Rattle.nv_buffer.specs.Splices.{IsNarrowLine};
-ghost use Rattle.nv_api_buf.specs.Limits.{is_too_long, passes_limits, may_put};
 ghost use Rattle.nv_args.specs.Texts.{has_newline, lines_put};
+ghost use Rattle.nv_model.specs.Answers.{Answer};
+ghost use Rattle.nv_model.specs.Answering.{event_of_splice};
+ghost use Rattle.nv_model.specs.Buffers.{rows_splice, text_after};
+ghost use Rattle.nv_model.specs.Standing.{seen_buffer_now};
+ghost use Rattle.nv_api_buf.specs.Texts.{event_passes};
+ghost use Rattle.nv_api_buf.specs.inside.Parts.{is_longer};
+ghost use Rattle.nv_api_buf.specs.inside.Deciding.{Leaves, unless_barred, unless_newline};
 
-use crate::limits::{MOST_LINE_BYTES, tick_passes, too_many};
-use nv_args::{Fail, limit_reached, not_modifiable};
+use crate::limits::{any_of, tick_passes, too_many};
+use nv_args::{Fail, limit_reached, newline_inside, not_modifiable};
 use nv_buffer::{Buffer, Line, LineList, Lines};
 use nv_lines::is_line;
+use nv_model::Limits;
 use nv_value::Bytes;
 use std::alloc::{AllocError, Global};
 
-/// The strings as lines, or nothing where one of them holds a line feed.
-pub fn lines_from(alloc: Global, strings: Vec<Bytes>) -> Result<Option<LineList>, AllocError>
+// The strings as lines, or nothing where one of them holds a line feed.
+fn lines_from(alloc: Global, strings: Vec<Bytes>) -> Result<Option<LineList>, AllocError>
     ensures some { IfOk result (λ found. IfSome found
         (λ lines. (lines ≡ strings.items) × (list_any has_newline strings.items ≡ false))) }
     ensures none { IfOk result (λ found. IfNone found (list_any has_newline strings.items ≡ true)) }
@@ -27,6 +34,18 @@ pub fn lines_from(alloc: Global, strings: Vec<Bytes>) -> Result<Option<LineList>
         lines.push(Line::from_bytes(string))?;
     }
     Ok(Some(LineList::from_vec(lines)))
+}
+
+/// The strings as lines. One that holds a line feed is refused.
+pub fn new_lines(alloc: Global, strings: Vec<Bytes>) -> Result<LineList, Fail>
+    ensures row { (answer : Answer) → Leaves (unless_newline strings.items answer) (λ _. answer)
+        result }
+    ensures lines { IfOk result (λ lines. lines ≡ strings.items) }
+{
+    match lines_from(alloc, strings)? {
+        Some(lines) => Ok(lines),
+        None => Err(newline_inside(alloc)),
+    }
 }
 
 /// The lines to put in place of the rows from `from` to before `to`: one empty line where none
@@ -53,15 +72,15 @@ pub fn left_with(
     Ok(LineList::from_vec(vec![in alloc; Line::new(alloc)?]?))
 }
 
-// Whether one of the lines has more bytes than a line may have.
-fn any_too_long(lines: &LineList) -> bool
-    ensures { result ≡ list_any is_too_long lines.now }
+// Whether one of the lines has more bytes than this.
+fn any_too_long(most: u32, lines: &LineList) -> bool
+    ensures { result ≡ list_any (is_longer most) lines.now }
 {
     for place in 0..lines.len() {
         let Some(line) = lines.get(place) else {
             return false;
         };
-        if line.len() > MOST_LINE_BYTES {
+        if line.len() > most as usize {
             return true;
         }
     }
@@ -69,19 +88,41 @@ fn any_too_long(lines: &LineList) -> bool
 }
 
 // Whether lines in place of the rows from `from` to before `to` would pass a limit.
-fn passes(buffer: &Buffer, from: usize, to: usize, lines: &LineList) -> bool
+fn passes(limits: Limits, buffer: &Buffer, from: usize, to: usize, lines: &LineList) -> bool
     requires order { from ≤ to }
     requires within { to ≤ length buffer.now.text }
-    ensures { result ≡ passes_limits from to lines.now buffer.now }
+    ensures row { result ≡ event_passes limits
+        (length (lines_of (text_after (flat buffer.now.text)
+        (rows_splice buffer.now.text from to lines.now))))
+        (event_of_splice (seen_buffer_now buffer.now)
+        (rows_splice buffer.now.text from to lines.now)) }
+    ensures count { result ≡ false → from + length lines.now + length buffer.now.text
+        < to + 2 ^ 32 }
+    ensures columns { result ≡ false → All IsNarrowLine lines.now }
+    ensures tick { result ≡ false → buffer.now.tick <ℤ i64.MAX }
 {
+    buffer.known();
     let kept = buffer.text().count() - (to - from);
-    too_many(kept, lines.len()) || any_too_long(lines) || tick_passes(buffer.tick(), 1)
+    let many = lines.len();
+    any_of(
+        too_many(limits, kept, many),
+        any_too_long(limits.line_bytes, lines),
+        tick_passes(limits, buffer, 1),
+    )
+}
+
+// Whether no row is removed and no line put.
+fn is_nothing(from: usize, to: usize, new: &LineList) -> bool
+    ensures { IsTrue result ↔ ((from ≡ to) × (new.now ≡ [])) }
+{
+    from == to && new.is_empty()
 }
 
 /// Refuses lines in place of the rows from `from` to before `to` where the buffer isn't modifiable,
-/// and where they would pass a limit.
-pub fn may_put(
+/// and where they would pass a limit. No row and no line are never refused.
+pub fn may_put_rows(
     alloc: Global,
+    limits: Limits,
     buffer: &Buffer,
     from: usize,
     to: usize,
@@ -89,16 +130,22 @@ pub fn may_put(
 ) -> Result<(), Fail>
     requires order { from ≤ to }
     requires within { to ≤ length buffer.now.text }
-    ensures row { Meets (λ _. buffer.now) result (may_put from to lines.now buffer.now) }
+    ensures row { (answer : Answer) → Leaves (unless_barred limits (seen_buffer_now buffer.now)
+        (rows_splice buffer.now.text from to lines.now) answer) (λ _. answer) result }
     ensures count { IfOk result (λ _. from + length lines.now + length buffer.now.text
         < to + 2 ^ 32) }
     ensures columns { IfOk result (λ _. All IsNarrowLine lines.now) }
-    ensures tick { IfOk result (λ _. buffer.now.tick <ℤ i64.MAX) }
+    ensures tick { IfOk result (λ _. ¬ ((from ≡ to) × (lines.now ≡ []))
+        → buffer.now.tick <ℤ i64.MAX) }
 {
+    let _narrow = buffer.text();
+    if is_nothing(from, to, lines) {
+        return Ok(());
+    }
     if !buffer.modifiable() {
         return Err(not_modifiable(alloc));
     }
-    if passes(buffer, from, to, lines) {
+    if passes(limits, buffer, from, to, lines) {
         return Err(limit_reached(alloc));
     }
     Ok(())

@@ -1,21 +1,23 @@
-//! Calls of the methods, one after another on one buffer, against tables written by hand from the
+//! Calls of the methods, one after another on one editor, against a table written by hand from the
 //! documented effects of the methods and from the words of their faults. Arguments and results are
 //! spelled in MessagePack.
 
-ghost use Rattle.std.specs.Prelude.{◌<◌, ◌^◌, IfOk};
+ghost use Rattle.std.specs.Prelude.{IfOk};
 ghost use Rattle.nv_value.specs.View.{content};
 ghost use Rattle.nv_msgpack.specs.Shortest.{HasSpelling};
 
 use crate::commands::{obey, order_of};
-use crate::text::text_of;
 use crate::{
-    nvim_buf_get_changedtick, nvim_buf_get_lines, nvim_buf_get_offset, nvim_buf_line_count,
-    nvim_buf_set_lines, nvim_buf_set_text,
+    nvim_buf_attach, nvim_buf_delete, nvim_buf_get_changedtick, nvim_buf_get_lines,
+    nvim_buf_get_name, nvim_buf_get_offset, nvim_buf_get_text, nvim_buf_is_valid,
+    nvim_buf_line_count, nvim_buf_set_lines, nvim_buf_set_name, nvim_buf_set_text, nvim_create_buf,
+    nvim_get_current_buf, nvim_list_bufs, nvim_set_current_buf,
 };
-use nv_args::Fail;
-use nv_buffer::{Buffer, Pos, is_in_line};
+use nv_args::{Args, Fail, Method, method_of, read};
+use nv_editor::{Editor, Happened};
+use nv_model::Limits;
 use nv_msgpack::{Bounds, Decoded, decode, encode};
-use nv_value::{Bytes, Items, Value};
+use nv_value::{Items, Value};
 use std::alloc::{AllocError, Global};
 use std::test::Fail as Failed;
 
@@ -55,326 +57,259 @@ fn told(alloc: Global, answer: Result<Value, Fail>) -> Result<Vec<u8>, AllocErro
     }
 }
 
-// Nothing, or the words of a fault.
-fn done(alloc: Global, answer: Result<(), Fail>) -> Result<Vec<u8>, AllocError> {
-    match answer {
-        Ok(()) => Ok(Vec::new(alloc)),
-        Err(fail) => words_of(alloc, fail),
-    }
-}
-
-// What a command answers.
-fn obeyed(alloc: Global, buffer: &mut Buffer, words: &[u8]) -> Result<Vec<u8>, AllocError> {
-    match order_of(words) {
-        Some(order) => done(alloc, obey(alloc, order, buffer)),
-        None => Vec::from_slice(alloc, b"no command"),
+// What a method that reads answers.
+fn answered(
+    alloc: Global,
+    editor: &Editor,
+    method: Method,
+    args: &Args,
+) -> Result<Vec<u8>, AllocError> {
+    match method {
+        Method::ListBufs => told(alloc, nvim_list_bufs(editor, args)),
+        Method::GetCurrentBuf => told(alloc, nvim_get_current_buf(editor, args)),
+        Method::BufIsValid => told(alloc, nvim_buf_is_valid(editor, args)),
+        Method::BufGetName => told(alloc, nvim_buf_get_name(editor, args)),
+        Method::BufLineCount => told(alloc, nvim_buf_line_count(editor, args)),
+        Method::BufGetChangedtick => told(alloc, nvim_buf_get_changedtick(editor, args)),
+        Method::BufGetOffset => told(alloc, nvim_buf_get_offset(editor, args)),
+        Method::BufGetLines => told(alloc, nvim_buf_get_lines(editor, args)),
+        Method::BufGetText => told(alloc, nvim_buf_get_text(editor, args)),
+        _ => Vec::from_slice(alloc, b"another method"),
     }
 }
 
 // What a method answers.
 fn called(
     alloc: Global,
-    buffer: &mut Buffer,
-    method: &str,
+    editor: &mut Editor,
+    method: Method,
     params: &[u8],
+    happened: &mut Happened,
 ) -> Result<Vec<u8>, AllocError> {
-    let params = params_of(alloc, params)?;
+    let mut args = match read(alloc, method, params_of(alloc, params)?) {
+        Ok(args) => args,
+        Err(fail) => return words_of(alloc, fail),
+    };
     match method {
-        "line_count" => told(alloc, nvim_buf_line_count(alloc, params, buffer)),
-        "get_changedtick" => told(alloc, nvim_buf_get_changedtick(alloc, params, buffer)),
-        "get_offset" => told(alloc, nvim_buf_get_offset(alloc, params, buffer)),
-        "get_lines" => told(alloc, nvim_buf_get_lines(alloc, params, buffer)),
-        "set_lines" => done(alloc, nvim_buf_set_lines(alloc, params, buffer)),
-        _ => done(alloc, nvim_buf_set_text(alloc, params, buffer)),
+        Method::SetCurrentBuf => told(alloc, nvim_set_current_buf(editor, &args, happened)),
+        Method::CreateBuf => told(alloc, nvim_create_buf(editor, &args, happened)),
+        Method::BufDelete => told(alloc, nvim_buf_delete(editor, &args, happened)),
+        Method::BufSetName => told(alloc, nvim_buf_set_name(editor, &mut args, happened)),
+        Method::BufSetLines => told(alloc, nvim_buf_set_lines(editor, &mut args, happened)),
+        Method::BufSetText => told(alloc, nvim_buf_set_text(editor, &mut args, happened)),
+        Method::BufAttach => told(alloc, nvim_buf_attach(editor, &args, happened)),
+        _ => answered(alloc, editor, method, &args),
     }
 }
 
 // What a step answers. The edits of a step are one change.
 fn played(
     alloc: Global,
-    buffer: &mut Buffer,
-    method: &str,
+    editor: &mut Editor,
+    name: &str,
     words: &[u8],
 ) -> Result<Vec<u8>, AllocError> {
-    let answer = if method.is_empty() {
-        obeyed(alloc, buffer, words)?
-    } else {
-        called(alloc, buffer, method, words)?
+    let mut happened = Happened::new(alloc);
+    let answer = match (method_of(name.as_bytes()), order_of(words)) {
+        (Some(method), _) => called(alloc, editor, method, words, &mut happened)?,
+        (None, Some(order)) => told(alloc, obey(editor, order, &mut happened))?,
+        (None, None) => Vec::from_slice(alloc, b"no command")?,
     };
-    buffer.seal()?;
+    editor.seal_all()?;
     Ok(answer)
-}
-
-const WHOLE: &'static [u8] = b"\x94\x00\x00\xff\xc3";
-
-// Each row: a step and its answer.
-fn edits() -> &'static [Step] {
-    &[
-        ("line_count", b"\x91\x00", b"\x01"),
-        (
-            "line_count",
-            b"\x90",
-            b"Wrong number of arguments: expecting 1 but got 0",
-        ),
-        (
-            "line_count",
-            b"\x91\xa1x",
-            b"Wrong type for argument 1 when calling nvim_buf_line_count, expecting Buffer",
-        ),
-        ("line_count", b"\x91\x07", b"Invalid buffer id: 7"),
-        ("line_count", b"\x91\xd4\x00\x01", b"\x01"),
-        // A text is never empty.
-        ("set_lines", b"\x95\x00\x00\xff\xc3\x90", b""),
-        ("get_lines", WHOLE, b"\x91\xa0"),
-        ("get_changedtick", b"\x91\x00", b"\x03"),
-        // An index outside is refused where it is strict, else brought in.
-        (
-            "set_lines",
-            b"\x95\x00\x05\x09\xc3\x91\xa1x",
-            b"Index out of bounds",
-        ),
-        ("set_lines", b"\x95\x00\x05\x09\xc2\x91\xa1x", b""),
-        ("get_lines", WHOLE, b"\x92\xa0\xa1x"),
-        ("set_lines", b"\x95\x00\x00\xff\xc3\x93\xa1a\xa1b\xa1c", b""),
-        ("get_lines", b"\x94\x00\x03\x01\xc2", b"\x90"),
-        (
-            "set_lines",
-            b"\x95\x00\x03\x01\xc2\x91\xa1y",
-            b"'start' is higher than 'end'",
-        ),
-        (
-            "set_lines",
-            b"\x95\x00\x00\x01\xc3\x91\xa3a\nb",
-            b"String cannot contain newlines",
-        ),
-        // Nothing is removed and nothing put.
-        ("set_lines", b"\x95\x00\x01\x01\xc3\x90", b""),
-        ("get_changedtick", b"\x91\x00", b"\x05"),
-        ("get_offset", b"\x92\x00\x00", b"\x00"),
-        ("get_offset", b"\x92\x00\x02", b"\x04"),
-        ("get_offset", b"\x92\x00\x03", b"\x06"),
-        ("get_offset", b"\x92\x00\x04", b"Index out of bounds"),
-        ("get_offset", b"\x92\x00\xff", b"Index out of bounds"),
-        // Text is put within lines, and over them; the end row counts, the end column doesn't.
-        ("set_text", b"\x96\x00\x00\x01\x02\x00\x92\xa1x\xa2yz", b""),
-        ("get_lines", WHOLE, b"\x92\xa2ax\xa3yzc"),
-        ("set_text", b"\x96\x00\xff\x00\xff\xff\x90", b""),
-        ("get_lines", WHOLE, b"\x92\xa2ax\xa0"),
-        (
-            "set_text",
-            b"\x96\x00\x00\x03\x00\x03\x91\xa1x",
-            b"Index out of bounds",
-        ),
-        (
-            "set_text",
-            b"\x96\x00\x02\x00\x02\x00\x91\xa1x",
-            b"Index out of bounds",
-        ),
-        (
-            "set_text",
-            b"\x96\x00\x00\x02\x00\x01\x91\xa1\n",
-            b"'start' is higher than 'end'",
-        ),
-        (
-            "set_text",
-            b"\x96\x00\x01\x00\x00\x00\x91\xa1x",
-            b"'start' is higher than 'end'",
-        ),
-        (
-            "set_text",
-            b"\x96\x00\x01\x00\x00\x05\x91\xa1x",
-            b"Index out of bounds",
-        ),
-        (
-            "set_text",
-            b"\x96\x00\x00\x00\x00\x00\x91\xa1\n",
-            b"String cannot contain newlines",
-        ),
-        (
-            "set_text",
-            b"\x96\x00\x00\x00\x00\x00\xc0",
-            b"Wrong type for argument 6 when calling nvim_buf_set_text, expecting Array",
-        ),
-        ("set_text", b"\x96\x00\x00\x00\x00\x00\x91\xa0", b""),
-        ("get_changedtick", b"\x91\x00", b"\x07"),
-    ]
-}
-
-fn branches() -> &'static [Step] {
-    &[
-        ("set_lines", b"\x95\x00\x00\xff\xc3\x91\xa1a", b""),
-        ("get_changedtick", b"\x91\x00", b"\x03"),
-        ("", b"undo", b""),
-        ("get_changedtick", b"\x91\x00", b"\x04"),
-        ("set_lines", b"\x95\x00\x00\xff\xc3\x91\xa1b", b""),
-        ("get_changedtick", b"\x91\x00", b"\x05"),
-        ("", b"undo 1", b""),
-        ("get_changedtick", b"\x91\x00", b"\x07"),
-        ("get_lines", WHOLE, b"\x91\xa1a"),
-        ("", b"redo", b""),
-        ("get_changedtick", b"\x91\x00", b"\x07"),
-        ("", b"undo 0", b""),
-        ("get_changedtick", b"\x91\x00", b"\x08"),
-        ("get_lines", WHOLE, b"\x91\xa0"),
-        ("", b"redo", b""),
-        ("get_changedtick", b"\x91\x00", b"\x09"),
-        ("get_lines", WHOLE, b"\x91\xa1a"),
-        ("", b"undo 3", b"Index out of bounds"),
-        ("", b"undo 000000000000000002", b""),
-        ("get_lines", WHOLE, b"\x91\xa1b"),
-        // What is no command.
-        ("", b"undo 0000000000000000002", b"no command"),
-        ("", b"undo  1", b"no command"),
-        ("", b"undo 1 ", b"no command"),
-        ("", b"undo +1", b"no command"),
-        ("", b"undo ", b"no command"),
-        ("", b"Undo", b"no command"),
-    ]
 }
 
 // The place of the first step that answers something else.
 fn first_wrong(
     alloc: Global,
-    buffer: &mut Buffer,
+    editor: &mut Editor,
     steps: &[Step],
 ) -> Result<Option<usize>, AllocError> {
     for place in 0..steps.len() {
-        let (method, words, answer) = steps[place];
-        if played(alloc, buffer, method, words)?.as_slice() != answer {
+        let (name, words, answer) = steps[place];
+        if played(alloc, editor, name, words)?.as_slice() != answer {
             return Ok(Some(place));
         }
     }
     Ok(None)
 }
 
-#[test]
-fn calls_answer_one_after_another(rt: HostRuntime) -> Result<(), Failed> {
-    let mut buffer = Buffer::new(rt.alloc(), 1)?;
-    assert_eq!(rt; first_wrong(rt.alloc(), &mut buffer, edits())?, None);
-    Ok(())
+fn limits() -> Limits {
+    Limits {
+        lines: 4,
+        line_bytes: 4,
+        marks: 4,
+        buffers: 3,
+        windows: 2,
+        namespaces: 4,
+        groups: 4,
+        uis: 4,
+        ticks: 1_000,
+        entries: 1_000,
+    }
 }
 
-#[test]
-fn branches_are_undone_and_redone(rt: HostRuntime) -> Result<(), Failed> {
-    let mut buffer = Buffer::new(rt.alloc(), 1)?;
-    assert_eq!(rt; first_wrong(rt.alloc(), &mut buffer, branches())?, None);
-    Ok(())
-}
+const ROWS: &'static [u8] = b"\x94\x00\x00\xff\xc3";
 
-// What would change the text of a buffer that isn't modifiable is refused, and nothing else.
-fn kept() -> &'static [Step] {
+// Each row: a step and its answer.
+fn edits() -> &'static [Step] {
     &[
+        ("nvim_buf_line_count", b"\x91\x00", b"\x01"),
+        ("nvim_buf_line_count", b"\x91\x07", b"Invalid buffer id: 7"),
+        ("nvim_buf_line_count", b"\x91\xd4\x00\x01", b"\x01"),
+        // A text is never empty.
+        ("nvim_buf_set_lines", b"\x95\x00\x00\xff\xc3\x90", b"\xc0"),
+        ("nvim_buf_get_lines", ROWS, b"\x91\xa0"),
+        ("nvim_buf_get_changedtick", b"\x91\x00", b"\x03"),
+        // An index outside is refused where it is strict, else brought in.
         (
-            "set_lines",
-            b"\x95\x00\x00\x01\xc3\x91\xa0",
-            b"Buffer is not 'modifiable'",
+            "nvim_buf_set_lines",
+            b"\x95\x00\x05\x09\xc3\x91\xa1x",
+            b"Index out of bounds",
         ),
         (
-            "set_text",
-            b"\x96\x00\x00\x00\x00\x00\x91\xa1x",
-            b"Buffer is not 'modifiable'",
+            "nvim_buf_set_lines",
+            b"\x95\x00\x05\x09\xc2\x91\xa1x",
+            b"\xc0",
         ),
-        ("set_text", b"\x96\x00\x00\x00\x00\x00\x91\xa0", b""),
-        ("set_lines", b"\x95\x00\x00\x00\xc3\x90", b""),
-        ("", b"undo", b"Buffer is not 'modifiable'"),
-        ("", b"redo", b""),
-        ("", b"undo 2", b"Index out of bounds"),
-        ("get_changedtick", b"\x91\x00", b"\x03"),
+        ("nvim_buf_get_lines", ROWS, b"\x92\xa0\xa1x"),
+        (
+            "nvim_buf_set_lines",
+            b"\x95\x00\x00\xff\xc3\x93\xa1a\xa1b\xa1c",
+            b"\xc0",
+        ),
+        ("nvim_buf_get_lines", b"\x94\x00\x03\x01\xc2", b"\x90"),
+        ("nvim_buf_get_lines", b"\x94\x00\xfe\xff\xc3", b"\x91\xa1c"),
+        (
+            "nvim_buf_set_lines",
+            b"\x95\x00\x03\x01\xc2\x91\xa1\n",
+            b"'start' is higher than 'end'",
+        ),
+        (
+            "nvim_buf_set_lines",
+            b"\x95\x00\x00\x01\xc3\x91\xa5abc\nd",
+            b"String cannot contain newlines",
+        ),
+        // Five lines, and five bytes in a line, are too many.
+        (
+            "nvim_buf_set_lines",
+            b"\x95\x00\x03\x03\xc3\x92\xa1d\xa1e",
+            b"Limit reached",
+        ),
+        (
+            "nvim_buf_set_text",
+            b"\x96\x00\x00\x01\x00\x01\x91\xa4bcde",
+            b"Limit reached",
+        ),
+        // Nothing is removed and nothing put.
+        ("nvim_buf_set_lines", b"\x95\x00\x01\x01\xc3\x90", b"\xc0"),
+        ("nvim_buf_get_changedtick", b"\x91\x00", b"\x05"),
+        ("nvim_buf_get_offset", b"\x92\x00\x02", b"\x04"),
+        ("nvim_buf_get_offset", b"\x92\x00\x03", b"\x06"),
+        (
+            "nvim_buf_get_offset",
+            b"\x92\x00\x04",
+            b"Index out of bounds",
+        ),
+        (
+            "nvim_buf_get_offset",
+            b"\x92\x00\xff",
+            b"Index out of bounds",
+        ),
+        // Text is put within lines; the end row counts, the end column doesn't.
+        (
+            "nvim_buf_set_text",
+            b"\x96\x00\x00\x01\x02\x00\x92\xa1x\xa2yz",
+            b"\xc0",
+        ),
+        ("nvim_buf_get_lines", ROWS, b"\x92\xa2ax\xa3yzc"),
+        (
+            "nvim_buf_get_text",
+            b"\x96\x00\x00\x01\xff\x02\x80",
+            b"\x92\xa1x\xa2yz",
+        ),
+        (
+            "nvim_buf_get_text",
+            b"\x96\x00\x00\x02\x00\x01\x80",
+            b"'start' is higher than 'end'",
+        ),
+        (
+            "nvim_buf_get_text",
+            b"\x96\x00\x00\x09\x00\x01\x81\xa1k\x01",
+            b"Invalid key: k",
+        ),
+        ("nvim_buf_attach", b"\x93\x00\xc3\x80", b"\xc3"),
+        (
+            "nvim_buf_attach",
+            b"\x93\x00\xc3\x81\xa1k\xc0",
+            b"Invalid key: k",
+        ),
+        ("", b"undo", b"\xc0"),
+        ("nvim_buf_get_lines", ROWS, b"\x93\xa1a\xa1b\xa1c"),
+        ("", b"redo", b"\xc0"),
+        ("", b"undo 9", b"Index out of bounds"),
+        ("", b"undo 000000000000000002", b"\xc0"),
+        ("nvim_buf_get_lines", ROWS, b"\x92\xa0\xa1x"),
+        ("", b"undo 0000000000000000002", b"no command"),
+        ("", b"undo  1", b"no command"),
+        ("", b"Undo", b"no command"),
     ]
 }
 
-// A text is set, and then kept: the first step that answers otherwise, if any.
-fn first_wrong_of_kept(alloc: Global, buffer: &mut Buffer) -> Result<Option<usize>, AllocError> {
-    let set = b"\x95\x00\x00\xff\xc3\x91\xa1a";
-    if !played(alloc, buffer, "set_lines", set)?.is_empty() {
-        return Ok(Some(usize::MAX));
-    }
-    buffer.put_modifiable(false);
-    first_wrong(alloc, buffer, kept())
-}
-
-#[test]
-fn a_text_that_is_kept_isn_t_changed(rt: HostRuntime) -> Result<(), Failed> {
-    let mut buffer = Buffer::new(rt.alloc(), 1)?;
-    assert_eq!(rt; first_wrong_of_kept(rt.alloc(), &mut buffer)?, None);
-    Ok(())
-}
-
-// Whether a text of one line of so many bytes is put, and not refused as too long.
-fn is_put(alloc: Global, buffer: &mut Buffer, bytes: usize) -> Result<bool, AllocError>
-    requires { bytes < 2 ^ 25 }
-{
-    let line = Value::Text(Bytes::from_vec(vec![in alloc; b'a'; bytes]?)?);
-    let mut params = params_of(alloc, WHOLE)?;
-    params.push(Value::List(vec![in alloc; line]?))?;
-    let answer = done(alloc, nvim_buf_set_lines(alloc, params, buffer))?;
-    Ok(answer.as_slice() != b"Limit reached".as_slice())
-}
-
-// A line of as many bytes as a line may have is put, one more byte isn't, and not where a line
-// joins what stands there.
-fn are_refused(alloc: Global, buffer: &mut Buffer) -> Result<bool, AllocError> {
-    let longer = is_put(alloc, buffer, 16_777_217)?;
-    let longest = is_put(alloc, buffer, 16_777_216)?;
-    let joins = b"\x96\x00\x00\x00\x00\x00\x91\xa1x";
-    let joined = played(alloc, buffer, "set_text", joins)?;
-    Ok(!longer && longest && joined.as_slice() == b"Limit reached".as_slice())
-}
-
-#[test]
-fn long_lines_are_refused(rt: HostRuntime) -> Result<(), Failed> {
-    let mut buffer = Buffer::new(rt.alloc(), 1)?;
-    assert!(rt; are_refused(rt.alloc(), &mut buffer)?);
-    Ok(())
-}
-
-// Each row: two places, and the text between them.
-fn between() -> &'static [(u32, u32, u32, u32, &'static [u8])] {
+fn buffers() -> &'static [Step] {
     &[
-        (0, 0, 2, 1, b"\x93\xa2ab\xa0\xa1c"),
-        (0, 1, 0, 2, b"\x91\xa1b"),
-        (0, 1, 0, 1, b"\x91\xa0"),
-        (0, 2, 1, 0, b"\x92\xa0\xa0"),
-        (0, 1, 2, 1, b"\x93\xa1b\xa0\xa1c"),
+        ("nvim_get_current_buf", b"\x90", b"\xd4\x00\x01"),
+        ("nvim_buf_set_name", b"\x92\x00\xa1a", b"\xc0"),
+        ("nvim_create_buf", b"\x92\xc3\xc2", b"\xd4\x00\x02"),
+        (
+            "nvim_buf_set_name",
+            b"\x92\x02\xa1a",
+            b"Name already in use",
+        ),
+        ("nvim_buf_set_name", b"\x92\x00\xa1a", b"\xc0"),
+        (
+            "nvim_buf_set_name",
+            b"\x92\x02\xa1\n",
+            b"String cannot contain newlines",
+        ),
+        ("nvim_buf_get_name", b"\x91\x01", b"\xa1a"),
+        ("", b"tabnew", b"\xc0"),
+        ("nvim_create_buf", b"\x92\xc3\xc2", b"Limit reached"),
+        (
+            "nvim_list_bufs",
+            b"\x90",
+            b"\x93\xd4\x00\x01\xd4\x00\x02\xd4\x00\x03",
+        ),
+        ("nvim_get_current_buf", b"\x90", b"\xd4\x00\x03"),
+        ("", b"tabclose", b"\xc0"),
+        ("", b"tabclose", b"Cannot close the last one"),
+        ("nvim_set_current_buf", b"\x91\x02", b"\xc0"),
+        (
+            "nvim_buf_set_lines",
+            b"\x95\x00\x00\xff\xc3\x91\xa1a",
+            b"\xc0",
+        ),
+        (
+            "nvim_buf_delete",
+            b"\x92\x00\x80",
+            b"Unsaved changes, use force",
+        ),
+        ("nvim_buf_delete", b"\x92\x00\x81\xa5force\x02", b"\xc0"),
+        ("nvim_buf_is_valid", b"\x91\x02", b"\xc2"),
+        ("nvim_get_current_buf", b"\x90", b"\xd4\x00\x01"),
     ]
 }
 
-// Whether the text between two places is this.
-fn is_between(
-    alloc: Global,
-    buffer: &Buffer,
-    start: Pos,
-    stop: Pos,
-    text: &[u8],
-) -> Result<bool, AllocError> {
-    let within = is_in_line(buffer.text(), start) && is_in_line(buffer.text(), stop);
-    if !within || stop.is_before(start) {
-        return Ok(false);
-    }
-    let value = text_of(alloc, buffer, start, stop)?;
-    Ok(told(alloc, Ok(value))?.as_slice() == text)
-}
-
-fn is_got(alloc: Global, buffer: &mut Buffer) -> Result<bool, AllocError> {
-    let lines = b"\x95\x00\x00\xff\xc3\x93\xa2ab\xa0\xa2cd";
-    let mut all = played(alloc, buffer, "set_lines", lines)?.is_empty();
-    for &(start_row, start_col, stop_row, stop_col, text) in between() {
-        let start = Pos {
-            row: start_row,
-            col: start_col,
-        };
-        let stop = Pos {
-            row: stop_row,
-            col: stop_col,
-        };
-        all = all && is_between(alloc, buffer, start, stop, text)?;
-    }
-    Ok(all)
+#[test]
+fn text_is_edited_by_calls(rt: HostRuntime) -> Result<(), Failed> {
+    let mut editor = Editor::new(rt.alloc(), limits())?;
+    assert_eq!(rt; first_wrong(rt.alloc(), &mut editor, edits())?, None);
+    Ok(())
 }
 
 #[test]
-fn text_is_got_line_by_line(rt: HostRuntime) -> Result<(), Failed> {
-    let mut buffer = Buffer::new(rt.alloc(), 1)?;
-    assert!(rt; is_got(rt.alloc(), &mut buffer)?);
+fn buffers_are_made_and_deleted_by_calls(rt: HostRuntime) -> Result<(), Failed> {
+    let mut editor = Editor::new(rt.alloc(), limits())?;
+    assert_eq!(rt; first_wrong(rt.alloc(), &mut editor, buffers())?, None);
     Ok(())
 }

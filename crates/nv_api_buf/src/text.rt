@@ -1,100 +1,90 @@
 //! The methods on text between two places.
-ghost use Rattle.std.specs.Prelude.{◌≡◌, ◌≤◌, ◌<◌, ◌^◌, ◌↔◌, [], ◌∷◌, false, map, length, IsTrue, IfOk, OnErr};
+ghost use Rattle.std.specs.Prelude.{◌≡◌, ◌≤◌, ◌<◌, ℕ, true, false, length, IfOk, IfSome};
 ghost use Rattle.nv_value.specs.Content.{list};
-ghost use Rattle.nv_value.specs.View.{content, contents, pair_content, pair_contents};
+ghost use Rattle.nv_value.specs.View.{content, contents};
 ghost use Rattle.nv_msgpack.specs.Shortest.{HasSpelling};
-ghost use Rattle.nv_places.specs.Flat.{line_at};
 ghost use Rattle.nv_places.specs.Places.{is_before};
+ghost use Rattle.nv_places.specs.declared.place.Pos.{Pos};
 ghost use Rattle.nv_buffer.specs.Splices.{IsInLine, IsNarrowText};
-ghost use Rattle.nv_buffer.specs.Changes.{text_edit};
-ghost use Rattle.nv_args.specs.Refusals.{Meets};
-ghost use Rattle.nv_args.specs.Weight.{AreLight, weights};
-ghost use Rattle.nv_api_buf.specs.Limits.{put_edit};
+ghost use Rattle.nv_args.specs.Args.{typed_arguments};
+ghost use Rattle.nv_args.specs.Reading.{number_at};
 ghost use Rattle.nv_args.specs.Texts.{or_empty, strings, text_between};
+ghost use Rattle.nv_model.specs.Answers.{Answer};
+ghost use Rattle.nv_model.specs.Answering.{splice_answer};
+ghost use Rattle.nv_model.specs.Buffers.{text_splice};
+ghost use Rattle.nv_model.specs.Standing.{seen_now, seen_buffer_now};
+ghost use Rattle.nv_editor.specs.Doing.{GivesAnswer, ReadsAnswer};
+ghost use Rattle.nv_editor.specs.Sound.{content_at, is_live_buffer};
+ghost use Rattle.nv_api_buf.specs.Texts.{place_named};
+ghost use Rattle.nv_api_buf.specs.TextRows.{nvim_buf_get_text, nvim_buf_set_text, on_places};
+ghost use Rattle.nv_api_buf.specs.inside.Deciding.{Leaves, unless_barred, text_answer};
 ghost use Rattle.nv_api_buf.specs.inside.Parts.{part_of};
-ghost use Rattle.nv_api_buf.specs.Text.{span_in, place_in, places_in, get_arguments, live_span, get_text, put_text, set_arguments, places_there, set_text};
 
-use crate::joining::{is_one_empty, may_put_text};
-use crate::limits::{first_handle, the_buffer};
-use crate::replacement::lines_from;
-use nv_args::{
-    Fail, dict_argument, integer_argument, lines_argument, newline_inside, no_pairs, out_of_bounds,
-    start_after_end, text_col, text_row,
-};
+use crate::finding::{Live, buffer_at, live_given};
+use crate::joining::may_put_text;
+use crate::replacement::new_lines;
+use nv_args::{Args, Fail, map_fault, out_of_bounds, start_after_end, text_col, text_row};
 use nv_buffer::{Buffer, Line, LineList, Lines, Pos};
-use nv_value::{Bytes, Fields, Items, Value};
+use nv_editor::{Editor, Happened};
+use nv_value::{Bytes, Items, Value};
 use std::alloc::{AllocError, Global};
 
-/// The text of a buffer between two places, in numbers that may be negative (Neovim help
-/// `nvim_buf_get_text()`).
+// Two places of a text, the first not behind the second.
 #[derive(Clone, Copy)]
-pub struct Span {
-    /// The buffer's handle; 0 is the current buffer.
-    pub buffer: i64,
-    /// The row of the start, from 0.
-    pub start_row: i64,
-    /// The column of the start in bytes, from 0.
-    pub start_col: i64,
-    /// The row of the end, which is the last row of the text.
-    pub end_row: i64,
-    /// The column of the end, before which the text ends.
-    pub end_col: i64,
+struct Span {
+    start: Pos,
+    stop: Pos,
 }
 
-// The span of a call of `method`, which has six parameters.
-fn span_of(alloc: Global, method: &str, params: &[Value]) -> Result<Span, Fail>
-    requires short { length method.now < 2 ^ 15 }
-    ensures { Meets (λ span. span) result (span_in method.now (map content params.now)) }
-{
-    let buffer = first_handle(alloc, method, 6, params)?;
-    let start_row = integer_argument(alloc, method, params, 1)?;
-    let start_col = integer_argument(alloc, method, params, 2)?;
-    let end_row = integer_argument(alloc, method, params, 3)?;
-    let end_col = integer_argument(alloc, method, params, 4)?;
-    Ok(Span {
-        buffer,
-        start_row,
-        start_col,
-        end_row,
-        end_col,
-    })
-}
-
-// The place that two numbers name.
-fn place_of(alloc: Global, buffer: &Buffer, row: i64, col: i64) -> Result<Pos, Fail>
-    ensures place { Meets (λ place. place) result (place_in row col buffer.now.text) }
-    ensures within { IfOk result (IsInLine buffer.now.text) }
+// The place of the text that two numbers name, if any.
+fn place_of(buffer: &Buffer, row: i64, col: i64) -> Option<Pos>
+    ensures place { result ≡ place_named buffer.now.text row col }
+    ensures within { IfSome result (IsInLine buffer.now.text) }
 {
     let text = buffer.text();
     let Some(row) = text_row(row, text.count()) else {
-        return Err(out_of_bounds(alloc));
+        return None;
     };
     let Some(line) = text.get(row) else {
         unreachable!();
     };
     let Some(col) = text_col(col, line.len()) else {
-        return Err(out_of_bounds(alloc));
+        return None;
     };
-    Ok(Pos {
+    Some(Pos {
         row: row as u32,
         col: col as u32,
     })
 }
 
-// The two places of a span.
-fn places_of(alloc: Global, span: &Span, buffer: &Buffer) -> Result<(Pos, Pos), Fail>
-    ensures places { Meets (λ places. (places.0, places.1)) result
-        (places_in span.now buffer.now.text) }
-    ensures start_in { IfOk result (λ places. IsInLine buffer.now.text places.0) }
-    ensures stop_in { IfOk result (λ places. IsInLine buffer.now.text places.1) }
-    ensures order { IfOk result (λ places. is_before places.1 places.0 ≡ false) }
+// The place of the text that the arguments at two places name, if any.
+fn place_given(buffer: &Buffer, args: &Args, row: usize, col: usize) -> Option<Pos>
+    ensures place { result ≡ place_named buffer.now.text (number_at (typed_arguments args.now) row)
+        (number_at (typed_arguments args.now) col) }
+    ensures within { IfSome result (IsInLine buffer.now.text) }
 {
-    let start = place_of(alloc, buffer, span.start_row, span.start_col)?;
-    let stop = place_of(alloc, buffer, span.end_row, span.end_col)?;
+    place_of(buffer, args.number(row), args.number(col))
+}
+
+// The places of a text that the second to the fifth argument name.
+fn span_of(alloc: Global, buffer: &Buffer, args: &Args) -> Result<Span, Fail>
+    ensures row { (next : Pos → Pos → Answer) → Leaves
+        (on_places (seen_buffer_now buffer.now) (typed_arguments args.now) next)
+        (λ span. next span.start span.stop) result }
+    ensures start { IfOk result (λ span. IsInLine buffer.now.text span.start) }
+    ensures stop { IfOk result (λ span. IsInLine buffer.now.text span.stop) }
+    ensures order { IfOk result (λ span. is_before span.stop span.start ≡ false) }
+{
+    let Some(start) = place_given(buffer, args, 1, 2) else {
+        return Err(out_of_bounds(alloc));
+    };
+    let Some(stop) = place_given(buffer, args, 3, 4) else {
+        return Err(out_of_bounds(alloc));
+    };
     if stop.is_before(start) {
         return Err(start_after_end(alloc));
     }
-    Ok((start, stop))
+    Ok(Span { start, stop })
 }
 
 // What of a line stands between two places, by its row.
@@ -155,54 +145,6 @@ fn strings_between(alloc: Global, text: &Lines, start: Pos, stop: Pos) -> Result
     Ok(items)
 }
 
-// The span of a call of `nvim_buf_get_text`, and the pairs of its last argument.
-fn get_arguments(alloc: Global, params: Items) -> Result<(Span, Fields), Fail>
-    ensures row { Meets (λ found. (found.0, map pair_content found.1.items)) result
-        (get_arguments (map content params.items)) }
-    ensures light { IfOk result (λ found. weights (pair_contents found.1.items)
-        ≤ weights (contents params.items)) }
-{
-    let span = span_of(alloc, "nvim_buf_get_text", params.as_slice())?;
-    let opts = dict_argument(alloc, "nvim_buf_get_text", params, 5)?;
-    Ok((span, opts))
-}
-
-// The span of a call of `nvim_buf_get_text`, whose buffer is there, and which has no keys.
-fn span_given(alloc: Global, params: Items, buffer: &Buffer) -> Result<Span, Fail>
-    requires { AreLight (contents params.items) }
-    ensures { Meets (λ span. span) result (live_span (map content params.items) buffer.now) }
-{
-    let (span, opts) = get_arguments(alloc, params)?;
-    the_buffer(alloc, span.buffer, buffer)?;
-    no_pairs(alloc, opts)?;
-    Ok(span)
-}
-
-/// The text between two places, as a list of strings.
-pub fn text_of(alloc: Global, buffer: &Buffer, start: Pos, stop: Pos) -> Result<Value, AllocError>
-    requires start_in { IsInLine buffer.now.text start }
-    requires stop_in { IsInLine buffer.now.text stop }
-    requires order { is_before stop start ≡ false }
-    ensures text { IfOk result (λ value. content value
-        ≡ list (strings (text_between buffer.now.text start stop))) }
-    ensures spelled { IfOk result (λ value. HasSpelling (content value)) }
-{
-    let items = strings_between(alloc, buffer.text(), start, stop)?;
-    Ok(Value::List(items))
-}
-
-/// `nvim_buf_get_text`: the text between two places, line by line.
-pub fn nvim_buf_get_text(alloc: Global, params: Items, buffer: &Buffer) -> Result<Value, Fail>
-    requires { AreLight (contents params.items) }
-    ensures row { Meets content result (get_text (map content params.items) buffer.now) }
-    ensures spelled { IfOk result (λ value. HasSpelling (content value)) }
-{
-    let span = span_given(alloc, params, buffer)?;
-    let (start, stop) = places_of(alloc, &span, buffer)?;
-    let value = text_of(alloc, buffer, start, stop)?;
-    Ok(value)
-}
-
 // One empty line where there is none.
 fn or_empty(alloc: Global, lines: LineList) -> Result<LineList, AllocError>
     ensures lines { IfOk result (λ new. new ≡ or_empty lines) }
@@ -214,88 +156,69 @@ fn or_empty(alloc: Global, lines: LineList) -> Result<LineList, AllocError>
     Ok(lines)
 }
 
-// Whether no byte is removed and none put.
-fn is_nothing(start: Pos, stop: Pos, new: &LineList) -> bool
-    ensures { IsTrue result ↔ ((start ≡ stop) × (new.now ≡ [] ∷ [])) }
+// The text of a buffer between the places that the arguments name.
+fn text_answer(alloc: Global, buffer: &Buffer, args: &Args) -> Result<Value, Fail>
+    ensures row { ReadsAnswer (text_answer (seen_buffer_now buffer.now) (typed_arguments args.now))
+        result }
+    ensures spelled { IfOk result (λ value. HasSpelling (content value)) }
 {
-    start == stop && is_one_empty(new)
+    let span = span_of(alloc, buffer, args)?;
+    let items = strings_between(alloc, buffer.text(), span.start, span.stop)?;
+    Ok(Value::List(items))
+}
+
+/// `nvim_buf_get_text`: the lines between two places, the end column exclusive. It takes no keys.
+pub fn nvim_buf_get_text(editor: &Editor, args: &Args) -> Result<Value, Fail>
+    ensures row { (session : ℕ) → ReadsAnswer (nvim_buf_get_text (seen_now editor.now) session
+        (typed_arguments args.now)) result }
+    ensures spelled { IfOk result (λ value. HasSpelling (content value)) }
+{
+    let live = live_given(editor, args)?;
+    map_fault(editor.alloc(), &[], args.pairs(5))?;
+    text_answer(editor.alloc(), buffer_at(editor, live), args)
 }
 
 // Puts lines between two places, where that is allowed.
 fn put_between(
-    alloc: Global,
-    buffer: &mut Buffer,
-    start: Pos,
-    stop: Pos,
+    editor: &mut Editor,
+    live: Live,
+    span: Span,
     new: LineList,
-) -> Result<(), Fail>
-    requires start_in { IsInLine buffer.old.text start }
-    requires stop_in { IsInLine buffer.old.text stop }
-    requires order { is_before stop start ≡ false }
-    requires some_line { 0 < length new }
-    requires some { ¬ ((start ≡ stop) × (new ≡ [] ∷ [])) }
-    ensures row { Meets (λ _. buffer.new) result
-        (put_edit (text_edit buffer.old.text start stop new) buffer.old) }
-    ensures kept { OnErr result (buffer.new ≡ buffer.old) }
+    happened: &mut Happened,
+) -> Result<Value, Fail>
+    requires live { is_live_buffer editor.old live.handle ≡ true }
+    requires start { IsInLine (content_at editor.old live.handle).text span.start }
+    requires stop { IsInLine (content_at editor.old live.handle).text span.stop }
+    requires order { is_before span.stop span.start ≡ false }
+    ensures row { let b = content_at editor.old live.handle in
+        let splice = text_splice b.text span.start span.stop (or_empty new) in
+        GivesAnswer (unless_barred editor.old.stage.limits (seen_buffer_now b) splice
+        (splice_answer live.handle (seen_buffer_now b) splice)) result editor.old editor.new
+        happened.old happened.new }
+    ensures spelled { IfOk result (λ value. HasSpelling (content value)) }
 {
-    may_put_text(alloc, buffer, start, stop, &new)?;
-    buffer.put_text(start, stop, new)?;
-    Ok(())
-}
-
-// Puts lines between two places.
-fn put_text(
-    alloc: Global,
-    buffer: &mut Buffer,
-    start: Pos,
-    stop: Pos,
-    new: Vec<Bytes>,
-) -> Result<(), Fail>
-    requires start_in { IsInLine buffer.old.text start }
-    requires stop_in { IsInLine buffer.old.text stop }
-    requires order { is_before stop start ≡ false }
-    ensures row { Meets (λ _. buffer.new) result (put_text start stop new.items buffer.old) }
-    ensures kept { OnErr result (buffer.new ≡ buffer.old) }
-{
-    let Some(new) = lines_from(alloc, new)? else {
-        return Err(newline_inside(alloc));
-    };
+    let alloc = editor.alloc();
+    let buffer = buffer_at(editor, live);
     let new = or_empty(alloc, new)?;
-    if is_nothing(start, stop, &new) {
-        return Ok(());
-    }
-    put_between(alloc, buffer, start, stop, new)
+    may_put_text(alloc, editor.limits(), buffer, span.start, span.stop, &new)?;
+    editor.put_text(live.handle, span.start, span.stop, new, happened)?;
+    Ok(Value::Nil)
 }
 
-// The span of a call of `nvim_buf_set_text`, and the strings of its last argument.
-fn set_arguments(alloc: Global, params: Items) -> Result<(Span, Vec<Bytes>), Fail>
-    ensures { Meets (λ found. (found.0, found.1.items)) result
-        (set_arguments (map content params.items)) }
+/// `nvim_buf_set_text`: puts lines between two places, the end column exclusive.
+pub fn nvim_buf_set_text(
+    editor: &mut Editor,
+    args: &mut Args,
+    happened: &mut Happened,
+) -> Result<Value, Fail>
+    ensures row { (session : ℕ) → GivesAnswer (nvim_buf_set_text (seen_now editor.old) session
+        (typed_arguments args.old)) result editor.old editor.new happened.old happened.new }
+    ensures spelled { IfOk result (λ value. HasSpelling (content value)) }
 {
-    let span = span_of(alloc, "nvim_buf_set_text", params.as_slice())?;
-    let new = lines_argument(alloc, "nvim_buf_set_text", params, 5)?;
-    Ok((span, new))
-}
-
-// The places of a span of the buffer that it names.
-fn places_there(alloc: Global, span: &Span, buffer: &Buffer) -> Result<(Pos, Pos), Fail>
-    ensures places { Meets (λ places. (places.0, places.1)) result
-        (places_there span.now buffer.now) }
-    ensures start_in { IfOk result (λ places. IsInLine buffer.now.text places.0) }
-    ensures stop_in { IfOk result (λ places. IsInLine buffer.now.text places.1) }
-    ensures order { IfOk result (λ places. is_before places.1 places.0 ≡ false) }
-{
-    the_buffer(alloc, span.buffer, buffer)?;
-    places_of(alloc, span, buffer)
-}
-
-/// `nvim_buf_set_text`: puts text between two places. Where the call is refused, and where memory
-/// is wanting, the buffer stays as it was.
-pub fn nvim_buf_set_text(alloc: Global, params: Items, buffer: &mut Buffer) -> Result<(), Fail>
-    ensures row { Meets (λ _. buffer.new) result (set_text (map content params.items) buffer.old) }
-    ensures kept { OnErr result (buffer.new ≡ buffer.old) }
-{
-    let (span, new) = set_arguments(alloc, params)?;
-    let (start, stop) = places_there(alloc, &span, buffer)?;
-    put_text(alloc, buffer, start, stop, new)
+    let alloc = editor.alloc();
+    let live = live_given(editor, args)?;
+    let span = span_of(alloc, buffer_at(editor, live), args)?;
+    let strings = args.take_lines(5)?;
+    let new = new_lines(alloc, strings)?;
+    put_between(editor, live, span, new, happened)
 }

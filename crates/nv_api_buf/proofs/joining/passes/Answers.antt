@@ -1,46 +1,48 @@
-use Rattle.std.proofs.Common.{◌≡◌, ℕ, ◌+◌, ◌-◌, ◌||◌, List, length, take, drop, ap, ◌∙◌, sym, refl, arith, rules, w64, FitsSigned}
-use Rattle.std.proofs.lemmas.Int.{to_z-of_z}
+use Rattle.std.proofs.Common.{◌≡◌, ◌≤◌, ◌-◌, ◌+◌, ℕ, List, All, length, take, drop, ap, refl, sym, ◌∙◌, arith}
 use Rattle.std.specs.List.{list_any}
-use Rattle.nv_places.specs.Flat.{line_at}
+use Rattle.nv_places.specs.Flat.{IsLine, line_at}
 use Rattle.nv_buffer.specs.Splices.{with_front, with_back, lines_between}
-use Rattle.nv_api_buf.specs.Limits.{is_too_long, tick_passes}
-use Rattle.nv_api_buf.proofs.Passing.{passes-text}
+use Rattle.nv_buffer.proofs.Measures.{not_before_row}
+use Rattle.nv_buffer.proofs.Between.{length-between}
+use Rattle.nv_model.specs.Buffers.{text_splice}
+use Rattle.nv_model.specs.Standing.{seen_buffer_now}
+use Rattle.nv_api_buf.specs.inside.Parts.{is_longer}
+use Rattle.nv_api_buf.proofs.Splices.{text_put, between_lines}
+use Rattle.nv_api_buf.proofs.Passing.{passes-is, free}
 use Rattle.nv_api_buf.proofs.joining.passes.Goals as goal
 
-pub returns-then-too_many : goal.returns-then-too_many
-returns-then-too_many c =
-    let text : c.text-text.result.now ≡ c.args.buffer.now.text = c.text-text.ensures.value in
-    let kept : c.count.result - (c.args.stop.row - c.args.start.row + 1) ≡ length c.args.buffer.now.text - (c.args.stop.row + 1 - c.args.start.row) =
-    omega (arith, c.requires.order, c.count.ensures.value, ap (length {A = List ℕ}) text) in
-    ap (λ b. b || ((list_any is_too_long (lines_between c.args.buffer.now.text c.args.start c.args.stop c.args.lines.now)) || tick_passes c.args.buffer.now.tick 1)) (sym c.if-too_many.true)
-    ∙ passes-text c.args.buffer.now c.args.start c.args.stop c.args.lines.now (c.count.result - (c.args.stop.row - c.args.start.row + 1)) c.len.result c.too_many.result
-    (list_any is_too_long (lines_between c.args.buffer.now.text c.args.start c.args.stop c.args.lines.now)) (tick_passes c.args.buffer.now.tick 1) c.requires.order c.requires.stop_in.row c.requires.some kept c.len.ensures.value c.too_many.ensures refl refl
+pub returns-clause-row : goal.returns-clause-row
+returns-clause-row c =
+    let text = c.args.buffer.now.text in
+    let joined = lines_between text c.args.start c.args.stop c.args.lines.now in
+    let rows : c.args.start.row ≤ c.args.stop.row = not_before_row c.args.start c.args.stop c.requires.order in
+    let many : length joined ≡ length c.args.lines.now =
+    length-between (take c.args.start.col (line_at text c.args.start.row)) (drop c.args.stop.col (line_at text c.args.stop.row)) c.args.lines.now c.requires.some in
+    let kept : c.count.result - (c.args.stop.row - c.args.start.row + 1) ≡ length text - (c.args.stop.row + 1 - c.args.start.row) =
+    omega (arith, rows, c.count.ensures.value, ap (length {A = List ℕ}) c.text-text.ensures.value) in
+    let front = c.before-2.ensures ∙ ap (λ (t : List (List ℕ)). take c.args.start.col (line_at t c.args.start.row)) c.text-text.ensures.value in
+    let back = c.behind.ensures ∙ ap (λ (t : List (List ℕ)). drop c.args.stop.col (line_at t c.args.stop.row)) c.text-text.ensures.value in
+    let long : c.any_too_long.result ≡ list_any (is_longer c.args.limits.line_bytes) joined =
+    c.any_too_long.ensures ∙ (λ i. list_any (is_longer c.args.limits.line_bytes) (with_back (with_front (front i) c.args.lines.now) (back i))) in
+    let are : All IsLine joined = between_lines text c.args.lines.now c.args.start c.args.stop c.known.ensures.text.lines c.len-many.ensures.lines in
+    let puts = text_put text c.args.lines.now joined c.args.start c.args.stop c.requires.start_in c.requires.stop_in c.requires.order c.requires.some c.known.ensures.text.lines refl are in
+    c.any_of.ensures
+    ∙ passes-is c.args.limits (seen_buffer_now c.args.buffer.now) (text_splice text c.args.start c.args.stop c.args.lines.now) c.args.start.row (c.args.stop.row + 1)
+    _ c.len-many.result joined c.too_many.result c.any_too_long.result c.tick_passes.result puts
+    kept (c.len-many.ensures.value ∙ sym many) c.too_many.ensures long c.tick_passes.ensures.passes
 
-pub returns-then-any_too_long : goal.returns-then-any_too_long
-returns-then-any_too_long c =
-    let text : c.text-text.result.now ≡ c.args.buffer.now.text = c.text-text.ensures.value in
-    let kept : c.count.result - (c.args.stop.row - c.args.start.row + 1) ≡ length c.args.buffer.now.text - (c.args.stop.row + 1 - c.args.start.row) =
-    omega (arith, c.requires.order, c.count.ensures.value, ap (length {A = List ℕ}) text) in
-    let front = c.before-2.ensures ∙ ap (λ (t : List (List ℕ)). take c.args.start.col (line_at t c.args.start.row)) text in
-    let back = c.behind.ensures ∙ ap (λ (t : List (List ℕ)). drop c.args.stop.col (line_at t c.args.stop.row)) text in
-    let long : c.any_too_long.result ≡ list_any is_too_long (lines_between c.args.buffer.now.text c.args.start c.args.stop c.args.lines.now) =
-    c.any_too_long.ensures ∙ (λ i. list_any is_too_long (with_back (with_front (front i) c.args.lines.now) (back i))) in
-    (λ i. sym c.if-too_many.false i || (sym c.if-any_too_long.true i || tick_passes c.args.buffer.now.tick 1))
-    ∙ passes-text c.args.buffer.now c.args.start c.args.stop c.args.lines.now (c.count.result - (c.args.stop.row - c.args.start.row + 1)) c.len.result c.too_many.result
-    c.any_too_long.result (tick_passes c.args.buffer.now.tick 1) c.requires.order c.requires.stop_in.row c.requires.some kept c.len.ensures.value c.too_many.ensures long refl
-
-pub returns : goal.returns
-returns c =
-    let text : c.text-text.result.now ≡ c.args.buffer.now.text = c.text-text.ensures.value in
-    let kept : c.count.result - (c.args.stop.row - c.args.start.row + 1) ≡ length c.args.buffer.now.text - (c.args.stop.row + 1 - c.args.start.row) =
-    omega (arith, c.requires.order, c.count.ensures.value, ap (length {A = List ℕ}) text) in
-    let front = c.before-2.ensures ∙ ap (λ (t : List (List ℕ)). take c.args.start.col (line_at t c.args.start.row)) text in
-    let back = c.behind.ensures ∙ ap (λ (t : List (List ℕ)). drop c.args.stop.col (line_at t c.args.stop.row)) text in
-    let long : c.any_too_long.result ≡ list_any is_too_long (lines_between c.args.buffer.now.text c.args.start c.args.stop c.args.lines.now) =
-    c.any_too_long.ensures ∙ (λ i. list_any is_too_long (with_back (with_front (front i) c.args.lines.now) (back i))) in
-    let fits : FitsSigned w64 c.tick.result = search rules in
-    let tick : c.tick_passes.result ≡ tick_passes c.args.buffer.now.tick 1 =
-    c.tick_passes.ensures ∙ ap (λ z. tick_passes z 1) (to_z-of_z w64 c.tick.result fits ∙ c.tick.ensures) in
-    (λ i. sym c.if-too_many.false i || (sym c.if-any_too_long.false i || c.tick_passes.result))
-    ∙ passes-text c.args.buffer.now c.args.start c.args.stop c.args.lines.now (c.count.result - (c.args.stop.row - c.args.start.row + 1)) c.len.result c.too_many.result
-    c.any_too_long.result (c.tick_passes.result) c.requires.order c.requires.stop_in.row c.requires.some kept c.len.ensures.value c.too_many.ensures long tick
+pub returns-clause-columns : goal.returns-clause-columns
+returns-clause-columns c none =
+    let text = c.args.buffer.now.text in
+    let joined = lines_between text c.args.start c.args.stop c.args.lines.now in
+    let rows : c.args.start.row ≤ c.args.stop.row = not_before_row c.args.start c.args.stop c.requires.order in
+    let many : length joined ≡ length c.args.lines.now =
+    length-between (take c.args.start.col (line_at text c.args.start.row)) (drop c.args.stop.col (line_at text c.args.stop.row)) c.args.lines.now c.requires.some in
+    let kept : c.count.result - (c.args.stop.row - c.args.start.row + 1) ≡ length text - (c.args.stop.row + 1 - c.args.start.row) =
+    omega (arith, rows, c.count.ensures.value, ap (length {A = List ℕ}) c.text-text.ensures.value) in
+    let front = c.before-2.ensures ∙ ap (λ (t : List (List ℕ)). take c.args.start.col (line_at t c.args.start.row)) c.text-text.ensures.value in
+    let back = c.behind.ensures ∙ ap (λ (t : List (List ℕ)). drop c.args.stop.col (line_at t c.args.stop.row)) c.text-text.ensures.value in
+    let long : c.any_too_long.result ≡ list_any (is_longer c.args.limits.line_bytes) joined =
+    c.any_too_long.ensures ∙ (λ i. list_any (is_longer c.args.limits.line_bytes) (with_back (with_front (front i) c.args.lines.now) (back i))) in
+    (free c.args.limits.lines c.args.limits.line_bytes text joined c.args.start.row (c.args.stop.row + 1) _ c.len-many.result c.too_many.result c.any_too_long.result c.tick_passes.result
+    (omega arith) (omega arith) (omega arith) (omega (arith, c.requires.stop_in.row)) kept (c.len-many.ensures.value ∙ sym many) c.too_many.ensures long (sym c.any_of.ensures ∙ none)).columns

@@ -1,6 +1,5 @@
-use Rattle.std.proofs.Common.{◌≡◌, ap, sym, subst, ◌∙◌}
+use Rattle.std.proofs.Common.{ap, sym, subst, ◌∙◌}
 use Rattle.nv_value.specs.Content.{Trees, list}
-use Rattle.nv_value.specs.View.{contents}
 use Rattle.nv_args.specs.Texts.{strings}
 use Rattle.nv_msgpack.specs.Shortest.{HasSpelling}
 use Rattle.nv_api_buf.proofs.Spelled.{range-spelled}

@@ -1,6 +1,5 @@
 use Rattle.std.proofs.Common.{sym, arith}
-use Rattle.nv_api_buf.proofs.Nothing.{left_with-some}
-use Rattle.nv_api_buf.proofs.Passing.{length-splice}
+use Rattle.nv_api_buf.proofs.Splices.{left_with-some, length-splice}
 use Rattle.nv_api_buf.proofs.replacement.left_with.Goals as goal
 
 pub returns-then-rest-gt0-clause-same : goal.returns-then-rest-gt0-clause-same

@@ -2,10 +2,7 @@ use Rattle.std.proofs.Common.{◌≡◌, ℕ, List, Some, None, slice_get, lengt
 use Rattle.std.proofs.Math.Facts.{Fits-of_lt}
 use Rattle.std.proofs.lemmas.Int.{to_z-of_z}
 use Rattle.nv_args.specs.Arguments.{text_row, text_col}
-use Rattle.nv_api_buf.specs.Text.{place_in}
-use Rattle.nv_args.specs.Faults.{out_of_bounds}
 use Rattle.nv_api_buf.proofs.Placing.{place-is, place-within, place-none, col-narrow}
-use Rattle.nv_args.proofs.Refusing.{meets_refused}
 use Rattle.nv_api_buf.proofs.text.place_of.Goals as goal
 
 pub returns-clause-place : goal.returns-clause-place
@@ -30,8 +27,7 @@ returns-in_default-text_col-clause-place c =
     sym c.in-Some.is ∙ c.text_row.ensures ∙ ap (λ z. text_row z c.count.result) (to_z-of_z w64 c.args.row c.ranges.row) ∙ ap (text_row c.args.row) (c.count.ensures.value ∙ ap (length {A = List ℕ}) c.text-text.ensures.value) in
     let none : None ≡ text_col c.args.col (length c.in-Some-get.line.now) =
     sym c.in_default-text_col.is ∙ c.text_col.ensures ∙ ap (λ z. text_col z (length c.in-Some-get.line.now)) (to_z-of_z w64 c.args.col c.ranges.col) in
-    meets_refused (λ place. place) c.out_of_bounds-in_default-text_col.result out_of_bounds (place_in c.args.row c.args.col c.args.buffer.now.text) c.out_of_bounds-in_default-text_col.ensures
-    (place-none c.args.buffer.now.text c.args.row c.args.col c.in-Some.row c.in-Some-get.line.now row (c.in-Some-get.ensures.bytes ∙ ap (λ (t : List (List ℕ)). slice_get t c.in-Some.row) c.text-text.ensures.value) none)
+    place-none c.args.buffer.now.text c.args.row c.args.col c.in-Some.row c.in-Some-get.line.now row (c.in-Some-get.ensures.bytes ∙ ap (λ (t : List (List ℕ)). slice_get t c.in-Some.row) c.text-text.ensures.value) none
 
 pub overflow_cast-result-2 : goal.overflow_cast-result-2
 overflow_cast-result-2 c =

@@ -1,0 +1,12 @@
+use Rattle.std.proofs.Common.{List, map, ap, sym, ◌∙◌}
+use Rattle.nv_value.specs.Content.{Tree, list, trees_of}
+use Rattle.nv_value.proofs.Contents.{content-List}
+use Rattle.nv_api_buf.specs.inside.Shapes.{function_shaped, form_of_row}
+use Rattle.nv_api_buf.proofs.Tables.{map_twice, functions_are}
+use Rattle.nv_api_buf.proofs.metadata.functions_value.Goals as goal
+
+pub returns : goal.returns
+returns c =
+    content-List c.in_ok-items.items
+    ∙ ap (λ (ts : List Tree). list (trees_of ts))
+    (c.in_ok-items.ensures ∙ sym (map_twice function_shaped form_of_row c.functions.result.now) ∙ ap (map function_shaped) c.functions.ensures ∙ functions_are)

@@ -1,0 +1,54 @@
+//! The live buffer that a call names.
+ghost use Rattle.std.specs.Prelude.{◌≡◌, ℤ, true, IfOk};
+ghost use Rattle.nv_args.specs.Args.{typed_arguments};
+ghost use Rattle.nv_args.specs.Reading.{number_at};
+ghost use Rattle.nv_model.specs.Answers.{Answer, on_buffer};
+ghost use Rattle.nv_model.specs.Seen.{SeenBuffer};
+ghost use Rattle.nv_model.specs.Standing.{seen_now, seen_buffer_now};
+ghost use Rattle.nv_editor.specs.Sound.{content_at, is_live_buffer};
+ghost use Rattle.nv_api_buf.specs.inside.Deciding.{Leaves};
+
+use nv_args::{Args, Fail, no_buffer};
+use nv_buffer::Buffer;
+use nv_editor::Editor;
+
+/// The handle of a live buffer.
+#[derive(Clone, Copy)]
+pub struct Live {
+    pub handle: i64,
+}
+
+/// The live buffer of a handle, 0 being the current one. Without it the call is refused (help:
+/// api-types).
+pub fn live_of(editor: &Editor, n: i64) -> Result<Live, Fail>
+    ensures row { (next : ℤ → SeenBuffer → Answer) → Leaves (on_buffer (seen_now editor.now) n next)
+        (λ live. next live.handle (seen_buffer_now (content_at editor.now live.handle))) result }
+    ensures live { IfOk result (λ live. is_live_buffer editor.now live.handle ≡ true) }
+{
+    let handle = editor.named_buffer(n);
+    match editor.buffer(handle) {
+        Some(_) => Ok(Live { handle }),
+        None => Err(no_buffer(editor.alloc(), n)),
+    }
+}
+
+/// The live buffer that the first argument names.
+pub fn live_given(editor: &Editor, args: &Args) -> Result<Live, Fail>
+    ensures row { (next : ℤ → SeenBuffer → Answer)
+        → Leaves (on_buffer (seen_now editor.now) (number_at (typed_arguments args.now) 0) next)
+        (λ live. next live.handle (seen_buffer_now (content_at editor.now live.handle))) result }
+    ensures live { IfOk result (λ live. is_live_buffer editor.now live.handle ≡ true) }
+{
+    live_of(editor, args.number(0))
+}
+
+/// A live buffer, lent.
+pub fn buffer_at(editor: &Editor, live: Live) -> &Buffer
+    requires { is_live_buffer editor.now live.handle ≡ true }
+    ensures { result.now ≡ content_at editor.now live.handle }
+{
+    match editor.buffer(live.handle) {
+        Some(buffer) => buffer,
+        None => unreachable!(),
+    }
+}

@@ -1,0 +1,204 @@
+//! What the server tells of its API (help: api-metadata, nvim_get_api_info()).
+ghost use Rattle.std.specs.Prelude.{◌≡◌, ◌∷◌, [], bytes_eq, length, map, take, IfOk};
+ghost use Rattle.nv_value.specs.Content.{text};
+ghost use Rattle.nv_value.specs.View.{content, pair_content};
+ghost use Rattle.nv_msgpack.specs.Shortest.{HasSpelling};
+ghost use Rattle.nv_model.specs.Answering.{array_of, dict_of, key_value, natural, word};
+ghost use Rattle.nv_api_buf.specs.Metadata.{version, is_method, ui_events, metadata, handle_types, error_type, error_types, ui_options, function};
+ghost use Rattle.nv_args.specs.Table.{table};
+ghost use Rattle.nv_api_buf.specs.inside.Shapes.{form_of_row, parameter_shaped, function_shaped, event_shaped};
+
+use crate::limits::any_of;
+use crate::told::{Told, events, functions};
+use nv_value::{Bytes, Items, Pair, Value};
+use std::alloc::{AllocError, Global};
+
+/// What the server tells of its API: its version, its functions, the events and options of a UI,
+/// the types of handles and of errors.
+pub fn metadata_value(alloc: Global) -> Result<Value, AllocError>
+    ensures value { IfOk result (λ value. content value ≡ metadata) }
+    ensures spelled { HasSpelling metadata }
+{
+    let functions = functions_value(alloc)?;
+    let events = events_value(alloc)?;
+    let fields = vec![in alloc;
+        pair(alloc, "version", version(alloc)?)?,
+        pair(alloc, "functions", functions)?,
+        pair(alloc, "ui_events", events)?,
+        pair(alloc, "ui_options", ui_options(alloc)?)?,
+        pair(alloc, "types", handle_types(alloc)?)?,
+        pair(alloc, "error_types", error_types(alloc)?)?,
+    ]?;
+    Ok(Value::Pairs(fields))
+}
+
+fn word(alloc: Global, words: &str) -> Result<Value, AllocError>
+    ensures { IfOk result (λ value. content value ≡ text words.now) }
+{
+    Ok(Value::Text(Bytes::from_slice(alloc, words.as_bytes())?))
+}
+
+fn pair(alloc: Global, key: &str, value: Value) -> Result<Pair, AllocError>
+    ensures { IfOk result (λ pair. pair_content pair ≡ (text key.now, content value)) }
+{
+    let key = word(alloc, key)?;
+    Ok(Pair { key, value })
+}
+
+fn version(alloc: Global) -> Result<Value, AllocError>
+    ensures { IfOk result (λ value. content value ≡ version) }
+{
+    Ok(Value::Pairs(vec![in alloc;
+        pair(alloc, "major", Value::Int(0))?,
+        pair(alloc, "minor", Value::Int(11))?,
+        pair(alloc, "patch", Value::Int(0))?,
+        pair(alloc, "api_level", Value::Int(13))?,
+        pair(alloc, "api_compatible", Value::Int(0))?,
+        pair(alloc, "api_prerelease", Value::Truth(false))?,
+    ]?))
+}
+
+// The type and the name of a parameter.
+fn parameter(alloc: Global, typed: &(&'static str, &'static str)) -> Result<Value, AllocError>
+    ensures { IfOk result (λ value. content value
+        ≡ parameter_shaped (typed.now.0.now, typed.now.1.now)) }
+{
+    let kind = word(alloc, typed.0)?;
+    let name = word(alloc, typed.1)?;
+    Ok(Value::List(vec![in alloc; kind, name]?))
+}
+
+fn parameters(alloc: Global, list: &[(&'static str, &'static str)]) -> Result<Items, AllocError>
+    ensures { IfOk result (λ items. map content items.items
+        ≡ map (λ p. parameter_shaped (p.0.now, p.1.now)) list.now) }
+{
+    let mut items = Vec::new(alloc);
+    for typed in list {
+        items.push(parameter(alloc, typed)?)?;
+    }
+    Ok(items)
+}
+
+fn parameters_value(alloc: Global, told: &Told) -> Result<Value, AllocError>
+    ensures { IfOk result (λ value. content value
+        ≡ array_of (map parameter_shaped (form_of_row told.now).parameters)) }
+{
+    let items = parameters(alloc, told.parameters)?;
+    Ok(Value::List(items))
+}
+
+fn begins_with(name: &str, front: &str) -> bool
+    ensures { result ≡ bytes_eq (take (length front.now) name.now) front.now }
+{
+    name.as_bytes().starts_with(front.as_bytes())
+}
+
+// Whether a method is one of a buffer, a window or a tabpage, by its name.
+fn is_method(name: &str) -> bool
+    ensures { result ≡ is_method name.now }
+{
+    any_of(
+        begins_with(name, "nvim_buf_"),
+        begins_with(name, "nvim_win_"),
+        begins_with(name, "nvim_tabpage_"),
+    )
+}
+
+fn function(alloc: Global, told: &Told) -> Result<Value, AllocError>
+    ensures { IfOk result (λ value. content value ≡ function_shaped (form_of_row told.now)) }
+{
+    Ok(Value::Pairs(vec![in alloc;
+        pair(alloc, "name", word(alloc, told.name)?)?,
+        pair(alloc, "since", Value::Int(1))?,
+        pair(alloc, "method", Value::Truth(is_method(told.name)))?,
+        pair(alloc, "parameters", parameters_value(alloc, told)?)?,
+        pair(alloc, "return_type", word(alloc, told.result)?)?,
+    ]?))
+}
+
+fn event(alloc: Global, told: &Told) -> Result<Value, AllocError>
+    ensures { IfOk result (λ value. content value ≡ event_shaped (form_of_row told.now)) }
+{
+    Ok(Value::Pairs(vec![in alloc;
+        pair(alloc, "name", word(alloc, told.name)?)?,
+        pair(alloc, "since", Value::Int(1))?,
+        pair(alloc, "parameters", parameters_value(alloc, told)?)?,
+    ]?))
+}
+
+fn functions_value(alloc: Global) -> Result<Value, AllocError>
+    ensures { IfOk result (λ value. content value ≡ array_of (map function table)) }
+{
+    let items = functions_shaped(alloc, functions())?;
+    Ok(Value::List(items))
+}
+
+fn functions_shaped(alloc: Global, table: &[Told]) -> Result<Items, AllocError>
+    ensures { IfOk result (λ items. map content items.items
+        ≡ map (λ t. function_shaped (form_of_row t)) table.now) }
+{
+    let mut items = Vec::new(alloc);
+    for told in table {
+        items.push(function(alloc, told)?)?;
+    }
+    Ok(items)
+}
+
+fn events_value(alloc: Global) -> Result<Value, AllocError>
+    ensures { IfOk result (λ value. content value ≡ array_of ui_events) }
+{
+    let items = events_shaped(alloc, events())?;
+    Ok(Value::List(items))
+}
+
+fn events_shaped(alloc: Global, table: &[Told]) -> Result<Items, AllocError>
+    ensures { IfOk result (λ items. map content items.items
+        ≡ map (λ t. event_shaped (form_of_row t)) table.now) }
+{
+    let mut items = Vec::new(alloc);
+    for told in table {
+        items.push(event(alloc, told)?)?;
+    }
+    Ok(items)
+}
+
+fn ui_options(alloc: Global) -> Result<Value, AllocError>
+    ensures { IfOk result (λ value. content value ≡ ui_options) }
+{
+    Ok(Value::List(vec![in alloc; word(alloc, "rgb")?, word(alloc, "ext_linegrid")?]?))
+}
+
+fn handle_type(alloc: Global, number: u8, prefix: &str) -> Result<Value, AllocError>
+    ensures { IfOk result (λ value. content value
+        ≡ dict_of (key_value "id" (natural number) ∷ (word "prefix", text prefix.now) ∷ [])) }
+{
+    Ok(Value::Pairs(vec![in alloc;
+        pair(alloc, "id", Value::Int(number as i64))?,
+        pair(alloc, "prefix", word(alloc, prefix)?)?,
+    ]?))
+}
+
+fn handle_types(alloc: Global) -> Result<Value, AllocError>
+    ensures { IfOk result (λ value. content value ≡ handle_types) }
+{
+    Ok(Value::Pairs(vec![in alloc;
+        pair(alloc, "Buffer", handle_type(alloc, 0, "nvim_buf_")?)?,
+        pair(alloc, "Window", handle_type(alloc, 1, "nvim_win_")?)?,
+        pair(alloc, "Tabpage", handle_type(alloc, 2, "nvim_tabpage_")?)?,
+    ]?))
+}
+
+fn error_type(alloc: Global, number: u8) -> Result<Value, AllocError>
+    ensures { IfOk result (λ value. content value ≡ error_type number) }
+{
+    Ok(Value::Pairs(vec![in alloc; pair(alloc, "id", Value::Int(number as i64))?]?))
+}
+
+fn error_types(alloc: Global) -> Result<Value, AllocError>
+    ensures { IfOk result (λ value. content value ≡ error_types) }
+{
+    Ok(Value::Pairs(vec![in alloc;
+        pair(alloc, "Exception", error_type(alloc, 0)?)?,
+        pair(alloc, "Validation", error_type(alloc, 1)?)?,
+    ]?))
+}

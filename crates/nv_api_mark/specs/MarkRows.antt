@@ -1,0 +1,174 @@
+-- The methods on single marks (help: api-extended-marks; the help tag of each is its name).
+use Rattle.std.specs.Prelude.{ℕ, ℤ, pos, negsuc, suc, ◌+◌, Bool, true, false, not, ◌&&◌, ◌||◌, nat_le, nat_lt, List, [], ◌∷◌, ◌++◌, length, codes, Option, Some, None, is_none, option_and_then, unwrap_or, if◌then◌else◌}
+use Rattle.std.specs.Option.{option_map_or}
+use Rattle.std.specs.Fmt.{signed_decimal}
+use Rattle.nv_value.specs.Content.{Tree, truth, text}
+use Rattle.nv_places.specs.Places.{is_before}
+use Rattle.nv_places.specs.declared.place.Pos.{Pos}
+use Rattle.nv_args.specs.Faults.{out_of_bounds, start_after_end, no_id_left, unknown_name, limit_reached}
+use Rattle.nv_args.specs.Arguments.{last_pairs}
+use Rattle.nv_args.specs.Reading.{Arg, number_at, pairs_at}
+use Rattle.nv_args.specs.Maps.{map_fault, value_of}
+use Rattle.nv_hl.specs.Groups.{NamedGroup, name_at}
+use Rattle.nv_marks.specs.Marks.{mark_at}
+use Rattle.nv_marks.specs.declared.extmark.Far.{Far}
+use Rattle.nv_marks.specs.declared.extmark.Mark.{Mark}
+use Rattle.nv_marks.specs.declared.extmark.Paint.{Paint}
+use Rattle.nv_model.specs.Stage.{Stage}
+use Rattle.nv_model.specs.Seen.{Seen, SeenBuffer}
+use Rattle.nv_model.specs.Operations.{Operation, mark_set, mark_removed}
+use Rattle.nv_model.specs.Answers.{Answer, replied, unless, or_refused, on_buffer}
+use Rattle.nv_model.specs.Answering.{reply_of, fault_or, array_of, natural, key_value, dict_of}
+use Rattle.nv_args.specs.Dicts.{flag_key, flag_or}
+use Rattle.nv_api_mark.specs.Namespaces.{namespace_of_id}
+use Rattle.nv_args.specs.Naming.{naming_fault}
+use Rattle.nv_api_mark.specs.Groups.{group_operations}
+use Rattle.nv_api_mark.specs.Setting.{greatest_mark_id, mark_id_in, priority_in, has_end, mark_keys, naming_keys, place_by_numbers, end_place, far_at, group_name, group_number, paint_of}
+
+-- the id that a mark gets: the one that is given, else one more than the greatest that was ever set
+-- there (own rule)
+abbrev pub next_mark_id : SeenBuffer → ℕ → Option ℕ → ℕ
+next_mark_id b ns (Some id) = id
+next_mark_id b ns None = suc (b.greatest ns)
+
+-- whether no id is left for a mark without one
+abbrev pub no_mark_left : SeenBuffer → ℕ → Option ℕ → Bool
+no_mark_left b ns (Some id) = false
+no_mark_left b ns None = nat_le greatest_mark_id (b.greatest ns)
+
+-- whether a number is no group's
+abbrev pub is_no_group : List NamedGroup → Option ℤ → Bool
+is_no_group groups None = false
+is_no_group groups (Some (pos id)) = not (nat_le 1 id && nat_le id (length groups))
+is_no_group groups (Some (negsuc n)) = true
+
+abbrev pub group_words : Option ℤ → List ℕ
+group_words None = []
+group_words (Some id) = signed_decimal id
+
+-- how many groups are made for a name
+abbrev pub wanted_group_operations : List NamedGroup → Option (List ℕ) → List Operation
+wanted_group_operations groups None = []
+wanted_group_operations groups (Some name) = group_operations groups name
+
+-- whether a further mark, or a further group, would pass its limit
+abbrev pub mark_passes_limit : Stage → SeenBuffer → ℕ → ℕ → Option (List ℕ) → Bool
+mark_passes_limit stage b ns id name =
+    (is_none (mark_at b.marks ns id) && nat_le stage.limits.marks (length b.marks))
+    || nat_lt stage.limits.groups
+    (length stage.groups + length (wanted_group_operations stage.groups name))
+
+-- the mark
+abbrev pub mark_with : List NamedGroup → ℕ → ℕ → Pos → Option Far → List (Tree × Tree) → Mark
+mark_with groups ns id start stop pairs = record {
+  ns = ns;
+  id = id;
+  start = start;
+  right = flag_or true (codes "right_gravity") pairs;
+  stop = stop;
+  paint = paint_of groups pairs;
+  priority = unwrap_or (option_and_then priority_in (value_of (codes "priority") pairs)) 4096;
+}
+
+-- the id that pairs that count give
+abbrev pub given_id : List (Tree × Tree) → Option ℕ
+given_id pairs = option_and_then mark_id_in (value_of (codes "id") pairs)
+
+-- a mark set at a start, with an end that may lie before it
+abbrev pub mark_answer : Seen → ℤ → SeenBuffer → ℕ → Pos → Option Far → List (Tree × Tree) → Answer
+mark_answer s n b ns start stop pairs =
+    let id = next_mark_id b ns (given_id pairs) in
+    unless (
+    (option_map_or (λ far. is_before far.pos start) stop false, start_after_end)
+    ∷ (no_mark_left b ns (given_id pairs), no_id_left)
+    ∷ (
+      is_no_group s.stage.groups (group_number pairs),
+      unknown_name (group_words (group_number pairs)),
+    )
+    ∷ (mark_passes_limit s.stage b ns id (group_name pairs), limit_reached)
+    ∷ [])
+    (replied (natural id) (wanted_group_operations s.stage.groups (group_name pairs)
+    ++ mark_set n (mark_with s.stage.groups ns id start stop pairs) ∷ []) [])
+
+-- the end, where one is wanted
+abbrev pub mark_answer_with_end : Seen → ℤ → SeenBuffer → ℕ → Pos → List (Tree × Tree) → Answer
+mark_answer_with_end s n b ns start pairs =
+    if has_end pairs
+    then or_refused (end_place b.lines start pairs) out_of_bounds
+    (λ place. mark_answer s n b ns start (Some (far_at pairs place)) pairs)
+    else mark_answer s n b ns start None pairs
+
+abbrev pub mark_answer_at : Seen → ℤ → ℤ → ℤ → ℤ → List (Tree × Tree) → Answer
+mark_answer_at s buffer namespace row col pairs =
+    on_buffer s buffer (λ n b.
+    fault_or (naming_fault naming_keys (mark_keys pairs) pairs) (
+    or_refused (namespace_of_id s.stage namespace) out_of_bounds (λ ns.
+    or_refused (place_by_numbers
+    (flag_or true (codes "strict") pairs) b.lines row col) out_of_bounds (λ start.
+    mark_answer_with_end s n b ns start pairs))))
+
+-- nvim_buf_set_extmark(buffer, ns_id, line, col, opts): a mark is set, anew as a whole where its id
+-- is there; its id
+abbrev pub nvim_buf_set_extmark : Seen → ℕ → List Arg → Answer
+nvim_buf_set_extmark s session args = mark_answer_at s (number_at args 0) (number_at args 1)
+    (number_at args 2) (number_at args 3) (last_pairs (pairs_at args 4))
+
+-- the mark of a namespace and a number, where it is there
+abbrev pub mark_numbered : SeenBuffer → ℕ → ℤ → Option Mark
+mark_numbered b ns (pos id) = mark_at b.marks ns id
+mark_numbered b ns (negsuc n) = None
+
+-- a mark removed, where it is there
+abbrev pub removal_answer : ℤ → Option Mark → Answer
+removal_answer n None = reply_of (truth false)
+removal_answer n (Some m) = replied (truth true) (mark_removed n m.ns m.id ∷ []) []
+
+-- nvim_buf_del_extmark(buffer, ns_id, id): whether it was there
+abbrev pub nvim_buf_del_extmark : Seen → ℕ → List Arg → Answer
+nvim_buf_del_extmark s session args =
+    on_buffer s (number_at args 0) (λ n b.
+    or_refused (namespace_of_id s.stage (number_at args 1)) out_of_bounds (λ ns.
+    removal_answer n (mark_numbered b ns (number_at args 2))))
+
+-- what is told of the end of a mark, and of what it shows
+abbrev pub end_details : Option Far → List (Tree × Tree)
+end_details None = []
+end_details (Some far) =
+    key_value "end_row" (natural far.pos.row)
+    ∷ key_value "end_col" (natural far.pos.col)
+    ∷ key_value "end_right_gravity" (truth far.right)
+    ∷ []
+
+abbrev pub paint_details : List NamedGroup → Option Paint → List (Tree × Tree)
+paint_details groups None = []
+paint_details groups (Some paint) = key_value "hl_group" (text (name_at groups paint.group))
+    ∷ key_value "hl_eol" (truth paint.eol) ∷ []
+
+-- the details of a mark
+abbrev pub details_of : List NamedGroup → Mark → Tree
+details_of groups m =
+    dict_of (
+    key_value "ns_id" (natural m.ns)
+    ∷ key_value "right_gravity" (truth m.right)
+    ∷ key_value "priority" (natural m.priority)
+    ∷ end_details m.stop ++ paint_details groups m.paint)
+
+-- the place of a mark, and its details where they are wanted
+abbrev pub place_values : List NamedGroup → Bool → Mark → List Tree
+place_values groups details m =
+    natural m.start.row ∷ natural m.start.col ∷ (if details then details_of groups m ∷ [] else [])
+
+abbrev pub place_values_if_any : List NamedGroup → Bool → Option Mark → List Tree
+place_values_if_any groups details None = []
+place_values_if_any groups details (Some m) = place_values groups details m
+
+-- nvim_buf_get_extmark_by_id(buffer, ns_id, id, opts): its row and column, with key `details` the
+-- details too, and an empty Array where it isn't there
+abbrev pub nvim_buf_get_extmark_by_id : Seen → ℕ → List Arg → Answer
+nvim_buf_get_extmark_by_id s session args =
+    on_buffer s (number_at args 0) (λ n b.
+    fault_or (map_fault (flag_key (codes "details") ∷ []) (last_pairs (pairs_at args 3))) (
+    or_refused (namespace_of_id s.stage (number_at args 1)) out_of_bounds (λ ns.
+    reply_of (array_of (place_values_if_any s.stage.groups
+    (flag_or false (codes "details") (last_pairs (pairs_at args 3)))
+    (mark_numbered b ns (number_at args 2)))))))

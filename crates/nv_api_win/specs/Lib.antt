@@ -1,0 +1,7 @@
+pub mod Windows
+pub mod Opening
+pub mod WindowRows
+pub mod TabpageRows
+pub mod Rows
+pub mod Laws
+pub mod inside

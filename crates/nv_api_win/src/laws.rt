@@ -1,0 +1,8 @@
+//! Laws of the rows, each the contract of a function that does nothing.
+
+ghost use Rattle.nv_api_win.specs.Laws.{WindowRowsTell};
+
+/// Whatever a method on windows or tabpages answers, it makes no splice and tells of none.
+pub fn telling_laws()
+    ensures told { WindowRowsTell }
+{}

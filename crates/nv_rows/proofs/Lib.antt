@@ -1,4 +1,0 @@
-pub mod WorkedRuns
-pub mod CallLaws
-pub mod WorkedMarks
-pub mod WorkedWindows

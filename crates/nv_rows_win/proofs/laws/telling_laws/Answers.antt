@@ -1,5 +1,0 @@
-use Rattle.nv_rows_win.proofs.RowsTell.{no_splice_is_told}
-use Rattle.nv_rows_win.proofs.laws.telling_laws.Goals as goal
-
-pub returns : goal.returns
-returns c = record { told = no_splice_is_told }

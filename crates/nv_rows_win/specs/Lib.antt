@@ -1,6 +1,0 @@
-pub mod Windows
-pub mod Opening
-pub mod WindowRows
-pub mod TabpageRows
-pub mod Rows
-pub mod Laws

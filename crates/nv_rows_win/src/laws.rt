@@ -1,8 +1,0 @@
-//! Laws of the rows, each the contract of a function that does nothing.
-
-ghost use Rattle.nv_rows_win.specs.Laws.{WindowRowsTell};
-
-/// Whatever a method on windows or tabpages answers, it makes no splice and tells of none.
-pub fn telling_laws()
-    ensures told { WindowRowsTell }
-{}
