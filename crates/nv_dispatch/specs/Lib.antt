@@ -1,0 +1,7 @@
+pub mod Calls
+pub mod Laws
+pub mod Outcomes
+pub mod Runs
+pub mod Worked
+pub mod WorkedWindows
+pub mod inside

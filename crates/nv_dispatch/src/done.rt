@@ -1,0 +1,10 @@
+//! What a call gives.
+
+use nv_value::Value;
+
+/// The result of a call, and whether the call may have changed what is seen on a screen.
+#[derive(Drop)]
+pub struct Done {
+    pub result: Value,
+    pub is_seen: bool,
+}

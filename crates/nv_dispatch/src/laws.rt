@@ -1,0 +1,49 @@
+//! Laws of calls, each the contract of a function that does nothing.
+
+ghost use Rattle.nv_dispatch.specs.Laws.{AtomicIsOneByOne, AtomicStops, EachSpliceIsOneFact, NamesStandOnce, RefusedLeavesAll, RowsStandInTable, TicksCountFacts};
+ghost use Rattle.nv_dispatch.specs.WorkedWindows.{SplitRight, WidthWish, CloseSplit, TabNewClose, CursorMoves, OpeningFaults};
+ghost use Rattle.nv_dispatch.specs.Worked.{EmptyText, IndexBounds, StartAboveEnd, TextPlaces, UndoBranches, SecondBuffer, NotModifiable, FaultTexts, CallsInOne};
+
+/// What calls to a fresh editor answer, by the definitions alone.
+pub fn worked_runs()
+    ensures empty_text { EmptyText }
+    ensures index_bounds { IndexBounds }
+    ensures start_above_end { StartAboveEnd }
+    ensures text_places { TextPlaces }
+    ensures undo_branches { UndoBranches }
+    ensures second_buffer { SecondBuffer }
+    ensures not_modifiable { NotModifiable }
+    ensures fault_texts { FaultTexts }
+    ensures calls_in_one { CallsInOne }
+{}
+
+/// What calls on windows and tabpages of a fresh editor answer, by the definitions alone.
+pub fn worked_windows()
+    ensures split_right { SplitRight }
+    ensures width_wish { WidthWish }
+    ensures close_split { CloseSplit }
+    ensures tab_new_close { TabNewClose }
+    ensures cursor_moves { CursorMoves }
+    ensures opening_faults { OpeningFaults }
+{}
+
+/// The method of each name stands at one place of the table, and each row is that of a method of
+/// the table.
+pub fn table_laws()
+    ensures once { NamesStandOnce }
+    ensures rows { RowsStandInTable }
+{}
+
+/// A refused call leaves the editor as it was and tells nothing; each splice that a call makes is
+/// one fact, and raises the changedtick of its buffer by one.
+pub fn call_laws()
+    ensures refused { RefusedLeavesAll }
+    ensures facts { EachSpliceIsOneFact }
+    ensures ticks { TicksCountFacts }
+{}
+
+/// Calls in one are those calls one after another, up to the first that is refused.
+pub fn atomic_laws()
+    ensures all { AtomicIsOneByOne }
+    ensures stops { AtomicStops }
+{}

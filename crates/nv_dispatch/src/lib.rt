@@ -1,0 +1,17 @@
+//! Whole calls: which row a method has, and what calls one after another come to.
+#![tactic(auto)]
+
+mod batch;
+mod calling;
+mod done;
+mod laws;
+mod limits;
+mod table;
+
+pub use calling::call;
+pub use done::Done;
+pub use laws::{atomic_laws, call_laws, table_laws, worked_runs, worked_windows};
+pub use limits::usual_limits;
+
+#[cfg(test)]
+mod tests;
