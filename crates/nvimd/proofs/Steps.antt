@@ -1,6 +1,7 @@
 -- What each step of a session is, in the words of its bytes.
-use Rattle.std.proofs.Common.{◌≡◌, ◌⊎◌, ℕ, ◌+◌, ◌<◌, ◌≤◌, List, [], ◌∷◌, ◌++◌, length, take, Option, Some, None, refl, sym, ap, ◌∙◌, subst, arith, length-append, inl, inr, ⊎_elim}
+use Rattle.std.proofs.Common.{ℤ, ◌≡◌, ◌⊎◌, ℕ, ◌+◌, ◌<◌, ◌≤◌, List, [], ◌∷◌, ◌++◌, length, take, Option, Some, None, refl, sym, ap, ◌∙◌, subst, arith, length-append, inl, inr, ⊎_elim}
 use Rattle.std.proofs.lemmas.List.{append-nil}
+use Rattle.std.proofs.lemmas.List.Elements.{All-nil, All-cons}
 use Rattle.std.specs.Option.{option_or}
 use Rattle.std.specs.Io.KnownBytes.{append_known}
 use Rattle.nv_value.specs.View.{content}
@@ -16,17 +17,25 @@ use Rattle.nv_stream.specs.State as stream
 use Rattle.nv_stream.specs.Answers.{NeedsMore, IsAnswer, IsFlawAt}
 use Rattle.nv_stream.specs.declared.stream.Next.TheVariants.{Value as TheValue, Flaw as TheFlaw}
 use Rattle.nv_rpc.specs.Calls.{Call, call_in}
+use Rattle.nv_model.specs.Editors.{ModelEditor}
+use Rattle.nv_model.specs.Keeping.{fresh_kept}
+use Rattle.nv_model.specs.Standing.{PresentEditor, Stands}
 use Rattle.nv_buffer.specs.Content.{Content}
-use Rattle.nvimd.specs.Methods.{first_buffer}
-use Rattle.nvimd.specs.Answers.{outcome_of, answer_to, answers_to}
+use Rattle.nv_editor.specs.Sound.{AllSealed}
+use Rattle.nv_dispatch.specs.Runs.{usual_limits}
+use Rattle.nvimd.specs.Answers.{answer_to, answers_to}
 use Rattle.nvimd.specs.Reading.{most_depth, most_bytes, Calls, EndsAt}
 use Rattle.nvimd.specs.Ends.{IsUnfinished, IfInside}
-use Rattle.nvimd.specs.inside.Serving.{IsReady, IsNew, WroteFront, AnswersCall, StopsAtValue, ServesCalls, FinishesCalls, StopsShort, EndsIn, ended_by}
+use Rattle.nvimd.specs.inside.Serving.{IsReady, IsNew, CutsAnswer, AnswersCall, StopsAtValue, ServesCalls, FinishesCalls, StopsShort, EndsIn, ended_by}
 use Rattle.nvimd.specs.declared.session.Session.{Session}
 use Rattle.nvimd.proofs.Serving.{known_none, served_none}
 
+-- a fresh editor has no open change
+fresh_sealed : AllSealed (fresh_kept usual_limits)
+fresh_sealed = All-cons (λ (b : ℤ × Content). b.1.unsealed ≡ []) _ [] refl (All-nil (λ (b : ℤ × Content). b.1.unsealed ≡ []))
+
 -- a session to which no byte has come
-pub begun : (s : Session) → s.stream ≡ stream.empty_state most_depth most_bytes → s.buffer ≡ first_buffer → s.number ≡ 0 → IsNew s × IsReady s
+pub begun : (s : Session) → s.stream ≡ stream.empty_state most_depth most_bytes → s.editor ≡ fresh_kept usual_limits → s.number ≡ 0 → IsNew s × IsReady s
 begun s e t n =
     let place : s.stream.start ≡ 0 = ap (λ (x : State). x.start) e in (
       record { place = place; nothing = ap (λ (x : State). x.held) e; none = n; first = t },
@@ -35,27 +44,37 @@ begun s e t n =
         most = ap (λ (x : State). x.most) e;
         no_flaw = ap (λ (x : State). x.flaw) e;
         counted = omega arith;
+        sealed = subst AllSealed (sym t) fresh_sealed;
       },
     )
 
 -- nothing was answered yet
 pub cut_none : (bytes : List ℕ) (s : Session) (out : Option (List ℕ)) → StopsShort bytes s out out
-cut_none bytes s out = record { calls = []; whole = []; rest = bytes; parts = refl; spelled = refl; count = 0; written = known_none out }
+cut_none bytes s out = record { calls = []; next = []; at_most_one = omega arith; whole = []; rest = bytes; parts = refl; spelled = refl; count = 0; written = λ m is. known_none out }
+
+held_at : (s : Session) (held : List ℕ) → (held ≡ []) ⊎ IsPartial most_depth most_bytes held → EndsAt s.number s.stream.start held (end_at s.stream.start held)
+held_at s [] h = refl
+held_at s (b ∷ held) (inl e) = absurd (omega (arith, ap (length {A = ℕ}) e))
+held_at s (b ∷ held) (inr p) = (refl, omega arith, p)
 
 unfinished_at : (place : ℕ) (held : List ℕ) → IsUnfinished (end_at place held)
 unfinished_at place [] = tt
 unfinished_at place (b ∷ held) = tt
 
 finished_at : (s : Session) (held : List ℕ) (out : Option (List ℕ)) → (held ≡ []) ⊎ IsPartial most_depth most_bytes held → FinishesCalls (end_at s.stream.start held) held s out out
-finished_at s [] out h = record { calls = []; reads = refl; written = known_none out }
+finished_at s [] out h = record { calls = []; reads = refl; written = λ m is. known_none out }
 finished_at s (b ∷ held) out (inl e) = absurd (omega (arith, ap (length {A = ℕ}) e))
-finished_at s (b ∷ held) out (inr p) = record { calls = []; reads = (refl, omega arith, p); written = known_none out }
+finished_at s (b ∷ held) out (inr p) = record { calls = []; reads = (refl, omega arith, p); written = λ m is. known_none out }
 
 -- what a session that is ready holds where it needs more bytes
 needs : (s : Session) → IsReady s → NeedsMore s.stream → (s.stream.held ≡ []) ⊎ IsPartial most_depth most_bytes s.stream.held
 needs s r h =
     let P : ℕ → ℕ → Type 0 = λ d m. (s.stream.held ≡ []) ⊎ IsPartial d m s.stream.held in
     subst (λ (d : ℕ). P d most_bytes) r.depth (subst (λ (m : ℕ). P s.stream.depth m) r.most h)
+
+-- where a session stands that needs more bytes
+pub ends_there : (s : Session) → IsReady s → NeedsMore s.stream → (flaw : Option Flaw) × IsUnfinished flaw × EndsAt s.number s.stream.start s.stream.held flaw
+ends_there s r h = (end_at s.stream.start s.stream.held, unfinished_at s.stream.start s.stream.held, held_at s s.stream.held (needs s r h))
 
 -- the end of what a session holds
 held_ends : (s : Session) (out : Option (List ℕ)) → IsReady s → NeedsMore s.stream → (flaw : Option Flaw) × (flaw ≡ stream_end s.stream) × IsUnfinished flaw × FinishesCalls flaw s.stream.held s out out
@@ -93,7 +112,7 @@ fails_held over s out r h = let w = held_ends s out r h in ends_last over ReadFa
 pub record Given (v : Value) (old middle : Session) : Type 0 where
   pub gives : IsAnswer (TheValue v) old.stream middle.stream
   pub number : middle.number ≡ old.number
-  pub buffer : middle.buffer ≡ old.buffer
+  pub editor : middle.editor ≡ old.editor
 
 within_bounds : (v : Value) (old middle : Session) (front : List ℕ) → IsReady old → SpellsWithin old.stream.depth old.stream.most (content v) front → SpellsWithin most_depth most_bytes (content v) front
 within_bounds v old middle front r h =
@@ -126,25 +145,29 @@ no_call_here flaw v old middle before after r g e n w =
           no_call = n;
         },
       );
-      written = w ∙ known_none before;
+      written = λ m is. w ∙ known_none before;
     }
 
 one_call : (v : Value) (old middle : Session) (call : Call) (g : Given v old middle) → IsReady old → call_in (content v) ≡ Some call → Calls (call ∷ []) g.gives.0
 one_call v old middle call g r e =
     (g.gives.0, [], record { value = content v; spelled = spelled_given v old middle g r; is_call = e }, sym (append-nil g.gives.0), refl)
 
-one_answer : (call : Call) (old middle : Content) → middle ≡ old → answer_to call middle ≡ answers_to (call ∷ []) old
-one_answer call old middle e = ap (answer_to call) e ∙ sym (append-nil (answer_to call old))
+pub one_answer : (call : Call) (m : ModelEditor) → answer_to call m ≡ answers_to (call ∷ []) m
+one_answer call m = sym (append-nil (answer_to call m))
 
-cut_in_call : (v : Value) (old middle : Session) (before after : Option (List ℕ)) (call : Call) → IsReady old → Given v old middle → call_in (content v) ≡ Some call → WroteFront (answer_to call middle.buffer) before after → StopsShort old.stream.held old before after
+cut_in_call : (v : Value) (old middle : Session) (before after : Option (List ℕ)) (call : Call) → IsReady old → Given v old middle → call_in (content v) ≡ Some call → CutsAnswer call middle before after → StopsShort old.stream.held old before after
 cut_in_call v old middle before after call r g e b = record {
-  calls = call ∷ [];
+  calls = [];
+  next = call ∷ [];
+  at_most_one = omega arith;
   whole = g.gives.0;
   rest = middle.stream.held;
   parts = g.gives.3;
   spelled = one_call v old middle call g r e;
-  count = b.0;
-  written = b.1 ∙ ap (λ (l : List ℕ). append_known before (take b.0 l)) (one_answer call old.buffer middle.buffer g.buffer);
+  count = b.count;
+  written = λ m is.
+      b.written m (subst (λ (k : PresentEditor). Stands k m) (sym g.editor) is)
+      ∙ ap (λ (l : List ℕ). append_known before (take b.count l)) (one_answer call m);
 }
 
 -- the value that the stream gave wasn't answered
@@ -177,22 +200,22 @@ served_one v old middle new before after call r g e a =
         parts = parts;
         place = place;
         number = number;
-        after_them = a.after_it ∙ ap (λ (b : Content). (outcome_of call b).after) g.buffer;
-        written = a.written ∙ ap (λ (l : List ℕ). append_known before l) (one_answer call old.buffer middle.buffer g.buffer);
+        answered = λ m is. a.answered m (subst (λ (k : PresentEditor). Stands k m) (sym g.editor) is);
       },
       record {
         depth = ap (λ (x : State). x.depth) state ∙ r.depth;
         most = ap (λ (x : State). x.most) state ∙ r.most;
         no_flaw = ap (λ (x : State). x.flaw) state ∙ r.no_flaw;
         counted = omega arith;
+        sealed = a.sealed;
       },
       omega (arith, ap (length {A = ℕ}) parts, length-append g.gives.0 new.stream.held),
     )
 
 flaw_here : (flaw : Flaw) (s : Session) (out : Option (List ℕ)) → IsFlawAt most_depth most_bytes s.stream.start s.stream.held flaw → FinishesCalls (Some flaw) s.stream.held s out out × IfInside flaw ⊥
-flaw_here (Bad place) s out h = (record { calls = []; reads = h; written = known_none out }, tt)
-flaw_here (TooDeep place) s out h = (record { calls = []; reads = h; written = known_none out }, tt)
-flaw_here (TooLong place) s out h = (record { calls = []; reads = h; written = known_none out }, tt)
+flaw_here (Bad place) s out h = (record { calls = []; reads = h; written = λ m is. known_none out }, tt)
+flaw_here (TooDeep place) s out h = (record { calls = []; reads = h; written = λ m is. known_none out }, tt)
+flaw_here (TooLong place) s out h = (record { calls = []; reads = h; written = λ m is. known_none out }, tt)
 flaw_here (Inside place) s out h = absurd h
 flaw_here (NoCall place) s out h = absurd h
 

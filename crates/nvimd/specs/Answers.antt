@@ -6,14 +6,18 @@ use Rattle.nv_rpc.specs.Calls.{Call, request, notice}
 use Rattle.nv_rpc.specs.Messages.{Sent, reply, fault_event, message_tree}
 use Rattle.nv_msgpack.specs.Shortest.{shortest}
 use Rattle.nv_args.specs.Arguments.{tree_list}
-use Rattle.nv_buffer.specs.Content.{Content}
-use Rattle.nvimd.specs.Methods.{Outcome, outcome, one_change}
+use Rattle.nv_model.specs.Editors.{ModelEditor, fresh_editor}
+use Rattle.nv_dispatch.specs.Calls.{CallOutcome, editor_after, outcome_of_call}
+use Rattle.nv_dispatch.specs.Runs.{usual_limits}
 
--- what a call does to the buffer, and what it answers
-abbrev pub outcome_of : Call → Content → Outcome
-outcome_of (request msgid method params) buffer =
-    one_change (outcome method (tree_list params) buffer)
-outcome_of (notice method params) buffer = one_change (outcome method (tree_list params) buffer)
+-- the editor at first: a fresh one (own rule)
+abbrev pub first_editor : ModelEditor
+first_editor = fresh_editor usual_limits
+
+-- what a call of the one session comes to, whose number is 1
+abbrev pub outcome_of : Call → ModelEditor → CallOutcome
+outcome_of (request msgid method params) m = outcome_of_call m 1 method (tree_list params)
+outcome_of (notice method params) m = outcome_of_call m 1 method (tree_list params)
 
 -- the messages that a call makes due: the reply of a request, and of a notification only its fault
 abbrev pub messages_due : Call → Result Tree ApiFault → List Sent
@@ -29,16 +33,16 @@ bytes_of_messages (message ∷ messages) =
     shortest (message_tree message) ++ bytes_of_messages messages
 
 -- the bytes that a call is answered with
-abbrev pub answer_to : Call → Content → List ℕ
-answer_to call buffer = bytes_of_messages (messages_due call (outcome_of call buffer).result)
+abbrev pub answer_to : Call → ModelEditor → List ℕ
+answer_to call m = bytes_of_messages (messages_due call (outcome_of call m).result)
 
 -- the bytes that calls are answered with, one after another
-abbrev pub answers_to : List Call → Content → List ℕ
-answers_to [] buffer = []
-answers_to (call ∷ calls) buffer =
-    answer_to call buffer ++ answers_to calls (outcome_of call buffer).after
+abbrev pub answers_to : List Call → ModelEditor → List ℕ
+answers_to [] m = []
+answers_to (call ∷ calls) m =
+    answer_to call m ++ answers_to calls (editor_after m (outcome_of call m))
 
--- the buffer after calls
-abbrev pub buffer_after : List Call → Content → Content
-buffer_after [] buffer = buffer
-buffer_after (call ∷ calls) buffer = buffer_after calls (outcome_of call buffer).after
+-- the editor that calls leave
+abbrev pub editor_after_calls : List Call → ModelEditor → ModelEditor
+editor_after_calls [] m = m
+editor_after_calls (call ∷ calls) m = editor_after_calls calls (editor_after m (outcome_of call m))

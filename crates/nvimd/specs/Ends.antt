@@ -6,8 +6,7 @@ use Rattle.nv_io.specs.declared.ending.Flaw.TheVariants.{Bad, TooDeep, TooLong, 
 use Rattle.nv_io.specs.declared.ending.Ended.{Ended}
 use Rattle.nv_io.specs.declared.ending.Ended.TheVariants.{Closed, Malformed, Overflowed, ReadFault, WriteFault, Quit, NoMemory}
 use Rattle.nv_rpc.specs.Calls.{Call}
-use Rattle.nvimd.specs.Methods.{first_buffer}
-use Rattle.nvimd.specs.Answers.{answers_to}
+use Rattle.nvimd.specs.Answers.{first_editor, answers_to, editor_after_calls}
 use Rattle.nvimd.specs.Reading.{Calls, Reads}
 
 -- a source was read to its end: nothing is left of it, where it tells that, or so many bytes were
@@ -21,23 +20,42 @@ pub record AnswersAll (flaw : Option Flaw) (bytes : List ℕ)
     (before after : Option (List ℕ)) : Type 0 where
   pub calls : List Call
   pub reads : Reads calls bytes flaw
-  pub written : after ≡ append_known before (answers_to calls first_buffer)
-
--- the bytes read begin with calls, and what went out grew by a prefix of the answers to them
-pub record AnswersSome (bytes : List ℕ) (before after : Option (List ℕ)) : Type 0 where
-  pub calls : List Call
-  pub whole : List ℕ
-  pub rest : List ℕ
-  pub parts : bytes ≡ whole ++ rest
-  pub reads : Calls calls whole
-  pub count : ℕ
-  pub written : after ≡ append_known before (take count (answers_to calls first_buffer))
+  pub written : after ≡ append_known before (answers_to calls first_editor)
 
 -- the bytes end between two calls, or inside one
 abbrev pub IsUnfinished : Option Flaw → Type 0
 IsUnfinished None = ⊤
 IsUnfinished (Some (Inside place)) = ⊤
 IsUnfinished _ = ⊥
+
+-- the bytes read are earlier ones and what one more read gave, and the calls that were whole before
+-- it are the first of these
+pub record HasEarlier (calls : List Call) (bytes : List ℕ) : Type 0 where
+  pub earlier : List ℕ
+  pub last : List ℕ
+  pub parts : bytes ≡ earlier ++ last
+  pub short : length last ≤ 65536
+  pub first : List Call
+  pub later : List Call
+  pub flaw : Option Flaw
+  pub unfinished : IsUnfinished flaw
+  pub reads : Reads first earlier flaw
+  pub begins : calls ≡ first ++ later
+
+-- The bytes read begin with calls that were answered whole, and of the answer to the next call, if
+-- there is one, a prefix went out. Each call that was whole before the last read was answered.
+pub record AnswersSome (bytes : List ℕ) (before after : Option (List ℕ)) : Type 0 where
+  pub calls : List Call
+  pub next : List Call
+  pub at_most_one : length next ≤ 1
+  pub whole : List ℕ
+  pub rest : List ℕ
+  pub parts : bytes ≡ whole ++ rest
+  pub reads : Calls (calls ++ next) whole
+  pub earlier : HasEarlier calls bytes
+  pub count : ℕ
+  pub written : after ≡ append_known before (answers_to calls first_editor
+      ++ take count (answers_to next (editor_after_calls calls first_editor)))
 
 -- a flaw that stands only at the end of what a source has: its last value is cut
 abbrev pub IfInside : Flaw → Type 0 → Type 0

@@ -1,4 +1,3 @@
 -- What private contracts alone cite.
-pub mod Called
 pub mod Calling
 pub mod Serving

@@ -4,7 +4,6 @@
 mod answering;
 mod command;
 mod laws;
-mod methods;
 mod session;
 mod speaking;
 mod telling;

@@ -8,17 +8,18 @@ ghost use Rattle.nv_value.specs.View.{content};
 ghost use Rattle.nv_msgpack.specs.Within.{SpellsWithin};
 ghost use Rattle.nv_stream.specs.State.{empty_state, stream_end};
 ghost use Rattle.nv_stream.specs.Answers.{NeedsMore};
+ghost use Rattle.nv_editor.specs.Sound.{AllSealed};
 ghost use Rattle.nv_rpc.specs.Calls.{Call, call_in};
 ghost use Rattle.nv_rpc.specs.Frames.{call_of_frame};
-ghost use Rattle.nvimd.specs.Answers.{answer_to};
 ghost use Rattle.nvimd.specs.inside.Calling.{IsCallBounded};
 ghost use Rattle.nvimd.specs.Ends.{SessionEnds};
 ghost use Rattle.nvimd.specs.Reading.{most_depth, most_bytes};
-ghost use Rattle.nvimd.specs.inside.Serving.{IsReady, IsNew, WroteFront, AnswersCall, IsCutShort, StopsAtValue, Steps, Serves, TakesPiece, Turns, ended_by};
+ghost use Rattle.nvimd.specs.inside.Serving.{IsReady, IsNew, CutsAnswer, AnswersCall, IsCutShort, StopsAtValue, Steps, Serves, TakesPiece, Turns, ended_by};
 
 use crate::answering::answer;
 use crate::speaking::speak;
-use nv_buffer::Buffer;
+use nv_dispatch::usual_limits;
+use nv_editor::Editor;
 use nv_io::{Ended, Flaw, Got, Sink, Source};
 use nv_msgpack::Bounds;
 use nv_rpc::{Frame, call_of};
@@ -41,12 +42,12 @@ const PIECE: usize = 65_536;
 /// A source from which so many bytes were taken counts as ended.
 const MOST_TAKEN: u64 = 1 << 62;
 
-/// One session over a stream of bytes and the one buffer.
+/// One session over a stream of bytes, and the editor that is its own.
 #[derive(Drop)]
 pub struct Session {
     alloc: Global,
     stream: Stream,
-    buffer: Buffer,
+    editor: Editor,
     // The calls answered so far.
     number: u64,
     // The bytes of the message that goes out.
@@ -61,7 +62,7 @@ impl Session {
         Ok(Session {
             alloc,
             stream: Stream::new(alloc, BOUNDS)?,
-            buffer: Buffer::new(alloc, 1)?,
+            editor: Editor::new(alloc, usual_limits())?,
             number: 0,
             room: Vec::new(alloc),
         })
@@ -92,16 +93,17 @@ impl Session {
     >(&mut self, rt: &R, call: Frame, output: &mut S) -> Result<(), Ended>
         requires call { IsCallBounded (call_of_frame call) }
         requires number { self.old.number < 2 ^ 63 }
+        requires sealed { AllSealed self.old.editor }
         ensures ok { OnOk result (AnswersCall (call_of_frame call) self.old self.new
             (S.taken output.old) (S.taken output.new)) }
         ensures err { IfErr result (λ ended. IsCutShort ended
-            × WroteFront (answer_to (call_of_frame call) self.old.buffer) (S.taken output.old)
+            × CutsAnswer (call_of_frame call) self.old (S.taken output.old)
             (S.taken output.new)) }
         ensures later { S.faults output.old ≤ S.faults output.new }
         ensures fault { result ≡ Err Ended.WriteFault
             → Rose (S.faults output.old) (S.faults output.new) }
     {
-        let Ok(message) = answer(self.alloc, call, &mut self.buffer) else {
+        let Ok(message) = answer(&mut self.editor, call) else {
             return Err(Ended::NoMemory);
         };
         speak(rt, self.alloc, message, &mut self.room, output)?;
@@ -119,6 +121,7 @@ impl Session {
         requires spelled { (front : List ℕ)
             × SpellsWithin most_depth most_bytes (content value) front }
         requires number { self.old.number < 2 ^ 63 }
+        requires sealed { AllSealed self.old.editor }
         ensures ok { OnOk result ((call : Call) × (call_in (content value) ≡ Some call)
             × AnswersCall call self.old self.new (S.taken output.old) (S.taken output.new)) }
         ensures err { IfErr result (λ ended. StopsAtValue ended (content value) self.old
@@ -234,7 +237,7 @@ impl Session {
     }
 }
 
-/// Answers the calls of `input` on `output`, one after another, from a fresh buffer on.
+/// Answers the calls of `input` on `output`, one after another, from a fresh editor on.
 pub fn embed<
     R: Files<File = File> + Net<Listener = TcpListener, Stream = TcpStream>,
     I: Source,

@@ -77,8 +77,8 @@ fn rows() -> &'static [Row] {
         },
         Row {
             name: "no method has the name",
-            input: &[b"\x94\x00\x01\xaenvim_list_bufs\x90"],
-            output: &[b"\x94\x01\x01\x92\x00\xbeInvalid method: nvim_list_bufs\xc0"],
+            input: &[b"\x94\x00\x01\xa9nvim_nope\x90"],
+            output: &[b"\x94\x01\x01\x92\x00\xb9Invalid method: nvim_nope\xc0"],
             status: 0,
             line: b"",
         },
@@ -322,6 +322,71 @@ fn rows() -> &'static [Row] {
     ]
 }
 
+// Calls that look beyond the text of the first buffer.
+fn editing() -> &'static [Row] {
+    &[
+        Row {
+            name: "a second buffer with a name",
+            input: &[
+                b"\x94\x00\x01\xafnvim_create_buf\x92\xc3\xc2",
+                b"\x94\x00\x02\xb1nvim_buf_set_name\x92\x02\xa1a",
+                b"\x94\x00\x03\xb1nvim_buf_set_name\x92\x00\xa1a",
+                b"\x94\x00\x04\xb2nvim_buf_set_lines\x95\x02\x00\xff\xc3\x91\xa1z",
+                b"\x94\x00\x05\xafnvim_buf_delete\x92\x02\x80",
+                b"\x94\x00\x06\xafnvim_buf_delete\x92\x02\x81\xa5force\xc3",
+                b"\x94\x00\x07\xaenvim_list_bufs\x90",
+            ],
+            output: &[
+                b"\x94\x01\x01\xc0\xd4\x00\x02",
+                b"\x94\x01\x02\xc0\xc0",
+                b"\x94\x01\x03\x92\x00\xb3Name already in use\xc0",
+                b"\x94\x01\x04\xc0\xc0",
+                b"\x94\x01\x05\x92\x00\xbaUnsaved changes, use force\xc0",
+                b"\x94\x01\x06\xc0\xc0",
+                b"\x94\x01\x07\xc0\x91\xd4\x00\x01",
+            ],
+            status: 0,
+            line: b"",
+        },
+        Row {
+            name: "a buffer that isn't modifiable",
+            input: &[
+                b"\x94\x00\x01\xb5nvim_set_option_value\x93\xaamodifiable\xc2\x80",
+                b"\x94\x00\x02\xb2nvim_buf_set_lines\x95\x00\x00\x01\xc3\x91\xa1q",
+                b"\x94\x00\x03\xb5nvim_get_option_value\x92\xaamodifiable\x80",
+            ],
+            output: &[
+                b"\x94\x01\x01\xc0\xc0",
+                b"\x94\x01\x02\x92\x00\xbaBuffer is not 'modifiable'\xc0",
+                b"\x94\x01\x03\xc0\xc2",
+            ],
+            status: 0,
+            line: b"",
+        },
+        Row {
+            name: "calls in one are one change, up to a fault",
+            input: &[
+                b"\x94\x00\x01\xb0nvim_call_atomic\x91\x93\
+                    \x92\xb2nvim_buf_set_lines\x95\x00\x00\x00\xc3\x91\xa1a\
+                    \x92\xb2nvim_buf_set_lines\x95\x00\x01\x02\xc3\x91\xa1b\
+                    \x92\xa9nvim_nope\x90",
+                b"\x94\x00\x02\xb2nvim_buf_get_lines\x94\x00\x00\xff\xc3",
+                b"\x94\x00\x03\xacnvim_command\x91\xa4undo",
+                b"\x94\x00\x04\xb2nvim_buf_get_lines\x94\x00\x00\xff\xc3",
+            ],
+            output: &[
+                b"\x94\x01\x01\xc0\x92\x92\xc0\xc0\x93\x02\x00\
+                    \xb9Invalid method: nvim_nope",
+                b"\x94\x01\x02\xc0\x92\xa1a\xa1b",
+                b"\x94\x01\x03\xc0\xc0",
+                b"\x94\x01\x04\xc0\x91\xa0",
+            ],
+            status: 0,
+            line: b"",
+        },
+    ]
+}
+
 // Refused calls, and the exact words of each fault.
 fn refusals() -> &'static [Row] {
     &[
@@ -511,6 +576,23 @@ fn first_wrong(rt: &HostRuntime, rows: &[Row]) -> Result<Option<&'static str>, A
 #[test]
 fn rows_however_they_are_cut(rt: HostRuntime) -> Result<(), Fail> {
     assert_eq!(rt; first_wrong(&rt, rows())?, None);
+    Ok(())
+}
+
+#[test]
+fn several_buffers_options_and_calls_in_one(rt: HostRuntime) -> Result<(), Fail> {
+    assert_eq!(rt; first_wrong(&rt, editing())?, None);
+    Ok(())
+}
+
+// What a client asks first: the number of its session, and the table of methods.
+#[test]
+fn the_api_tells_of_itself(rt: HostRuntime) -> Result<(), Fail> {
+    let left = embedded(&rt, b"\x94\x00\x01\xb1nvim_get_api_info\x90", 4_096)?;
+    let front = b"\x94\x01\x01\xc0\x92\x01\x86\xa7version\x86\xa5major\x00\xa5minor\x0b";
+    assert_eq!(rt; left.status, 0);
+    assert_eq!(rt; left.output.bytes().len(), 7_032);
+    assert!(rt; left.output.bytes().starts_with(front));
     Ok(())
 }
 

@@ -3,8 +3,7 @@ ghost use Rattle.std.specs.Prelude.{◌≡◌, ◌≢◌, ℕ, ◌^◌, ◌<◌,
 ghost use Rattle.nv_io.specs.Memory.{AreSizes};
 ghost use Rattle.nv_io.specs.declared.ending.Flaw.{Flaw};
 ghost use Rattle.nv_rpc.specs.Calls.{Call};
-ghost use Rattle.nvimd.specs.Answers.{answers_to};
-ghost use Rattle.nvimd.specs.Methods.{first_buffer};
+ghost use Rattle.nvimd.specs.Answers.{answers_to, first_editor};
 ghost use Rattle.nvimd.specs.Reading.{Reads};
 
 use crate::command::run;
@@ -31,10 +30,10 @@ pub fn answer_all<R: Files<File = File> + Net<Listener = TcpListener, Stream = T
     ensures command { result.0 ≢ 2 }
     ensures sure { result.0 ≢ 3 }
     ensures whole { result.0 ≡ 0 → (calls : List Call) × Reads calls bytes.items None
-        × (result.1.taken ≡ answers_to calls first_buffer) }
+        × (result.1.taken ≡ answers_to calls first_editor) }
     ensures malformed { result.0 ≡ 6
         → (calls : List Call) × (flaw : Flaw) × (read rest : List ℕ) × (bytes.items ≡ read ++ rest)
-        × Reads calls read (Some flaw) × (result.1.taken ≡ answers_to calls first_buffer) }
+        × Reads calls read (Some flaw) × (result.1.taken ≡ answers_to calls first_editor) }
 {
     let mut input = SureSource::new(bytes, cuts);
     let mut output = MemSink::new(alloc, 4_096, Vec::new(alloc));

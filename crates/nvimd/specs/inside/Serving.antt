@@ -1,5 +1,5 @@
 -- inside: what the steps of a session do, each from the state of the session before it.
-use Rattle.std.specs.Prelude.{◌≡◌, ℕ, ◌+◌, ◌<◌, ◌≤◌, Bool, true, false, List, [], ◌++◌, length, take, Option, Some, None, Result, Ok, Err}
+use Rattle.std.specs.Prelude.{◌≡◌, ℕ, ◌+◌, ◌<◌, ◌≤◌, Bool, true, false, List, [], ◌∷◌, ◌++◌, length, take, Option, Some, None, Result, Ok, Err}
 use Rattle.std.specs.Io.KnownBytes.{append_known}
 use Rattle.nv_value.specs.Content.{Tree}
 use Rattle.nv_io.specs.declared.ending.Flaw.{Flaw}
@@ -9,8 +9,12 @@ use Rattle.nv_io.specs.declared.ending.Ended.TheVariants.{Closed, Malformed, Ove
 use Rattle.nv_stream.specs.State.{with_piece}
 use Rattle.nv_stream.specs.Answers.{NeedsMore}
 use Rattle.nv_rpc.specs.Calls.{Call, call_in}
-use Rattle.nvimd.specs.Methods.{first_buffer}
-use Rattle.nvimd.specs.Answers.{outcome_of, answer_to, answers_to, buffer_after}
+use Rattle.nv_model.specs.Editors.{ModelEditor}
+use Rattle.nv_model.specs.Keeping.{fresh_kept}
+use Rattle.nv_model.specs.Standing.{PresentEditor, Stands}
+use Rattle.nv_editor.specs.Sound.{AllSealed}
+use Rattle.nv_dispatch.specs.Runs.{usual_limits}
+use Rattle.nvimd.specs.Answers.{answer_to, answers_to, editor_after_calls}
 use Rattle.nvimd.specs.Reading.{most_depth, most_bytes, Calls, ReadsFrom}
 use Rattle.nvimd.specs.Ends.{IfInside, IsUnfinished}
 use Rattle.nvimd.specs.declared.session.Session.{Session}
@@ -21,25 +25,40 @@ pub record IsReady (s : Session) : Type 0 where
   pub most : s.stream.most ≡ most_bytes
   pub no_flaw : s.stream.flaw ≡ None
   pub counted : s.number ≤ s.stream.start
+  pub sealed : AllSealed s.editor
 
 -- the state of a session to which no byte has come
 pub record IsNew (s : Session) : Type 0 where
   pub place : s.stream.start ≡ 0
   pub nothing : s.stream.held ≡ []
   pub none : s.number ≡ 0
-  pub first : s.buffer ≡ first_buffer
+  pub first : s.editor ≡ fresh_kept usual_limits
 
 -- a part of these bytes went out, from their front
 abbrev pub WroteFront : List ℕ → Option (List ℕ) → Option (List ℕ) → Type 0
 WroteFront bytes before after = (count : ℕ) × (after ≡ append_known before (take count bytes))
+
+-- calls were answered one after another in a model editor: what is kept stands for the editor that
+-- they leave, and what went out grew by their answers
+pub record AreAnswered (calls : List Call) (m : ModelEditor) (kept : PresentEditor)
+    (before after : Option (List ℕ)) : Type 0 where
+  pub stands : Stands kept (editor_after_calls calls m)
+  pub written : after ≡ append_known before (answers_to calls m)
 
 -- a call was answered
 pub record AnswersCall (call : Call) (old new : Session)
     (before after : Option (List ℕ)) : Type 0 where
   pub stream : new.stream ≡ old.stream
   pub number : new.number ≡ old.number + 1
-  pub after_it : new.buffer ≡ (outcome_of call old.buffer).after
-  pub written : after ≡ append_known before (answer_to call old.buffer)
+  pub sealed : AllSealed new.editor
+  pub answered : (m : ModelEditor) → Stands old.editor m
+      → AreAnswered (call ∷ []) m new.editor before after
+
+-- a part of the answer to a call went out, from its front
+pub record CutsAnswer (call : Call) (s : Session) (before after : Option (List ℕ)) : Type 0 where
+  pub count : ℕ
+  pub written : (m : ModelEditor) → Stands s.editor m
+      → after ≡ append_known before (take count (answer_to call m))
 
 -- an end on the way out: writing failed, or memory was wanting
 abbrev pub IsCutShort : Ended → Type 0
@@ -52,7 +71,7 @@ abbrev pub StopsAtValue : Ended → Tree → Session → Option (List ℕ) → O
 StopsAtValue (Malformed flaw) value s before after =
     (flaw ≡ NoCall s.number) × (call_in value ≡ None) × (after ≡ before)
 StopsAtValue ended value s before after = IsCutShort ended × (call : Call)
-    × (call_in value ≡ Some call) × WroteFront (answer_to call s.buffer) before after
+    × (call_in value ≡ Some call) × CutsAnswer call s before after
 
 -- Of bytes that begin where a session stood, the calls at their front were answered, and the others
 -- are held.
@@ -64,8 +83,8 @@ pub record ServesCalls (bytes : List ℕ) (old new : Session)
   pub parts : bytes ≡ whole ++ new.stream.held
   pub place : new.stream.start ≡ old.stream.start + length whole
   pub number : new.number ≡ old.number + length calls
-  pub after_them : new.buffer ≡ buffer_after calls old.buffer
-  pub written : after ≡ append_known before (answers_to calls old.buffer)
+  pub answered : (m : ModelEditor) → Stands old.editor m
+      → AreAnswered calls m new.editor before after
 
 -- the bytes that begin where a session stood hold calls and then this flaw or none, and all of the
 -- calls were answered
@@ -73,18 +92,22 @@ pub record FinishesCalls (flaw : Option Flaw) (bytes : List ℕ) (s : Session)
     (before after : Option (List ℕ)) : Type 0 where
   pub calls : List Call
   pub reads : ReadsFrom s.number s.stream.start calls bytes flaw
-  pub written : after ≡ append_known before (answers_to calls s.buffer)
+  pub written : (m : ModelEditor) → Stands s.editor m
+      → after ≡ append_known before (answers_to calls m)
 
--- the bytes that begin where a session stood begin with calls, and a part of the answers to them
--- went out, from their front
+-- the bytes that begin where a session stood begin with calls that were answered whole, and a part
+-- of the answer to the next one went out, if there is one
 pub record StopsShort (bytes : List ℕ) (s : Session) (before after : Option (List ℕ)) : Type 0 where
   pub calls : List Call
+  pub next : List Call
+  pub at_most_one : length next ≤ 1
   pub whole : List ℕ
   pub rest : List ℕ
   pub parts : bytes ≡ whole ++ rest
-  pub spelled : Calls calls whole
+  pub spelled : Calls (calls ++ next) whole
   pub count : ℕ
-  pub written : after ≡ append_known before (take count (answers_to calls s.buffer))
+  pub written : (m : ModelEditor) → Stands s.editor m → after ≡ append_known before
+      (answers_to calls m ++ take count (answers_to next (editor_after_calls calls m)))
 
 -- How a session ends within bytes that begin where it stood, where `over` says that no more bytes
 -- come.
@@ -126,9 +149,10 @@ Serves over (Err ended) bytes old new before after = EndsIn over ended bytes old
 abbrev pub TakesPiece : {A : Type 0} → Type 0 → Result A Ended → List ℕ → Session → Session → Type 0
 TakesPiece over (Ok done) piece old new =
     (new.stream ≡ with_piece old.stream piece) × (new.number ≡ old.number)
-    × (new.buffer ≡ old.buffer) × (0 < length piece) × (length piece ≤ 65536)
+    × (new.editor ≡ old.editor) × (0 < length piece) × (length piece ≤ 65536)
 TakesPiece over (Err ended) piece old new =
-    (out : Option (List ℕ)) → EndsIn over ended (old.stream.held ++ piece) old out out
+    (length piece ≤ 65536)
+    × ((out : Option (List ℕ)) → EndsIn over ended (old.stream.held ++ piece) old out out)
 
 -- what a session did with a piece: it answered the calls that are whole by it and needs more bytes,
 -- or it ended
@@ -138,4 +162,4 @@ Turns over (Ok done) piece old new before after =
     ServesCalls (old.stream.held ++ piece) old new before after × IsReady new × NeedsMore new.stream
     × (0 < length piece) × (length piece ≤ 65536)
 Turns over (Err ended) piece old new before after =
-    EndsIn over ended (old.stream.held ++ piece) old before after
+    (length piece ≤ 65536) × EndsIn over ended (old.stream.held ++ piece) old before after

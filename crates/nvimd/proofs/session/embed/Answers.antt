@@ -2,7 +2,7 @@ use Rattle.std.proofs.Common.{ℕ, [], ◌++◌, length, ap, inl, inr, sym, ◌�
 use Rattle.nv_stream.specs.State.{stream_end}
 use Rattle.nvimd.specs.Ends.{WasRead}
 use Rattle.nvimd.proofs.Serving.{served_then, gave_none, gave_then, served_length, held_more, ends_before, ends_turn, ends_full, not_read_fault, not_write_fault}
-use Rattle.nvimd.proofs.Steps.{served_new, ends_held}
+use Rattle.nvimd.proofs.Steps.{served_new, ends_held, ends_there}
 use Rattle.nvimd.proofs.session.embed.Goals as goal
 
 pub returns-in_default-clause-ends : goal.returns-in_default-clause-ends
@@ -28,10 +28,11 @@ loop-session-init g c =
 pub returns-in-Err-clause-ends : goal.returns-in-Err-clause-ends
 returns-in-Err-clause-ends g c =
     let i = c.loop-session.invariant in
-    let t = c.in-Err.ensures.turns in (
+    let t = c.in-Err.ensures.turns in
+    let there = ends_there c.loop-session.session i.ready i.waits in (
       i.served.0 ++ t.0,
       gave_then _ _ _ _ _ _ i.served.0 t.0 i.served.1 t.1,
-      ends_turn c.in-Err.ended i.served.0 t.0 _ c.in-Ok.session c.loop-session.session _ _ _ i.begun i.served.2 t.2,
+      ends_turn c.in-Err.ended i.served.0 t.0 _ c.in-Ok.session c.loop-session.session _ _ _ there.0 i.begun i.served.2 there.1 there.2 t.2.0 t.2.1,
     )
 
 pub loop-session-smaller : goal.loop-session-smaller
@@ -67,7 +68,7 @@ returns-clause-ends g c =
     let read : WasRead (g.I.Source.left c.loop-session.input) i.served.0 = inr (omega (arith, all, c.taken.ensures)) in (
       i.served.0,
       i.served.1,
-      ends_full c.end.result i.served.0 _ c.in-Ok.session c.loop-session.session _ _ i.begun i.served.2
+      ends_full c.end.result (stream_end c.loop-session.session.stream) i.served.0 _ c.in-Ok.session c.loop-session.session _ _ c.end.ensures i.begun i.served.2
           (ends_held _ c.end.result c.loop-session.session _ read i.ready i.waits c.end.ensures),
     )
 

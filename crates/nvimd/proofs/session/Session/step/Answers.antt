@@ -11,13 +11,13 @@ returns-in_err-serve-in-Value-clause-steps g c =
     let n = rw c.in-Value.is at c.in-Ok.ensures.ok in
     let p = err_from_is_err_and c.from_residual.result c.from_residual.ensures.1 in
     rw (p.1, p.2) (refused c.in_err-serve-in-Value.field-0.0 c.in-Value.value c.args.self.now _ _ _ c.requires.ready
-    (record { gives = n; number = refl; buffer = refl }) c.in_err-serve-in-Value.ensures.err)
+    (record { gives = n; number = refl; editor = refl }) c.in_err-serve-in-Value.ensures.err)
 
 pub returns-in_ok-serve-in-Value-clause-steps : goal.returns-in_ok-serve-in-Value-clause-steps
 returns-in_ok-serve-in-Value-clause-steps g c =
     let n = rw c.in-Value.is at c.in-Ok.ensures.ok in
     let a = c.in_ok-serve-in-Value.ensures.ok in
-    served_one c.in-Value.value c.args.self.now _ c.serve.new.self _ _ a.0 c.requires.ready (record { gives = n; number = refl; buffer = refl }) a.1 a.2
+    served_one c.in-Value.value c.args.self.now _ c.serve.new.self _ _ a.0 c.requires.ready (record { gives = n; number = refl; editor = refl }) a.1 a.2
 
 pub returns-in-Flaw-clause-steps : goal.returns-in-Flaw-clause-steps
 returns-in-Flaw-clause-steps g c =

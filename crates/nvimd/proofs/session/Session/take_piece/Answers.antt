@@ -1,22 +1,26 @@
-use Rattle.std.proofs.Common.{[], take, refl}
+use Rattle.std.proofs.Common.{[], ◌≤◌, length, take, refl, arith, rules}
+use Rattle.std.proofs.lemmas.List.{length-take}
 use Rattle.nvimd.proofs.Steps.{cut_none, ends_held, ends_last, fails_held}
 use Rattle.nvimd.proofs.session.Session.take_piece.Goals as goal
 
 pub returns-in-Err-clause-takes : goal.returns-in-Err-clause-takes
-returns-in-Err-clause-takes g c =
-    (take c.in-Bytes.count c.read.new.into, record { taken = c.in-Bytes.ensures.taken; left = c.in-Bytes.ensures.left }, λ out. cut_none _ c.args.self.now out)
+returns-in-Err-clause-takes g c = (
+  take c.in-Bytes.count c.read.new.into,
+  record { taken = c.in-Bytes.ensures.taken; left = c.in-Bytes.ensures.left },
+  (search (rules, arith, length-take), λ out. cut_none _ c.args.self.now out),
+)
 
 pub returns-in-End-clause-takes : goal.returns-in-End-clause-takes
 returns-in-End-clause-takes g c =
     let over = c.in-End.ensures.end refl in (
       [],
       record { taken = c.in-End.ensures.taken; left = c.in-End.ensures.left },
-      λ out. ends_last _ c.end.result c.args.self.now out (ends_held _ c.end.result c.args.self.now out over c.requires.ready c.requires.waits c.end.ensures),
+      (omega arith, λ out. ends_last _ c.end.result c.args.self.now out (ends_held _ c.end.result c.args.self.now out over c.requires.ready c.requires.waits c.end.ensures)),
     )
 
 pub returns-in-Failed-clause-takes : goal.returns-in-Failed-clause-takes
 returns-in-Failed-clause-takes g c = (
   [],
   record { taken = c.in-Failed.ensures.taken; left = c.in-Failed.ensures.left },
-  λ out. fails_held (Unit {0}) c.args.self.now out c.requires.ready c.requires.waits,
+  (omega arith, λ out. fails_held (Unit {0}) c.args.self.now out c.requires.ready c.requires.waits),
 )
