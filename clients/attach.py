@@ -1,38 +1,134 @@
 #!/usr/bin/python3
-"""Attaches with pynvim's own message layer over a child process, and sets and gets lines through it.
+"""Attaches with pynvim to `nvimd embed` as a child process, by its own `attach`, and goes through buffers, options, windows,
+tabpages, calls in one and faults, with what each must answer.
 
-Usage: clients/attach.py      Wants Debian's python3-pynvim.
-The client's first calls, nvim_set_client_info and nvim_get_api_info, are unknown methods still, so the session
-is used below pynvim's Nvim object: the same streams, msgpack layer and request matching, with names as it sends them.
+Usage: clients/attach.py      from anywhere; it starts the launcher `nvimd` at the top of the repository.
+Wants Debian's python3-pynvim.
 """
 
 import os
 import sys
 
-from pynvim.msgpack_rpc import child_session
+import pynvim
 
 TOP = os.path.dirname(os.path.dirname(os.path.abspath(__file__)))
+wrong = []
+passed = 0
+
+
+def same(what, got, wanted):
+    global passed
+    if got == wanted:
+        passed += 1
+    else:
+        wrong.append(f"{what}: got {got!r}, and not {wanted!r}")
+
+
+def refused(what, call, message):
+    try:
+        same(what, call(), f"refused: {message}")
+    except pynvim.NvimError as error:
+        told = error.args[0]
+        same(what, told.decode() if isinstance(told, bytes) else told, message)
+
+
+def buffers(nvim):
+    first = nvim.current.buffer
+    first[:] = ["one", "two", "three"]
+    same("lines", first[:], ["one", "two", "three"])
+    same("a line", first[1], "two")
+    first.append("four")
+    del first[0]
+    same("edited", first[:], ["two", "three", "four"])
+    same("line count", len(first), 3)
+    same("changedtick", nvim.api.buf_get_changedtick(first), 5)
+    second = nvim.api.create_buf(True, False)
+    second.name = "second"
+    same("buffers", [b.number for b in nvim.buffers], [1, 2])
+    same("name", second.name, "second")
+    nvim.current.buffer = second
+    same("current buffer", nvim.current.buffer.number, 2)
+    refused("name taken", lambda: nvim.api.buf_set_name(first, "second"), "Name already in use")
+    second[:] = ["x"]
+    refused("unsaved", lambda: nvim.api.buf_delete(second, {}), "Unsaved changes, use force")
+    nvim.api.buf_delete(second, {"force": True})
+    same("buffers left", [b.number for b in nvim.buffers], [1])
+    same("deleted", second.valid, False)
+
+
+def undo(nvim):
+    buffer = nvim.current.buffer
+    before = buffer[:]
+    nvim.api.call_atomic([["nvim_buf_set_lines", [0, 0, 0, True, ["a"]]], ["nvim_buf_set_lines", [0, 0, 0, True, ["b"]]]])
+    same("two calls in one", buffer[:2], ["b", "a"])
+    nvim.command("undo")
+    same("undone as one change", buffer[:], before)
+    nvim.command("redo")
+    same("made again", buffer[:2], ["b", "a"])
+    refused("undo 99", lambda: nvim.command("undo 99"), "Index out of bounds")
+    refused("a command", lambda: nvim.command("quit"), "Unknown name: quit")
+    answer = nvim.api.call_atomic([["nvim_buf_line_count", [0]], ["nvim_nope", []]])
+    same("calls in one, refused", answer, [[len(buffer)], [1, 0, "Invalid method: nvim_nope"]])
+
+
+def options(nvim):
+    same("tabstop", nvim.api.get_option_value("tabstop", {}), 8)
+    nvim.api.set_option_value("tabstop", 4, {})
+    same("tabstop put", nvim.api.get_option_value("tabstop", {}), 4)
+    nvim.api.set_option_value("modifiable", False, {})
+    refused("not modifiable", lambda: nvim.api.buf_set_lines(0, 0, 1, True, ["q"]), "Buffer is not 'modifiable'")
+    nvim.api.set_option_value("modifiable", True, {})
+    refused("tabstop 0", lambda: nvim.api.set_option_value("tabstop", 0, {}), "Invalid value for key: tabstop")
+
+
+def faults(nvim):
+    refused("no method", lambda: nvim.request("nvim_nope"), "Invalid method: nvim_nope")
+    refused("count", lambda: nvim.request("nvim_buf_line_count"), "Wrong number of arguments: expecting 1 but got 0")
+    refused(
+        "type",
+        lambda: nvim.request("nvim_buf_line_count", "x"),
+        "Wrong type for argument 1 when calling nvim_buf_line_count, expecting Buffer",
+    )
+    refused("no buffer", lambda: nvim.request("nvim_buf_line_count", 7), "Invalid buffer id: 7")
+    refused("newline", lambda: nvim.api.buf_set_lines(0, 0, 1, True, ["a\nb"]), "String cannot contain newlines")
+
+
+def windows(nvim):
+    first = nvim.current.window
+    same("windows", [w.handle for w in nvim.windows], [1000])
+    same("size", (first.width, first.height), (80, 22))
+    second = nvim.api.open_win(0, True, {"split": "right"})
+    same("current window", nvim.current.window.handle, second.handle)
+    same("widths", (first.width, second.width), (40, 39))
+    second.width = 20
+    same("widths with a wish", (first.width, second.width), (59, 20))
+    nvim.current.buffer[:] = ["ab", "cd"]
+    second.cursor = (2, 1)
+    same("cursor", second.cursor, [2, 1])
+    refused("cursor outside", lambda: nvim.api.win_set_cursor(second, [9, 0]), "Index out of bounds")
+    nvim.command("tabnew")
+    same("tabpages", len(nvim.tabpages), 2)
+    same("tabpage's number", nvim.current.tabpage.number, 2)
+    nvim.command("tabclose")
+    same("tabpages left", len(nvim.tabpages), 1)
+    nvim.api.win_close(second, False)
+    same("windows left", [w.handle for w in nvim.windows], [1000])
+    refused("last window", lambda: nvim.api.win_close(first, False), "Cannot close the last one")
+
+
+PARTS = [buffers, undo, options, faults, windows]
 
 
 def main():
-    session = child_session([os.path.join(TOP, "nvimd"), "embed"])
-    session.error_wrapper = lambda error: RuntimeError(error[1])  # what pynvim's Nvim object sets
-    session.request("nvim_buf_set_lines", 0, 0, -1, True, ["one", "two"])
-    lines = session.request("nvim_buf_get_lines", 0, 0, -1, True)
-    refused = None
-    try:
-        session.request("nvim_get_api_info")
-    except RuntimeError as error:
-        refused = error.args[0]
-        refused = refused.decode() if isinstance(refused, bytes) else refused
-    session.close()
-    lines = [line.decode() if isinstance(line, bytes) else line for line in lines]
-    print("lines:", lines, "refused:", refused)
-    if lines != ["one", "two"] or refused != "Invalid method: nvim_get_api_info":
-        print("0 passed, 1 failed")
-        return 1
-    print("1 passed, 0 failed")
-    return 0
+    nvim = pynvim.attach("child", argv=[os.path.join(TOP, "nvimd"), "embed"])
+    same("channel", nvim.channel_id, 1)
+    for part in PARTS:
+        part(nvim)
+    nvim.close()
+    for line in wrong:
+        print(line, file=sys.stderr)
+    print(f"{passed} passed, {len(wrong)} failed")
+    return 1 if wrong else 0
 
 
 if __name__ == "__main__":
