@@ -129,9 +129,25 @@ def edits(kind, lines, count):
     return b"".join(request(1, b"nvim_buf_get_offset", integer(0), integer(row)) for row in rows)
 
 
+def small_figures(words):
+    """The figures of small requests, and of edits beside no and beside 99 other buffers."""
+    found = {}
+    server = Server(words)
+    small = b"".join(request(n, b"nvim_buf_line_count", integer(0)) for n in range(20_000))
+    found["a small request, pipelined, us"] = min(server.ask(small) for _ in range(3)) * 1e6 / 20_000
+    info = b"".join(request(n, b"nvim_get_api_info") for n in range(300))
+    found["nvim_get_api_info, us"] = min(server.ask(info) for _ in range(3)) * 1e6 / 300
+    changes = edits("replace", 1, 5_000)
+    found["an edit, one buffer, us"] = min(server.ask(changes) for _ in range(3)) * 1e6 / 5_000
+    server.ask(b"".join(request(n, b"nvim_create_buf", b"\xc3", b"\xc2") for n in range(99)))
+    found["an edit, 100 buffers, us"] = min(server.ask(changes) for _ in range(3)) * 1e6 / 5_000
+    server.close()
+    return found
+
+
 def figures(words):
     """The figures of one run of a server, by name: a number and its unit."""
-    found = {}
+    found = small_figures(words)
     server = Server(words)
     whole = set_rows(0, -1, [b"x" * 40] * 100_000)
     found["1e5 lines set, ms"] = server.ask(whole) * 1e3
