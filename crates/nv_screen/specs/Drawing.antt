@@ -54,6 +54,10 @@ row_beyond width looks = cell_of (0x7E ∷ []) looks.beyond ∷ replicate (width
 abbrev pub scene_cells : ℕ → ℕ → Looks → SceneLine → List Cell
 scene_cells width tabstop looks line = cells_of_line width tabstop line.bytes line.spans.items looks
 
+-- the cells of a line in a window
+abbrev pub pane_cells : Pane → Looks → SceneLine → List Cell
+pane_cells p looks line = scene_cells p.rect.width p.tabstop looks line
+
 -- the rows of a line and, where they all fit, of those that follow
 abbrev pub line_rows : ℕ → Looks → ℕ → List Cell → (ℕ → List (List Cell)) → List (List Cell)
 line_rows width looks room cs more =

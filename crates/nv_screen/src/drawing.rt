@@ -5,6 +5,7 @@ ghost use Rattle.nv_screen.specs.Sound.{IsDrawable};
 ghost use Rattle.std.specs.Prelude.{◌≡◌, ◌≤◌, All, IfOk, OnOk};
 
 use crate::canvas::Canvas;
+use crate::known::{KnownLines, NoLines};
 use crate::patches::lay_patches;
 use crate::scene::{Bars, Pane, Scene};
 use crate::status::status_row;
@@ -15,12 +16,13 @@ use nv_linedraw::Looks;
 use std::alloc::{AllocError, Global};
 
 // Lays a window: its text, and its status line below.
-fn lay_pane(
+fn lay_pane<K: KnownLines>(
     alloc: Global,
     canvas: &mut Canvas,
     pane: &Pane,
     looks: &Looks,
     bars: &Bars,
+    known: &K,
 ) -> Result<(), AllocError>
     requires { IsDrawable pane.now }
     ensures { OnOk result (canvas.new
@@ -35,26 +37,27 @@ fn lay_pane(
         tabstop: pane.tabstop,
         looks,
     };
-    lay_text(alloc, canvas, &frame, pane.lines.as_slice())?;
+    lay_text(alloc, canvas, &frame, pane.lines.as_slice(), known)?;
     let cells = status_row(alloc, pane, bars)?;
     let row = rect.row as usize + rect.height as usize;
     canvas.lay(row, rect.col as usize, cells)?;
     Ok(())
 }
 
-fn lay_panes(
+fn lay_panes<K: KnownLines>(
     alloc: Global,
     canvas: &mut Canvas,
     panes: &[Pane],
     looks: &Looks,
     bars: &Bars,
+    known: &K,
 ) -> Result<(), AllocError>
     requires { All IsDrawable panes.now }
     ensures { OnOk result (canvas.new
         ≡ record canvas.old { rows = with_panes looks.now bars.now canvas.old.rows panes.now }) }
 {
     for pane in panes {
-        lay_pane(alloc, canvas, pane, looks, bars)?;
+        lay_pane(alloc, canvas, pane, looks, bars, known)?;
     }
     Ok(())
 }
@@ -91,20 +94,32 @@ fn lay_separators(
     Ok(())
 }
 
-/// The screen of a scene: its windows and separators on spaces, and its patches over them. What
-/// would lie outside the screen is left out.
+/// The screen of a scene, as `draw` gives it, where the cells of known lines aren't laid anew.
 #[tactic(auto, unfolding(crate::specs::Drawing::drawn_rows))]
-pub fn draw(alloc: Global, scene: &Scene) -> Result<Grid, AllocError>
+pub fn draw_from<K: KnownLines>(
+    alloc: Global,
+    scene: &Scene,
+    known: &K,
+) -> Result<Grid, AllocError>
     requires { All IsDrawable scene.now.panes.items }
     ensures { IfOk result (λ grid. grid ≡ screen_of_scene scene.now) }
 {
     let mut canvas = Canvas::blank(alloc, scene.width, scene.height)?;
     let panes = scene.panes.as_slice();
-    lay_panes(alloc, &mut canvas, panes, &scene.looks, &scene.bars)?;
+    lay_panes(alloc, &mut canvas, panes, &scene.looks, &scene.bars, known)?;
     lay_separators(alloc, &mut canvas, scene.separators.as_slice(), &scene.bars)?;
     lay_patches(alloc, &mut canvas, scene.patches.as_slice())?;
     let grid = canvas.finish(alloc)?;
     Ok(grid)
+}
+
+/// The screen of a scene: its windows and separators on spaces, and its patches over them. What
+/// would lie outside the screen is left out.
+pub fn draw(alloc: Global, scene: &Scene) -> Result<Grid, AllocError>
+    requires { All IsDrawable scene.now.panes.items }
+    ensures { IfOk result (λ grid. grid ≡ screen_of_scene scene.now) }
+{
+    draw_from(alloc, scene, &NoLines)
 }
 
 /// The first text rows of a window by themselves, `rows` of them.
@@ -122,7 +137,7 @@ pub fn pane_grid(alloc: Global, pane: &Pane, rows: u32, looks: &Looks) -> Result
         tabstop: pane.tabstop,
         looks,
     };
-    lay_text(alloc, &mut canvas, &frame, pane.lines.as_slice())?;
+    lay_text(alloc, &mut canvas, &frame, pane.lines.as_slice(), &NoLines)?;
     let grid = canvas.finish(alloc)?;
     Ok(grid)
 }

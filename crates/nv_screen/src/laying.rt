@@ -31,6 +31,27 @@ pub fn next_cells(
     Ok(cells)
 }
 
+/// A copy of cells.
+pub fn copy_cells(alloc: Global, cells: &[Cell]) -> Result<Vec<Cell>, AllocError>
+    ensures { IfOk result (λ copy. copy.items ≡ cells.now) }
+{
+    let mut copy = Vec::with_capacity(alloc, cells.len())?;
+    for cell in cells {
+        copy.push(cell.copy(alloc)?)?;
+    }
+    Ok(copy)
+}
+
+/// A copy of the first cells, at most so many.
+pub fn copy_front(alloc: Global, cells: &[Cell], most: usize) -> Result<Vec<Cell>, AllocError>
+    ensures { IfOk result (λ copy. copy.items ≡ take most cells.now) }
+{
+    if cells.len() <= most {
+        return copy_cells(alloc, cells);
+    }
+    copy_cells(alloc, &cells[..most])
+}
+
 /// Lays the next cells in so many rows of a width, one below another.
 pub fn lay_rows(
     alloc: Global,

@@ -4,6 +4,7 @@
 mod canvas;
 mod cursor;
 mod drawing;
+mod known;
 mod laws;
 mod laying;
 mod patches;
@@ -12,7 +13,8 @@ mod status;
 mod text;
 
 pub use cursor::cursor_cell;
-pub use drawing::{draw, pane_grid};
+pub use drawing::{draw, draw_from, pane_grid};
+pub use known::{KnownLines, NoLines, line_cells};
 pub use laws::{drawing_laws, sound_scene_laws, worked_lines, worked_patches, worked_screens};
 pub use scene::{Bars, Pane, Patch, Scene, SceneLine, Spot};
 

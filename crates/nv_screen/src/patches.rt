@@ -2,9 +2,10 @@
 
 ghost use Rattle.nv_hl.specs.Cells.{is_right_half, space};
 ghost use Rattle.nv_screen.specs.Drawing.{with_left_half, with_patch_cells, with_patches, with_right_half, with_space};
-ghost use Rattle.std.specs.Prelude.{◌≡◌, ◌-◌, IfOk, OnOk};
+ghost use Rattle.std.specs.Prelude.{◌≡◌, ◌-◌, OnOk};
 
 use crate::canvas::Canvas;
+use crate::laying::copy_cells;
 use crate::scene::Patch;
 use nv_hl::Cell;
 use std::alloc::{AllocError, Global};
@@ -53,16 +54,6 @@ fn lay_right_half(
         lay_space(alloc, canvas, row, col)?;
     }
     Ok(())
-}
-
-fn copy_cells(alloc: Global, cells: &[Cell]) -> Result<Vec<Cell>, AllocError>
-    ensures { IfOk result (λ copy. copy.items ≡ cells.now) }
-{
-    let mut copy = Vec::with_capacity(alloc, cells.len())?;
-    for cell in cells {
-        copy.push(cell.copy(alloc)?)?;
-    }
-    Ok(copy)
 }
 
 fn lay_patch(alloc: Global, canvas: &mut Canvas, patch: &Patch) -> Result<(), AllocError>

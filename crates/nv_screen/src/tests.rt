@@ -3,7 +3,10 @@
 ghost use Rattle.nv_screen.specs.Sound.{IsDrawable, IsInReach};
 ghost use Rattle.std.specs.Prelude.{All, IfOk};
 
-use crate::{Bars, Pane, Patch, Scene, SceneLine, Spot, cursor_cell, draw, pane_grid};
+use crate::{
+    Bars, NoLines, Pane, Patch, Scene, SceneLine, Spot, cursor_cell, draw, draw_from, line_cells,
+    pane_grid,
+};
 use nv_hl::{Attr, Cell, Colours, Grid};
 use nv_layout::Rect;
 use nv_linedraw::Looks;
@@ -124,9 +127,41 @@ fn drawn(alloc: Global) -> Result<bool, AllocError> {
     Ok(texts.as_slice() == wanted.as_bytes() && cursor_cell(alloc, &scene)? == (0, 5))
 }
 
+fn drawn_from_lines(alloc: Global) -> Result<bool, AllocError> {
+    let scene = scene(alloc)?;
+    let grid = draw_from(alloc, &scene, &NoLines)?;
+    let texts = texts(alloc, &grid)?;
+    Ok(texts.as_slice() == "│a  b^ \n│A     \n│cZ@@@ \n│name  \n       \n".as_bytes())
+}
+
+fn line_text(alloc: Global) -> Result<Vec<u8>, AllocError> {
+    let pane = pane(alloc)?;
+    let looks = scene(alloc)?.looks;
+    let mut text = Vec::new(alloc);
+    for line in pane.lines.as_slice() {
+        for cell in line_cells(alloc, line, &pane, &looks)?.as_slice() {
+            text.extend_from_slice(cell.text.as_slice())?;
+        }
+        text.push(b'\n')?;
+    }
+    Ok(text)
+}
+
 #[test]
 fn a_scene_is_drawn(rt: HostRuntime) -> Result<(), Fail> {
     assert!(rt; drawn(rt.alloc())?);
+    Ok(())
+}
+
+#[test]
+fn a_scene_is_drawn_from_its_lines(rt: HostRuntime) -> Result<(), Fail> {
+    assert!(rt; drawn_from_lines(rt.alloc())?);
+    Ok(())
+}
+
+#[test]
+fn a_line_is_laid_by_itself(rt: HostRuntime) -> Result<(), Fail> {
+    assert!(rt; line_text(rt.alloc())?.as_slice() == b"a  b^A    \ncd<e4><b8>\n".as_slice());
     Ok(())
 }
 

@@ -1,13 +1,14 @@
 //! The text of a window.
 
 ghost use Rattle.nv_screen.specs.Drawing.{last_with_at, row_beyond, row_with_at, rows_of_cells, with_rows};
-ghost use Rattle.nv_screen.specs.inside.Laying.{frame_line_rows, frame_rows, row_at};
+ghost use Rattle.nv_screen.specs.inside.Laying.{frame_cells, frame_line_rows, frame_rows, row_at};
 ghost use Rattle.nv_hl.specs.declared.cell.Cell.{Cell};
 ghost use Rattle.std.specs.Vec.Iter.{into_iter_items};
 ghost use Rattle.std.specs.Prelude.{◌≡◌, ◌<◌, ◌≤◌, ◌+◌, ◌-◌, [], List, ℕ, IfOk, OnOk, replicate, take};
 
 use crate::canvas::Canvas;
-use crate::laying::{cut_cells, lay_rows, next_cells, pad};
+use crate::known::KnownLines;
+use crate::laying::{copy_front, cut_cells, lay_rows, next_cells, pad};
 use crate::scene::SceneLine;
 use nv_hl::{Attr, Cell};
 use nv_linedraw::{Looks, first_cells};
@@ -134,13 +135,40 @@ fn lay_whole_line(
     )
 }
 
+// The first cells of a line in a window, at most so many.
+fn front_cells<K: KnownLines>(
+    alloc: Global,
+    frame: &Frame,
+    line: &SceneLine,
+    known: &K,
+    most: usize,
+) -> Result<Vec<Cell>, AllocError>
+    requires wide { 0 < frame.now.width }
+    requires stop { 0 < frame.now.tabstop }
+    ensures { IfOk result (λ cells. cells.items ≡ take most (frame_cells frame.now line.now)) }
+{
+    if let Some(cells) = known.cells_of(line, frame.width, frame.tabstop, frame.looks) {
+        return copy_front(alloc, cells, most);
+    }
+    first_cells(
+        alloc,
+        line.bytes.as_slice(),
+        line.spans.as_slice(),
+        frame.width,
+        frame.tabstop,
+        frame.looks,
+        most,
+    )
+}
+
 // Lays the rows of a line where there is room for so many, and gives the room that is left.
-fn lay_line(
+fn lay_line<K: KnownLines>(
     alloc: Global,
     canvas: &mut Canvas,
     frame: &Frame,
     room: u32,
     line: &SceneLine,
+    known: &K,
 ) -> Result<u32, AllocError>
     requires wide { 0 < frame.now.width }
     requires stop { 0 < frame.now.tabstop }
@@ -158,15 +186,7 @@ fn lay_line(
         }) }
 {
     let most = (room as usize + 1) * frame.width as usize;
-    let cells = first_cells(
-        alloc,
-        line.bytes.as_slice(),
-        line.spans.as_slice(),
-        frame.width,
-        frame.tabstop,
-        frame.looks,
-        most,
-    )?;
+    let cells = front_cells(alloc, frame, line, known, most)?;
     let count = cells.len() / frame.width as usize;
     if count > room as usize {
         lay_cut_line(alloc, canvas, frame, room, cells)?;
@@ -178,11 +198,12 @@ fn lay_line(
 
 /// Lays the rows of a window's text: those of its lines from the first on, the last one ending in
 /// `@` where the line has more, and then `~`.
-pub fn lay_text(
+pub fn lay_text<K: KnownLines>(
     alloc: Global,
     canvas: &mut Canvas,
     frame: &Frame,
     lines: &[SceneLine],
+    known: &K,
 ) -> Result<(), AllocError>
     requires wide { 0 < frame.now.width }
     requires stop { 0 < frame.now.tabstop }
@@ -196,7 +217,7 @@ pub fn lay_text(
         if room == 0 {
             return Ok(());
         }
-        room = lay_line(alloc, canvas, frame, room, line)?;
+        room = lay_line(alloc, canvas, frame, room, line, known)?;
     }
     lay_beyond(alloc, canvas, frame, room)
 }

@@ -5,7 +5,7 @@ use Rattle.nv_screen.proofs.TextLemmas.{cut_line, cut_rows, whole_line, whole_ro
 use Rattle.nv_screen.proofs.text.lay_line.Goals as goal
 
 pub returns-then-count-room-clause-laid : goal.returns-then-count-room-clause-laid
-returns-then-count-room-clause-laid c = λ more none.
+returns-then-count-room-clause-laid g c = λ more none.
     let f = c.args.frame.now in
     let cells = c.in_ok-cells.cells.items in
     let is : cells ≡ take ((c.args.room + 1) * f.width) (frame_cells f c.args.line.now) = search rules in
@@ -15,7 +15,7 @@ returns-then-count-room-clause-laid c = λ more none.
     (cut_rows f.width f.tabstop f.looks.now c.args.room c.args.line.now cells more c.requires.wide is many) c.in_ok-lay_cut_line.ensures
 
 pub returns-clause-laid : goal.returns-clause-laid
-returns-clause-laid c = λ more none.
+returns-clause-laid g c = λ more none.
     let f = c.args.frame.now in
     let cells = c.in_ok-cells.cells.items in
     let is : cells ≡ take ((c.args.room + 1) * f.width) (frame_cells f c.args.line.now) = search rules in

@@ -7,7 +7,7 @@ use Rattle.nv_screen.proofs.TextLemmas.{no_room}
 use Rattle.nv_screen.proofs.text.lay_text.Goals as goal
 
 pub returns-then-room-eq0 : goal.returns-then-room-eq0
-returns-then-room-eq0 c =
+returns-then-room-eq0 g c =
     let at = c.loop-line in
     let f = c.args.frame.now in
     laid_done at.canvas _ (row_at f at.room) f.col _
@@ -16,7 +16,7 @@ returns-then-room-eq0 c =
     at.invariant.laid
 
 pub loop-line-preserved : goal.loop-line-preserved
-loop-line-preserved c =
+loop-line-preserved g c =
     let at = c.loop-line in
     let f = c.args.frame.now in
     let ls = c.args.lines.now in
