@@ -4,7 +4,6 @@ pub mod CallLemmas
 pub mod ColourLemmas
 pub mod DictLemmas
 pub mod HeldLemmas
-pub mod KeyLemmas
 pub mod KindLemmas
 pub mod NameSearch
 pub mod Pairs
@@ -12,4 +11,3 @@ pub mod ReadLemmas
 pub mod Refusing
 pub mod Signatures
 pub mod Words
-pub mod Weights

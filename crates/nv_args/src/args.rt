@@ -2,7 +2,6 @@
 ghost use Rattle.std.specs.Prelude.{◌≡◌, false, [], length, map, slice_get, slice_set, get_or, Some, option_map, unwrap_or, IfOk, IfSome, ◌<◌};
 ghost use Rattle.nv_value.specs.Content.{Trees, nil};
 ghost use Rattle.nv_value.specs.View.{content, contents, pair_content};
-ghost use Rattle.nv_msgpack.specs.Handle.{integer_of};
 ghost use Rattle.nv_args.specs.Arguments.{truth_in, string_in, strings_in, pairs_in};
 ghost use Rattle.nv_args.specs.Methods.{signature_of};
 ghost use Rattle.nv_args.specs.Kinds.{kind_of};
@@ -14,6 +13,7 @@ ghost use Rattle.nv_args.specs.inside.Held.{arg_held, first_wrong, is_flag_kind,
 use crate::faults::{Fail, wrong_count, wrong_type};
 use crate::kinds::{BUFFER, Kind, TABPAGE, WINDOW, handle_number};
 use crate::methods::Method;
+use crate::reading::integer_of;
 use nv_value::{Bytes, Fields, Items, Pair, Value};
 use std::alloc::{AllocError, Global};
 use std::mem;
@@ -235,22 +235,13 @@ fn number_as(kind: Kind, value: &Value) -> i64
     ensures { result ≡ number_of (Some (arg_held (kind_of kind) (content value.now))) }
 {
     let found = match kind {
-        Kind::Integer => integer_in(value),
+        Kind::Integer => integer_of(value),
         Kind::Buffer | Kind::BufferId => handle_number(value, BUFFER),
         Kind::Window | Kind::WindowId => handle_number(value, WINDOW),
         Kind::Tabpage | Kind::TabpageId => handle_number(value, TABPAGE),
         _ => None,
     };
     found.unwrap_or(0)
-}
-
-fn integer_in(value: &Value) -> Option<i64>
-    ensures { result ≡ integer_of (content value.now) }
-{
-    match value {
-        Value::Int(number) => Some(*number),
-        _ => None,
-    }
 }
 
 fn is_true(value: &Value) -> bool

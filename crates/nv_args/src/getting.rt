@@ -9,7 +9,7 @@ ghost use Rattle.nv_args.specs.Maps.{value_of};
 
 use crate::dicts::value_of;
 use crate::kinds::{BUFFER, TABPAGE, WINDOW, handle_number};
-use crate::reading::{self, colour_of, integer_in, name_in, truth_in};
+use crate::reading::{self, colour_of, integer_of, name_in, truth_of};
 use nv_value::Pair;
 
 /// A Boolean, and another where it isn't there.
@@ -17,7 +17,7 @@ pub fn flag_or(pairs: &[Pair], name: &str, other: bool) -> bool
     ensures { result ≡ flag_or other name.now (last_pairs (map pair_content pairs.now)) }
 {
     match value_of(pairs, name) {
-        Some(value) => truth_in(value).unwrap_or(other),
+        Some(value) => truth_of(value).unwrap_or(other),
         None => other,
     }
 }
@@ -27,7 +27,7 @@ pub fn integer_or(pairs: &[Pair], name: &str, other: i64) -> i64
     ensures { result ≡ integer_or other name.now (last_pairs (map pair_content pairs.now)) }
 {
     match value_of(pairs, name) {
-        Some(value) => integer_in(value).unwrap_or(other),
+        Some(value) => integer_of(value).unwrap_or(other),
         None => other,
     }
 }
@@ -38,7 +38,7 @@ pub fn integer_at(pairs: &[Pair], name: &str) -> Option<i64>
         (value_of name.now (last_pairs (map pair_content pairs.now))) }
 {
     match value_of(pairs, name) {
-        Some(value) => integer_in(value),
+        Some(value) => integer_of(value),
         None => None,
     }
 }

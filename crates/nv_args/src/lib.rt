@@ -3,20 +3,16 @@
 #![tactic(auto)]
 
 mod args;
-mod arguments;
 mod dicts;
 mod faults;
 mod getting;
 mod indexing;
-mod keys;
 mod kinds;
 mod methods;
 mod reading;
 mod rules;
-mod typed;
 
 pub use args::{Args, NamedCall, call_in, read};
-pub use arguments::{buffer_of, fields_of, integer_of, lines_of, string_of, truth_of};
 pub use dicts::{
     is_group_name, map_fault, missing_key, naming_fault, unknown_key, value_of, wrong_value,
     wrong_value_of,
@@ -32,13 +28,9 @@ pub use getting::{
     tabpage_at, terminal_colour_at, window_at,
 };
 pub use indexing::{is_outside, leaves_text, row_of_index, text_col, text_row};
-pub use keys::no_pairs;
 pub use methods::{Method, method_of};
+pub use reading::{integer_of, truth_of};
 pub use rules::{Rule, Takes};
-pub use typed::{
-    buffer_argument, check_count, dict_argument, integer_argument, lines_argument, string_argument,
-    truth_argument,
-};
 
 #[cfg(test)]
 mod dict_tests;

@@ -8,7 +8,8 @@ ghost use Rattle.nv_args.specs.inside.Colours.{colour_of_parts, two_digits, hex_
 
 use nv_value::Value;
 
-pub fn integer_in(value: &Value) -> Option<i64>
+/// An Integer.
+pub fn integer_of(value: &Value) -> Option<i64>
     ensures { result ≡ integer_of (content value.now) }
 {
     match value {
@@ -17,7 +18,8 @@ pub fn integer_in(value: &Value) -> Option<i64>
     }
 }
 
-pub fn truth_in(value: &Value) -> Option<bool>
+/// A Boolean: an integer is true where it isn't 0.
+pub fn truth_of(value: &Value) -> Option<bool>
     ensures { result ≡ truth_in (content value.now) }
 {
     match value {
@@ -41,7 +43,7 @@ pub fn name_in(value: &Value) -> Option<&[u8]>
 pub fn integer_between(value: &Value, low: u32, high: u32) -> Option<u32>
     ensures { result ≡ integer_between low high (content value.now) }
 {
-    match integer_in(value) {
+    match integer_of(value) {
         Some(number) => number_between(number, low, high),
         None => None,
     }
@@ -61,7 +63,7 @@ fn number_between(number: i64, low: u32, high: u32) -> Option<u32>
 pub fn integer_from(value: &Value, low: u32) -> Option<u64>
     ensures { result ≡ integer_from low (content value.now) }
 {
-    match integer_in(value) {
+    match integer_of(value) {
         Some(number) => number_from(number, low),
         None => None,
     }

@@ -8,7 +8,7 @@ ghost use Rattle.nv_args.specs.Maps.{known_key};
 ghost use Rattle.nv_args.specs.Rules.{takes_of, key_of};
 
 use crate::kinds::{BUFFER, TABPAGE, WINDOW, handle_number};
-use crate::reading::{colour_of, integer_between, integer_from, integer_in, name_in, truth_in};
+use crate::reading::{colour_of, integer_between, integer_from, integer_of, name_in, truth_of};
 use nv_value::Value;
 
 /// Which values a key takes.
@@ -54,13 +54,13 @@ impl Takes {
         ensures { result ≡ takes_of self (content value.now) }
     {
         match self {
-            Takes::Boolean => truth_in(value).is_some(),
-            Takes::True => truth_in(value).unwrap_or(false),
-            Takes::Integer => integer_in(value).is_some(),
+            Takes::Boolean => truth_of(value).is_some(),
+            Takes::True => truth_of(value).unwrap_or(false),
+            Takes::Integer => integer_of(value).is_some(),
             Takes::Between(low, high) => integer_between(value, low, high).is_some(),
             Takes::From(low) => integer_from(value, low).is_some(),
             Takes::String => name_in(value).is_some(),
-            Takes::NameOrNumber => name_in(value).is_some() || integer_in(value).is_some(),
+            Takes::NameOrNumber => name_in(value).is_some() || integer_of(value).is_some(),
             Takes::Buffer => handle_number(value, BUFFER).is_some(),
             Takes::Window => handle_number(value, WINDOW).is_some(),
             Takes::Tabpage => handle_number(value, TABPAGE).is_some(),

@@ -2,12 +2,10 @@
 //! of the faults.
 
 use crate::{
-    Fail, dict_argument, fields_of, invalid_key, is_outside, limit_reached, lines_argument,
-    newline_inside, no_buffer, not_modifiable, out_of_bounds, row_of_index, start_after_end,
-    string_argument, text_col, text_row, unknown_method, unknown_name, wrong_count, wrong_type,
+    Fail, invalid_key, is_outside, limit_reached, newline_inside, no_buffer, not_modifiable,
+    out_of_bounds, row_of_index, start_after_end, text_col, text_row, unknown_method, unknown_name,
+    wrong_count, wrong_type,
 };
-use nv_value::{Bytes, Value};
-use std::alloc::{AllocError, Global};
 use std::test::Fail as Failed;
 
 // Whether a call was refused with this kind, number and words.
@@ -116,45 +114,6 @@ fn numbers_name_rows_and_columns(rt: HostRuntime) -> Result<(), Failed> {
     for (number, count, row, col) in places() {
         assert_eq!(rt; text_row(*number, *count), *row, "{number}");
         assert_eq!(rt; text_col(*number, *count), *col, "{number}");
-    }
-    Ok(())
-}
-
-fn text(alloc: Global, bytes: &[u8]) -> Result<Value, AllocError> {
-    Ok(Value::Text(Bytes::from_slice(alloc, bytes)?))
-}
-
-fn bin(alloc: Global, bytes: &[u8]) -> Result<Value, AllocError> {
-    Ok(Value::Bin(Bytes::from_slice(alloc, bytes)?))
-}
-
-#[test]
-fn owned_arguments_are_taken_by_their_types(rt: HostRuntime) -> Result<(), Failed> {
-    let alloc = rt.alloc();
-    let params = vec![in alloc; Value::Nil, bin(alloc, b"undo")?]?;
-    match string_argument(alloc, "nvim_x", params, 1) {
-        Ok(string) => assert_eq!(rt; string.as_slice(), b"undo".as_slice()),
-        Err(_) => assert!(rt; false),
-    }
-    let strings = vec![in alloc; text(alloc, b"a")?, bin(alloc, b"b")?]?;
-    let params = vec![in alloc; Value::List(strings)]?;
-    match lines_argument(alloc, "nvim_x", params, 0) {
-        Ok(lines) => assert_eq!(rt; lines.len(), 2),
-        Err(_) => assert!(rt; false),
-    }
-    assert!(rt; fields_of(alloc, Value::List(Vec::new(alloc))).is_some());
-    assert!(rt; fields_of(alloc, Value::Nil).is_none());
-    let params = vec![in alloc; Value::List(vec![in alloc; Value::Nil]?)]?;
-    match dict_argument(alloc, "nvim_x", params, 0) {
-        Err(fail) => assert!(rt;
-            is_refused(
-                fail,
-                1,
-                3,
-                b"Wrong type for argument 1 when calling nvim_x, expecting Dict"
-            )
-        ),
-        Ok(_) => assert!(rt; false),
     }
     Ok(())
 }
