@@ -169,3 +169,4 @@ edited_sound bs later stage n edit sound is edited =
     (view_shows bs later n edit is some) stage.workspace.windows sound.shown))
     (subst (λ (k : Marks). All (IsOfGroups stage.groups) k.marks) (sym edited.marks)
     (marks_paint stage.groups edit (content_in bs n).marks (painted_there bs later stage n sound is)))
+    sound.uis

@@ -136,7 +136,7 @@ edit_sound bs later stage new n edit sound is made fits put =
     refl refl
     (shown_after bs later n edit (lines_after (content_in bs n).text edit) stage.workspace.windows is (ap (λ (c : Content). c.text) made) fits.left sound.shown)
     (subst (λ (c : Content). All (IsOfGroups stage.groups) c.marks.marks) (sym made)
-    (painted_after stage.groups (content_in bs n).marks edit (painted_there bs later stage n sound is))) in
+    (painted_after stage.groups (content_in bs n).marks edit (painted_there bs later stage n sound is))) sound.uis in
     subst (λ (s : Stage). IsSoundEditor (editor_of later s)) (sym put) next
 
 -- where the buffer stayed

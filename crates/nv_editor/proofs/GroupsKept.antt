@@ -36,6 +36,7 @@ groups_sound buffers stage new groups sound put more =
           All-weaker (λ (b : ℤ × Content). All (IsOfGroups stage.groups) b.1.marks.marks) (λ (b : ℤ × Content). All (IsOfGroups groups) b.1.marks.marks)
           (λ b are. All-weaker (IsOfGroups stage.groups) (IsOfGroups groups) (λ k is. more_groups stage.groups groups more k is) b.1.marks.marks are)
           buffers sound.painted;
+      uis = sound.uis;
     }))
 
 pub named_more : (gs : List NamedGroup) (g : NamedGroup) → length gs ≤ length (with_named gs g)

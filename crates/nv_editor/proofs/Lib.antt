@@ -3,6 +3,8 @@ pub mod Staging
 pub mod Slots
 pub mod NameOrder
 pub mod UiLemmas
+pub mod UiSizes
+pub mod UisKept
 pub mod KeptEdits
 pub mod SealedTrees
 pub mod StageKept

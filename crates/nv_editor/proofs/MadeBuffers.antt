@@ -71,6 +71,7 @@ next_sound bs stage listed sound room =
           All-append (λ (e : ℤ × Content). All (IsOfGroups stage.groups) e.1.marks.marks) bs ((n, fresh_content n listed) ∷ []) sound.painted
           (All-cons (λ (e : ℤ × Content). All (IsOfGroups stage.groups) e.1.marks.marks) (n, fresh_content n listed) [] (All-nil (IsOfGroups stage.groups))
           (All-nil (λ (e : ℤ × Content). All (IsOfGroups stage.groups) e.1.marks.marks)));
+      uis = sound.uis;
     }
   where
     shows_or : (o p : Option Content) (w : Window) → ShowsBuffer o w → ShowsBuffer (option_or o p) w

@@ -162,6 +162,7 @@ replaced_sound bs later stage new n other b sound put out there apart some =
           all_looked_up (λ (c : Content). All (IsOfGroups stage.groups) c.marks.marks) (pos 1) later rises
           (out_of (λ k c. All (IsOfGroups stage.groups) c.marks.marks) bs later n out
           (λ k c found. looked_up (λ (d : Content). All (IsOfGroups stage.groups) d.marks.marks) bs k c sound.painted found));
+      uis = sound.uis;
     })
   where
     rises : IsRisingFrom (pos 1) (handles_of later)

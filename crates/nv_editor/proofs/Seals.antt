@@ -273,6 +273,7 @@ sealed_sound hs bs later stage is sound =
       painted =
           all_looked_up (λ (b : Content). All (IsOfGroups stage.groups) b.marks.marks) (pos 1) later rises
           (λ k c there. painted_if k c (mapped_some (λ (b : Content). cond (is_among k hs) (after_seal b) b) (at_handle bs k) c (sym (at_later hs bs later is k) ∙ there)));
+      uis = sound.uis;
     }
   where
     shows_if : (t : Bool) (o : Option Content) (w : Window) → ShowsBuffer o w → ShowsBuffer (option_map (λ (b : Content). cond t (after_seal b) b) o) w

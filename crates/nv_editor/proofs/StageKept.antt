@@ -1,10 +1,8 @@
 -- An editor whose stage alone changes.
 use Rattle.std.proofs.Common.{◌≡◌, ℤ, pos, ◌+ℤ◌, ◌<ℤ◌, ◌≤ℤ◌, List, sym, subst, All}
 use Rattle.nv_buffer.specs.Content.{Content}
-use Rattle.nv_hl.specs.Groups.{NamedGroup}
 use Rattle.nv_windows.specs.Rooms.{last_handle}
 use Rattle.nv_windows.specs.Sound.{IsSoundWorkspace}
-use Rattle.nv_windows.specs.Workspace.{Workspace}
 use Rattle.nv_windows.specs.declared.window.Window.{Window}
 use Rattle.nv_model.specs.Editors.{ModelEditor, at_handle, handles_of}
 use Rattle.nv_model.specs.Operations.{with_stage}
@@ -12,6 +10,7 @@ use Rattle.nv_model.specs.Stage.{Stage}
 use Rattle.nv_model.specs.Standing.{PresentEditor, Stands}
 use Rattle.nv_model.proofs.Changing.{stage_update_is_kept}
 use Rattle.nv_editor.specs.Sound.{IsSoundEditor, ShowsBuffer, IsOfGroups}
+use Rattle.nv_editor.specs.Uis.{AreSoundUis}
 
 -- an editor of these buffers and this stage
 abbrev pub editor_of : List (ℤ × Content) → Stage → PresentEditor
@@ -30,6 +29,7 @@ pub record IsStageSound (buffers : List (ℤ × Content)) (stage : Stage) : Type
   pub workspace : IsSoundWorkspace stage.workspace
   pub shown : All (λ (w : Window). ShowsBuffer (at_handle buffers w.buffer) w) stage.workspace.windows
   pub painted : All (λ (b : ℤ × Content). All (IsOfGroups stage.groups) b.1.marks.marks) buffers
+  pub uis : AreSoundUis stage.uis stage.workspace.width stage.workspace.height
 
 -- it stays sound
 pub stage_sound : (buffers : List (ℤ × Content)) (stage new : Stage) → IsSoundEditor (editor_of buffers stage)
@@ -41,17 +41,5 @@ stage_sound buffers stage new sound next is = record {
   next_buffer = subst (λ (n : ℤ). (pos 1 ≤ℤ n) × (n ≤ℤ (last_handle +ℤ pos 1))) (sym next) sound.next_buffer;
   shown = is.shown;
   painted = is.painted;
+  uis = is.uis;
 }
-
--- where windows, groups and the next buffer stay
-pub same_sound : (buffers : List (ℤ × Content)) (stage new : Stage) → IsSoundEditor (editor_of buffers stage)
-    → new.workspace ≡ stage.workspace → new.groups ≡ stage.groups → new.next_buffer ≡ stage.next_buffer
-    → IsSoundEditor (editor_of buffers new)
-same_sound buffers stage new sound workspace groups next =
-    stage_sound buffers stage new sound next (record {
-      workspace = subst IsSoundWorkspace (sym workspace) sound.workspace;
-      shown =
-          subst (λ (ws : Workspace). All (λ (w : Window). ShowsBuffer (at_handle buffers w.buffer) w) ws.windows) (sym workspace) sound.shown;
-      painted =
-          subst (λ (gs : List NamedGroup). All (λ (b : ℤ × Content). All (IsOfGroups gs) b.1.marks.marks) buffers) (sym groups) sound.painted;
-    })

@@ -1,9 +1,8 @@
--- UIs by rising sessions, and the least of their sizes.
+-- A UI put among others by rising sessions.
 use Rattle.std.proofs.Common.{◌≡◌, ℕ, ◌+◌, ◌<◌, ◌==◌, List, [], ◌∷◌, ◌++◌, arith, length, take, drop, map, fold, refl, sym, ap, ◌∙◌, append_assoc, Bool, true, false, cond, get_or, nat_lt, min, slice_set, set}
 use Rattle.std.proofs.lemmas.List.{drop_more, take_more, take_all, drop_all, take-append-drop, take-set, drop-set, append-nil, map-append}
-use Rattle.nv_model.specs.Stage.{least_of, ui_among}
+use Rattle.nv_model.specs.Stage.{ui_among}
 use Rattle.nv_model.specs.declared.parts.Ui.{Ui}
-use Rattle.nv_model.proofs.Telling.{fold-append}
 
 -- the UI is put behind these
 abbrev pub IsBehind : Ui → List Ui → ℕ → Type 0
@@ -48,11 +47,3 @@ comes_before ui u us place within is other before behind =
 pub comes_last : (ui : Ui) (us : List Ui) → IsBehind ui us (length us) → us ++ ui ∷ [] ≡ ui_among ui us
 comes_last ui us behind =
     sym (behind ∙ (λ i. take_all (length us) us (omega arith) i ++ ui_among ui (drop_all (length us) us (omega arith) i)))
-
--- one more size
-pub least_more : (size : Ui → ℕ) (n : ℕ) (us : List Ui) (i : ℕ) (u : Ui) → i < length us → u ≡ get_or us i u
-    → least_of n (map size (take (i + 1) us)) ≡ min (least_of n (map size (take i us))) (size u)
-least_more size n us i u within is =
-    ap (λ (l : List Ui). fold min n (map size l)) (take_more us i u within ∙ ap (λ (x : Ui). take i us ++ x ∷ []) (sym is))
-    ∙ ap (fold min n) (map-append size (take i us) (u ∷ []))
-    ∙ fold-append min n (map size (take i us)) (size u ∷ [])

@@ -20,6 +20,7 @@ use Rattle.nv_model.specs.Standing.{PresentEditor, StandsFor, Stands}
 use Rattle.nv_model.proofs.Changing.{buffer_update_is_kept}
 use Rattle.nv_model.proofs.Lookups.{same_int, int_eq-itself}
 use Rattle.nv_editor.specs.Sound.{IsSoundEditor, ShowsBuffer, ShowsText, IsOfGroups}
+use Rattle.nv_editor.specs.Uis.{AreSoundUis}
 use Rattle.nv_editor.specs.inside.Kept.{AreKeptEdits}
 use Rattle.nv_editor.specs.inside.Table.{IsUpdatedAt, content_in, is_among, IsKeptBuffer, AreKeptBuffers}
 use Rattle.nv_editor.proofs.KeptEdits.{same_kept_edits}
@@ -95,8 +96,9 @@ each_updated P bs later n is here others k c there =
 pub sound_updated : (bs later : List (ℤ × Content)) (stage new : Stage) (n : ℤ) → IsSoundEditor (editor_of bs stage) → IsUpdatedAt n bs later
     → IsSoundWorkspace new.workspace → new.next_buffer ≡ stage.next_buffer → new.groups ≡ stage.groups
     → All (λ (w : Window). ShowsBuffer (at_handle later w.buffer) w) new.workspace.windows
-    → All (IsOfGroups stage.groups) (content_in later n).marks.marks → IsSoundEditor (editor_of later new)
-sound_updated bs later stage new n sound is workspace next groups shown painted =
+    → All (IsOfGroups stage.groups) (content_in later n).marks.marks → AreSoundUis new.uis new.workspace.width new.workspace.height
+    → IsSoundEditor (editor_of later new)
+sound_updated bs later stage new n sound is workspace next groups shown painted uis =
     let rises : IsRisingFrom (pos 1) (handles_of later) = subst (IsRisingFrom (pos 1)) (sym is.handles) sound.rising in
     let all : All (λ (e : ℤ × Content). All (IsOfGroups stage.groups) e.1.marks.marks) later =
     all_looked_up (λ (b : Content). All (IsOfGroups stage.groups) b.marks.marks) (pos 1) later rises
@@ -108,6 +110,7 @@ sound_updated bs later stage new n sound is workspace next groups shown painted 
       next_buffer = subst (λ (m : ℤ). (pos 1 ≤ℤ m) × (m ≤ℤ (last_handle +ℤ pos 1))) (sym next) sound.next_buffer;
       shown = shown;
       painted = subst (λ (gs : List NamedGroup). All (λ (e : ℤ × Content). All (IsOfGroups gs) e.1.marks.marks) later) (sym groups) all;
+      uis = uis;
     }
 
 -- a window shows what it showed, where the text is the same
@@ -131,7 +134,7 @@ pub text_same_sound : (bs later : List (ℤ × Content)) (stage : Stage) (n : �
 text_same_sound bs later stage n sound is text painted =
     sound_updated bs later stage stage n sound is sound.workspace refl refl
     (all_by (λ (w : Window). ShowsBuffer (at_handle bs w.buffer) w) (λ (w : Window). ShowsBuffer (at_handle later w.buffer) w) (shows_same bs later n is text)
-    stage.workspace.windows sound.shown) painted
+    stage.workspace.windows sound.shown) painted sound.uis
 
 -- the groups of the marks that were there
 pub painted_there : (bs later : List (ℤ × Content)) (stage : Stage) (n : ℤ) → IsSoundEditor (editor_of bs stage) → IsUpdatedAt n bs later

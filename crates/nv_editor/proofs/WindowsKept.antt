@@ -25,22 +25,69 @@ use Rattle.nv_model.proofs.Lookups.{same_int, int_eq-itself}
 use Rattle.nv_editor.specs.Closing.{closing_operations, operations_on_page, tab_closing_operations}
 use Rattle.nv_editor.specs.Doing.{Does}
 use Rattle.nv_editor.specs.Sound.{IsSoundEditor, ShowsText, ShowsBuffer, IsCursorIn, IsOfGroups, content_of, content_at}
+use Rattle.nv_editor.specs.Uis.{AreSoundUis}
 use Rattle.nv_editor.proofs.StageKept.{editor_of, stage_sound}
 
 -- each window shows a live buffer
 abbrev pub AreShown : List (ℤ × Content) → List Window → Type 0
 AreShown buffers windows = All (λ (w : Window). ShowsBuffer (at_handle buffers w.buffer) w) windows
 
+-- the screen has the size that it had
+abbrev pub HasSizeOf : Workspace → Workspace → Type 0
+HasSizeOf before after = (after.width ≡ before.width) × (after.height ≡ before.height)
+
 -- an editor whose windows and tabpages alone change stays sound
 pub windows_sound : (buffers : List (ℤ × Content)) (stage new : Stage) (update : Workspace → Workspace)
     → IsSoundEditor (editor_of buffers stage) → new ≡ in_workspace update stage → IsSoundWorkspace new.workspace
-    → AreShown buffers (update stage.workspace).windows → IsSoundEditor (editor_of buffers new)
-windows_sound buffers stage new update sound put workspace are =
+    → AreShown buffers (update stage.workspace).windows → HasSizeOf stage.workspace (update stage.workspace)
+    → IsSoundEditor (editor_of buffers new)
+windows_sound buffers stage new update sound put workspace are size =
     stage_sound buffers stage new sound (ap (λ (s : Stage). s.next_buffer) put) (record {
       workspace = workspace;
       shown = subst (λ (s : Stage). AreShown buffers s.workspace.windows) (sym put) are;
       painted = subst (λ (s : Stage). All (λ (b : ℤ × Content). All (IsOfGroups s.groups) b.1.marks.marks) buffers) (sym put) sound.painted;
+      uis =
+          subst (λ (s : Stage). AreSoundUis s.uis s.workspace.width s.workspace.height) (sym put)
+          (subst (λ (h : ℕ). AreSoundUis stage.uis (update stage.workspace).width h) (sym size.1)
+          (subst (λ (w : ℕ). AreSoundUis stage.uis w stage.workspace.height) (sym size.0) sound.uis));
     })
+
+-- ---- the screen keeps its size
+pub closed_size : (w : ℤ) (ws : Workspace) → HasSizeOf ws (after_close w ws)
+closed_size w ws = by (is_only_window ws w) (tabpage_of ws w)
+  where
+    on_page : (t : Page) (b : Bool) → HasSizeOf ws (cond b (without_tabpage t.handle ws) (without_window w ws))
+    on_page t true = (refl, refl)
+    on_page t false = (refl, refl)
+
+    by : (b : Bool) (o : Option Page) → HasSizeOf ws (cond b ws (option_map_or (closed_in w ws) o ws))
+    by true o = (refl, refl)
+    by false None = (refl, refl)
+    by false (Some t) = on_page t (has_one_window t)
+
+pub tab_closed_size : (ws : Workspace) → HasSizeOf ws (after_tab_close ws)
+tab_closed_size ws = by (has_one_tabpage ws)
+  where
+    by : (b : Bool) → HasSizeOf ws (cond b ws (without_tabpage ws.tabpage ws))
+    by true = (refl, refl)
+    by false = (refl, refl)
+
+pub opening_size : (beside : ℤ) (side : Side) (n : ℤ) (width height : ℕ) (enter : Bool) (ws : Workspace)
+    → HasSizeOf ws (after_opening beside side n width height enter ws)
+opening_size beside side n width height enter ws = by (has_window_left ws && has_room_beside ws beside side) enter
+  where
+    by : (t b : Bool)
+        → HasSizeOf ws (cond t (cond b (at_window ws.next_window (with_window beside side n width height ws)) (with_window beside side n width height ws)) ws)
+    by true true = (refl, refl)
+    by true false = (refl, refl)
+    by false b = (refl, refl)
+
+pub tab_made_size : (n : ℤ) (ws : Workspace) → HasSizeOf ws (after_tab_new n ws)
+tab_made_size n ws = by (has_handles_left ws)
+  where
+    by : (t : Bool) → HasSizeOf ws (cond t (with_tabpage n ws) ws)
+    by true = (refl, refl)
+    by false = (refl, refl)
 
 -- ---- what windows show
 -- a window that shows a live buffer from row 0 on

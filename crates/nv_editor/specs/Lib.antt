@@ -1,4 +1,5 @@
 pub mod Doing
+pub mod Uis
 pub mod Sound
 pub mod Facts
 pub mod Light

@@ -10,6 +10,7 @@ use Rattle.nv_windows.specs.Rooms.{last_handle}
 use Rattle.nv_windows.specs.declared.window.Window.{Window}
 use Rattle.nv_model.specs.Editors.{at_handle, handles_of}
 use Rattle.nv_model.specs.Standing.{PresentEditor}
+use Rattle.nv_editor.specs.Uis.{AreSoundUis}
 
 -- whether a buffer of a handle is live
 abbrev pub is_live_buffer : PresentEditor → ℤ → Bool
@@ -42,7 +43,8 @@ abbrev pub IsOfGroups : List NamedGroup → Mark → Type 0
 IsOfGroups groups k = IfSome k.paint (λ p. HasGroup groups p.group)
 
 -- Buffers stand by rising handles below the next one; each window shows a live one; the groups of
--- marks are there. (The windows, the groups and each buffer keep to rules of their own.)
+-- marks are there; the screen has the least size of the UIs. (The windows, the groups and each
+-- buffer keep to rules of their own.)
 pub record IsSoundEditor (e : PresentEditor) : Type 0 where
   pub workspace : IsSoundWorkspace e.stage.workspace
   pub rising : IsRisingFrom (pos 1) (handles_of e.buffers)
@@ -53,6 +55,7 @@ pub record IsSoundEditor (e : PresentEditor) : Type 0 where
       All (λ w. ShowsBuffer (at_handle e.buffers w.buffer) w) e.stage.workspace.windows
   pub painted :
       All (λ (b : ℤ × Content). All (IsOfGroups e.stage.groups) b.1.marks.marks) e.buffers
+  pub uis : AreSoundUis e.stage.uis e.stage.workspace.width e.stage.workspace.height
 
 -- no buffer has an open change
 abbrev pub AllSealed : PresentEditor → Type 0

@@ -6,3 +6,4 @@ pub mod Views
 pub mod Splicing
 pub mod Sealing
 pub mod Replacing
+pub mod Sizes

@@ -1,10 +1,12 @@
 //! Calls with ample memory, against values written by hand from the documented effect of
-//! nvim_buf_set_lines(), nvim_create_buf() and nvim_buf_delete().
+//! nvim_buf_set_lines(), nvim_create_buf(), nvim_buf_delete() and nvim_ui_attach().
+
+ghost use Rattle.std.specs.Prelude.{◌≡◌};
 
 use crate::{Editor, Fact, Happened};
 use nv_buffer::{Line, LineList, is_narrow};
 use nv_lines::is_line;
-use nv_model::Limits;
+use nv_model::{Limits, Ui};
 use std::alloc::{AllocError, Global};
 use std::process::Abort;
 use std::test::Fail;
@@ -118,5 +120,56 @@ fn buffers_are_made_and_deleted(rt: HostRuntime) -> Result<(), Fail> {
     assert_eq!(rt; drop_buffer(&mut editor, 2)?, true);
     assert_eq!(rt; editor.named_buffer(0), 4, "a new one is made and shown");
     assert_eq!(rt; drop_buffer(&mut editor, 2)?, false);
+    Ok(())
+}
+
+fn ui(session: u64, width: u32, height: u32) -> Ui
+    ensures width { result.width ≡ width }
+    ensures height { result.height ≡ height }
+{
+    Ui {
+        session,
+        width,
+        height,
+        rgb: true,
+        many: false,
+    }
+}
+
+// The screen's size is this, and these are the first and the last session with a UI.
+fn is_shared(editor: &Editor, size: (u32, u32), first: u64, last: u64) -> bool {
+    let uis = editor.uis();
+    match (uis.first(), uis.last()) {
+        (Some(lower), Some(upper)) => {
+            editor.windows().size() == size && lower.session == first && upper.session == last
+        }
+        _ => false,
+    }
+}
+
+#[test]
+fn the_screen_has_the_least_size_of_uis(rt: HostRuntime) -> Result<(), Fail> {
+    let alloc = rt.alloc();
+    let mut editor = Editor::new(alloc, limits())?;
+    assert_eq!(rt; editor.put_ui(ui(7, 12, 10))?, true);
+    assert_eq!(rt; editor.put_ui(ui(3, 40, 4))?, true);
+    assert_eq!(rt; is_shared(&editor, (12, 4), 3, 7), true, "by rising sessions");
+    assert_eq!(rt; editor.put_ui(ui(9, 1, 2))?, false, "a window has two rows");
+    assert_eq!(rt; editor.put_ui(ui(7, 50, 10))?, true);
+    assert_eq!(rt; is_shared(&editor, (40, 4), 3, 7), true, "in place of its session's");
+    Ok(())
+}
+
+#[test]
+fn uis_that_go_leave_the_size_of_the_others(rt: HostRuntime) -> Result<(), Fail> {
+    let alloc = rt.alloc();
+    let mut editor = Editor::new(alloc, limits())?;
+    assert_eq!(rt; editor.put_ui(ui(7, 50, 10))?, true);
+    assert_eq!(rt; editor.put_ui(ui(3, 40, 4))?, true);
+    assert_eq!(rt; editor.drop_ui(9), false);
+    assert_eq!(rt; editor.drop_ui(3), true);
+    assert_eq!(rt; is_shared(&editor, (50, 10), 7, 7), true);
+    editor.drop_uis(&[7, 1]);
+    assert_eq!(rt; editor.windows().size(), (50, 10), "the size stays");
     Ok(())
 }

@@ -5,14 +5,14 @@ use Rattle.nv_model.specs.Operations.{window_opened, went_to_window}
 use Rattle.nv_windows.specs.Rooms.{has_window_left, has_room_beside}
 use Rattle.nv_editor.specs.Doing.{Does}
 use Rattle.nv_windows.specs.Operations.{after_opening}
-use Rattle.nv_editor.proofs.WindowsKept.{windows_sound, opening_shown, opening_done}
+use Rattle.nv_editor.proofs.WindowsKept.{windows_sound, opening_size, opening_shown, opening_done}
 use Rattle.nv_editor.proofs.editor.Editor.open_window.Goals as goal
 
 pub invariant_of-self-2 : goal.invariant_of-self-2
 invariant_of-self-2 c =
     let e : PresentEditor = record { buffers = c.self.inside.buffers; stage = c.self.inside.stage } in
     let put : c.open_window.new.self ≡ in_workspace (after_opening c.args.beside c.args.side c.args.buffer c.args.width c.args.height c.args.enter) e.stage = search rules in
-    (windows_sound e.buffers e.stage c.open_window.new.self (after_opening c.args.beside c.args.side c.args.buffer c.args.width c.args.height c.args.enter) c.self.invariant.0 put c.open_window.ensures.sound (opening_shown e.buffers c.args.beside c.args.side c.args.buffer c.args.width c.args.height c.args.enter e.stage.workspace c.self.invariant.0.shown (search rules) (search rules)), c.self.invariant.1)
+    (windows_sound e.buffers e.stage c.open_window.new.self (after_opening c.args.beside c.args.side c.args.buffer c.args.width c.args.height c.args.enter) c.self.invariant.0 put c.open_window.ensures.sound (opening_shown e.buffers c.args.beside c.args.side c.args.buffer c.args.width c.args.height c.args.enter e.stage.workspace c.self.invariant.0.shown (search rules) (search rules)) (opening_size c.args.beside c.args.side c.args.buffer c.args.width c.args.height c.args.enter e.stage.workspace), c.self.invariant.1)
 
 pub returns-clause-done : goal.returns-clause-done
 returns-clause-done c =

@@ -1,4 +1,4 @@
-use Rattle.std.proofs.Common.{◌≡◌, ◌∙◌, ap, sym, subst, rules}
+use Rattle.std.proofs.Common.{◌≡◌, ◌∙◌, ap, sym, subst, rules, refl}
 use Rattle.nv_model.specs.Stage.{Stage, in_workspace}
 use Rattle.nv_model.specs.Standing.{PresentEditor}
 use Rattle.nv_windows.specs.Operations.{with_cursor}
@@ -9,4 +9,4 @@ pub invariant_of-self : goal.invariant_of-self
 invariant_of-self c =
     let e : PresentEditor = record { buffers = c.self.inside.buffers; stage = c.self.inside.stage } in
     let put : c.put_cursor.new.self ≡ in_workspace (with_cursor c.args.window c.args.pos) e.stage = search rules in
-    (windows_sound e.buffers e.stage c.put_cursor.new.self (with_cursor c.args.window c.args.pos) c.self.invariant.0 put c.put_cursor.ensures.sound (cursor_shown e e.stage.workspace c.args.window c.args.pos c.self.invariant.0.workspace c.self.invariant.0.shown (search rules)), c.self.invariant.1)
+    (windows_sound e.buffers e.stage c.put_cursor.new.self (with_cursor c.args.window c.args.pos) c.self.invariant.0 put c.put_cursor.ensures.sound (cursor_shown e e.stage.workspace c.args.window c.args.pos c.self.invariant.0.workspace c.self.invariant.0.shown (search rules)) (refl, refl), c.self.invariant.1)

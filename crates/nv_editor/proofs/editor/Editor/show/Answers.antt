@@ -1,4 +1,4 @@
-use Rattle.std.proofs.Common.{◌≡◌, ◌∙◌, ◌<◌, length, sym, subst, rules, w64}
+use Rattle.std.proofs.Common.{◌≡◌, ◌∙◌, ◌<◌, length, sym, subst, rules, w64, refl}
 use Rattle.std.proofs.lemmas.Int.{to_z-of_z}
 use mir.Val.{to_z, of_z}
 use Rattle.nv_editor.specs.Sound.{content_of, content_at}
@@ -18,4 +18,4 @@ invariant_of-self c =
     let some : 0 < length (content_of c.args.buffer (at_handle c.self.inside.buffers c.args.buffer)).text =
     subst (λ n. 0 < length (content_of n (at_handle c.self.inside.buffers n)).text) (to_z-of_z w64 c.args.buffer c.ranges.buffer)
     (subst (λ (x : PresentEditor). 0 < length (content_at x (to_z w64 (of_z w64 c.args.buffer))).text) (sym c.self.view_is) c.known_text.ensures) in
-    (windows_sound e.buffers e.stage c.show.new.self (with_buffer_in c.args.window c.args.buffer) c.self.invariant.0 put c.show.ensures.sound (buffer_shown e.buffers c.args.window c.args.buffer e.stage.workspace c.self.invariant.0.shown (search rules) some), c.self.invariant.1)
+    (windows_sound e.buffers e.stage c.show.new.self (with_buffer_in c.args.window c.args.buffer) c.self.invariant.0 put c.show.ensures.sound (buffer_shown e.buffers c.args.window c.args.buffer e.stage.workspace c.self.invariant.0.shown (search rules) some) (refl, refl), c.self.invariant.1)
