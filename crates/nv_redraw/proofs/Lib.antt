@@ -1,0 +1,9 @@
+mod WorkedValueLemmas
+mod NamingLemmas
+mod SpellingLemmas
+mod ScreenLemmas
+mod CandidateLemmas
+mod SameLemmas
+mod SpellableLemmas
+mod SideLemmas
+mod CandidateParts

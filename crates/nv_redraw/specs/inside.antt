@@ -1,0 +1,6 @@
+-- What private contracts alone cite.
+pub mod Candidates
+pub mod Naming
+pub mod Rectangles
+pub mod SameTrees
+pub mod Taking

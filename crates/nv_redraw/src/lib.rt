@@ -1,0 +1,21 @@
+//! Redraw events as values of MessagePack and as bytes, and the screen of a client that takes them
+//! (help: ui-linegrid).
+#![tactic(auto)]
+
+mod laws;
+mod lines;
+mod naming;
+mod reading;
+mod sameness;
+mod screen;
+mod shown;
+mod values;
+
+pub use laws::{batches_differ, worked_values};
+pub use reading::batch_of;
+pub use screen::Screen;
+pub use values::batch_value;
+
+
+#[cfg(test)]
+mod tests;
