@@ -1,1 +1,12 @@
+pub mod AttrsTold
+pub mod Drafts
+pub mod GroupsNamed
+pub mod MarkLookups
+pub mod MarksTold
+pub mod Picked
+pub mod Putting
+pub mod Removed
+pub mod RowNames
 pub mod RowsTell
+pub mod Spelled
+pub mod Steps

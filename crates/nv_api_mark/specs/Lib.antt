@@ -7,3 +7,4 @@ pub mod Highlights
 pub mod GroupRows
 pub mod Rows
 pub mod Laws
+pub mod inside

@@ -5,6 +5,22 @@
 //! the least number first, and then the reply and the operations.
 #![tactic(auto)]
 
+mod clearing;
+mod details;
+mod grouping;
 mod laws;
+mod listing;
+mod marks;
+mod naming;
+mod painting;
+mod places;
+mod setting;
+mod table;
+mod telling;
+mod values;
 
 pub use laws::telling_laws;
+pub use table::call_method;
+
+#[cfg(test)]
+mod tests;

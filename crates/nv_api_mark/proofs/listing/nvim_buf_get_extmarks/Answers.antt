@@ -1,0 +1,40 @@
+use Rattle.std.proofs.Common.{◌≡◌, ◌∙◌, ℤ, List, Some, All, map, rules, ap, sym}
+use Rattle.nv_value.specs.Content.{Tree}
+use Rattle.nv_value.specs.View.{pair_content}
+use Rattle.nv_args.specs.Args.{typed_arguments}
+use Rattle.nv_args.specs.Arguments.{last_pairs}
+use Rattle.nv_args.specs.Reading.{number_at, pairs_at}
+use Rattle.nv_buffer.specs.Content.{Content}
+use Rattle.nv_windows.specs.Workspace.{current_buffer}
+use Rattle.nv_model.specs.Answers.{Answer}
+use Rattle.nv_model.specs.Editors.{at_handle}
+use Rattle.nv_model.specs.Seen.{SeenBuffer}
+use Rattle.nv_model.specs.Stage.{or_current}
+use Rattle.nv_model.specs.Standing.{seen_now, seen_buffer_now}
+use Rattle.nv_editor.specs.Sound.{IsOfGroups}
+use Rattle.nv_editor.proofs.Updating.{looked_up}
+use Rattle.nv_api_mark.specs.inside.Picking.{marks_answer}
+use Rattle.nv_api_mark.proofs.Steps.{on_found, reads_on}
+use Rattle.nv_api_mark.proofs.listing.nvim_buf_get_extmarks.Goals as goal
+
+pub marks_told-requires : goal.marks_told-requires
+marks_told-requires c =
+    let e = c.args.editor.now in
+    let h = or_current (current_buffer e.stage.workspace) (number_at (typed_arguments c.args.args.now) 0) in
+    let at : at_handle e.buffers h ≡ Some c.in-Some.buffer.now = search rules in
+    record {
+      painted = looked_up (λ (b : Content). All (IsOfGroups e.stage.groups) b.marks.marks) e.buffers h c.in-Some.buffer.now c.known.ensures.painted at;
+    }
+
+pub returns-in-Some-clause-row : goal.returns-in-Some-clause-row
+returns-in-Some-clause-row c = λ session.
+    let e = c.args.editor.now in
+    let b = c.in-Some.buffer.now in
+    let args = typed_arguments c.args.args.now in
+    let h = or_current (current_buffer e.stage.workspace) (number_at args 0) in
+    let at : at_handle e.buffers h ≡ Some b = search rules in
+    let next : ℤ → SeenBuffer → Answer = λ n b. marks_answer (seen_now e) b args (last_pairs (pairs_at args 4)) in
+    reads_on _ (marks_answer (seen_now e) (seen_buffer_now b) args (last_pairs (map pair_content c.pairs.result.now))) c.marks_told.result
+    (on_found e (number_at args 0) b next at
+    ∙ ap (λ (ps : List (Tree × Tree)). marks_answer (seen_now e) (seen_buffer_now b) args (last_pairs ps)) (sym c.pairs.ensures))
+    c.marks_told.ensures.row

@@ -1,0 +1,5 @@
+pub mod Steps
+pub mod Telling
+pub mod Marking
+pub mod Grouping
+pub mod Picking

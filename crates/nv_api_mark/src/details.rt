@@ -1,0 +1,129 @@
+//! What is told of a mark.
+ghost use Rattle.std.specs.Prelude.{◌≡◌, ◌++◌, List, map, true, IfOk, IfSome, OnOk};
+ghost use Rattle.nv_value.specs.Content.{Tree};
+ghost use Rattle.nv_value.specs.View.{content, pair_content};
+ghost use Rattle.nv_msgpack.specs.Shortest.{HasSpelling};
+ghost use Rattle.nv_hl.specs.Groups.{HasGroup};
+ghost use Rattle.nv_editor.specs.Sound.{IsOfGroups};
+ghost use Rattle.nv_model.specs.Answering.{array_of};
+ghost use Rattle.nv_api_mark.specs.Listing.{listed_mark};
+ghost use Rattle.nv_api_mark.specs.MarkRows.{details_of, end_details, paint_details, place_values, place_values_if_any};
+ghost use Rattle.nv_api_mark.specs.inside.Marking.{IsGroupTold};
+
+use crate::values::{natural_value, put_natural, put_text, put_truth};
+use nv_buffer::{Far, Mark, Paint};
+use nv_hl::Groups;
+use nv_value::{Fields, Items, Value};
+use std::alloc::{AllocError, Global};
+
+// Puts what is told of the end of a mark behind the rest.
+fn push_end(alloc: Global, fields: &mut Fields, stop: Option<Far>) -> Result<(), AllocError>
+    ensures { OnOk result ((rest : List (Tree × Tree))
+        → map pair_content fields.new.items ++ rest
+        ≡ map pair_content fields.old.items ++ (end_details stop ++ rest)) }
+{
+    let Some(far) = stop else {
+        return Ok(());
+    };
+    put_natural(alloc, fields, "end_row", far.pos.row)?;
+    put_natural(alloc, fields, "end_col", far.pos.col)?;
+    put_truth(alloc, fields, "end_right_gravity", far.right)?;
+    Ok(())
+}
+
+// Puts what is told of what a mark shows behind the rest.
+fn push_paint(
+    alloc: Global,
+    fields: &mut Fields,
+    groups: &Groups,
+    paint: Option<Paint>,
+) -> Result<(), AllocError>
+    requires { IfSome paint (λ p. HasGroup groups.now p.group) }
+    ensures told { OnOk result ((rest : List (Tree × Tree))
+        → map pair_content fields.new.items ++ rest
+        ≡ map pair_content fields.old.items ++ (paint_details groups.now paint ++ rest)) }
+    ensures short { OnOk result (IsGroupTold groups.now paint) }
+{
+    let Some(paint) = paint else {
+        return Ok(());
+    };
+    put_text(alloc, fields, "hl_group", groups.name(paint.group))?;
+    put_truth(alloc, fields, "hl_eol", paint.eol)?;
+    Ok(())
+}
+
+// The details of a mark.
+fn details_value(alloc: Global, groups: &Groups, mark: Mark) -> Result<Value, AllocError>
+    requires { IsOfGroups groups.now mark }
+    ensures told { IfOk result (λ value. content value ≡ details_of groups.now mark) }
+    ensures short { OnOk result (IsGroupTold groups.now mark.paint) }
+{
+    let mut fields = Vec::new(alloc);
+    put_natural(alloc, &mut fields, "ns_id", mark.ns)?;
+    put_truth(alloc, &mut fields, "right_gravity", mark.right)?;
+    put_natural(alloc, &mut fields, "priority", mark.priority)?;
+    push_end(alloc, &mut fields, mark.stop)?;
+    push_paint(alloc, &mut fields, groups, mark.paint)?;
+    Ok(Value::Pairs(fields))
+}
+
+// Puts the place of a mark behind the rest, and its details where they are wanted.
+fn push_place(
+    alloc: Global,
+    items: &mut Items,
+    groups: &Groups,
+    details: bool,
+    mark: Mark,
+) -> Result<(), AllocError>
+    requires { IsOfGroups groups.now mark }
+    ensures told { OnOk result ((rest : List Tree)
+        → map content items.new.items ++ rest
+        ≡ map content items.old.items ++ (place_values groups.now details mark ++ rest)) }
+    ensures short { OnOk result (details ≡ true → IsGroupTold groups.now mark.paint) }
+{
+    items.push(natural_value(mark.start.row))?;
+    items.push(natural_value(mark.start.col))?;
+    if !details {
+        return Ok(());
+    }
+    let told = details_value(alloc, groups, mark)?;
+    items.push(told)?;
+    Ok(())
+}
+
+/// The place of a mark, and its details where they are wanted; nothing where there is no mark.
+pub fn place_value(
+    alloc: Global,
+    groups: &Groups,
+    details: bool,
+    found: Option<Mark>,
+) -> Result<Value, AllocError>
+    requires { IfSome found (IsOfGroups groups.now) }
+    ensures told { IfOk result (λ value. content value
+        ≡ array_of (place_values_if_any groups.now details found)) }
+    ensures spelled { IfOk result (λ value. HasSpelling (content value)) }
+{
+    let mut items = Vec::new(alloc);
+    let Some(mark) = found else {
+        return Ok(Value::List(items));
+    };
+    push_place(alloc, &mut items, groups, details, mark)?;
+    Ok(Value::List(items))
+}
+
+/// A mark as it is listed: its id and its place, and its details where they are wanted.
+pub fn listed_value(
+    alloc: Global,
+    groups: &Groups,
+    details: bool,
+    mark: Mark,
+) -> Result<Value, AllocError>
+    requires { IsOfGroups groups.now mark }
+    ensures told { IfOk result (λ value. content value ≡ listed_mark groups.now details mark) }
+    ensures spelled { IfOk result (λ value. HasSpelling (content value)) }
+{
+    let mut items = Vec::new(alloc);
+    items.push(natural_value(mark.id))?;
+    push_place(alloc, &mut items, groups, details, mark)?;
+    Ok(Value::List(items))
+}

@@ -1,0 +1,385 @@
+//! Listing marks (help: nvim_buf_get_extmarks()).
+ghost use Rattle.std.specs.Prelude.{◌≡◌, ℕ, pos, All, IfOk, false, filter, map, reverse, take, unwrap_or};
+ghost use Rattle.nv_places.specs.Places.{is_before};
+ghost use Rattle.nv_value.specs.View.{content, pair_content};
+ghost use Rattle.nv_msgpack.specs.Shortest.{HasSpelling};
+ghost use Rattle.nv_msgpack.specs.Handle.{integer_of};
+ghost use Rattle.nv_args.specs.Args.{typed_arguments};
+ghost use Rattle.nv_args.specs.Arguments.{last_pairs};
+ghost use Rattle.nv_args.specs.Reading.{object_at};
+ghost use Rattle.nv_args.specs.Rules.{key_of};
+ghost use Rattle.nv_model.specs.Answers.{Answer};
+ghost use Rattle.nv_model.specs.Answering.{array_of, reply_of};
+ghost use Rattle.nv_model.specs.Standing.{seen_now, seen_buffer_now};
+ghost use Rattle.nv_editor.specs.Doing.{ReadsAnswer};
+ghost use Rattle.nv_editor.specs.Sound.{IsOfGroups};
+ghost use Rattle.nv_api_mark.specs.Listing.{first_marks, is_meant, listed_mark, listing_keys, marks_from, nvim_buf_get_extmarks, place_by_number, place_of_value, place_pair, reaches};
+ghost use Rattle.nv_api_mark.specs.inside.Steps.{Decides};
+ghost use Rattle.nv_api_mark.specs.inside.Picking.{first_looked_at, is_looked_at, is_picked, marks_answer, span_answer, spanned_answer};
+
+use crate::details::listed_value;
+use crate::naming::meant_namespace;
+use crate::places::{mark_numbered, place_or_last};
+use nv_args::{
+    Args, Fail, Rule, Takes, flag_or, integer_from, integer_of, map_fault, no_buffer, out_of_bounds,
+};
+use nv_buffer::{Buffer, Mark, Pos};
+use nv_editor::Editor;
+use nv_hl::Groups;
+use nv_value::{Pair, Value};
+use std::alloc::{AllocError, Global};
+
+/// Where marks are listed: those of one namespace, or all, from one place to another.
+#[derive(Clone, Copy)]
+pub struct Span {
+    pub meant: Option<u32>,
+    pub start: Pos,
+    pub stop: Pos,
+}
+
+/// Which marks are picked: those of one namespace, or all, that start between two places, both
+/// included, and with `overlap` those that reach to the first.
+#[derive(Clone, Copy)]
+pub struct Picks {
+    pub meant: Option<u32>,
+    pub overlap: bool,
+    pub low: Pos,
+    pub high: Pos,
+}
+
+/// Whether a mark is of the namespaces that are meant.
+pub fn is_meant(meant: Option<u32>, mark: Mark) -> bool
+    ensures { result ≡ is_meant meant mark }
+{
+    match meant {
+        Some(ns) => mark.ns == ns,
+        None => true,
+    }
+}
+
+// Whether a mark starts before a place, and ends at it or behind it.
+fn reaches(place: Pos, mark: Mark) -> bool
+    ensures { result ≡ reaches place mark }
+{
+    match mark.stop {
+        Some(far) => mark.start.is_before(place) && !far.pos.is_before(place),
+        None => false,
+    }
+}
+
+// Whether a mark is picked.
+fn is_picked(picks: Picks, mark: Mark) -> bool
+    ensures { result ≡ is_picked picks mark }
+{
+    let within = !mark.start.is_before(picks.low) && !picks.high.is_before(mark.start);
+    is_meant(picks.meant, mark) && (within || picks.overlap && reaches(picks.low, mark))
+}
+
+// Those of some marks that are picked.
+fn picked_among(alloc: Global, marks: &[Mark], picks: Picks) -> Result<Vec<Mark>, AllocError>
+    ensures { IfOk result (λ found. found.items ≡ filter (is_picked picks) marks.now) }
+{
+    let mut found = Vec::new(alloc);
+    for mark in marks {
+        if is_picked(picks, *mark) {
+            found.push(*mark)?;
+        }
+    }
+    Ok(found)
+}
+
+// The place from which marks are looked at.
+fn first_looked_at(picks: Picks) -> Pos
+    ensures { result ≡ first_looked_at picks }
+{
+    if picks.overlap {
+        Pos { row: 0, col: 0 }
+    } else {
+        picks.low
+    }
+}
+
+// The marks that are looked at, no more of them than a limit.
+fn looked_at(
+    alloc: Global,
+    buffer: &Buffer,
+    picks: Picks,
+    limit: usize,
+) -> Result<Vec<Mark>, AllocError>
+    ensures { IfOk result (λ held. held.items
+        ≡ take limit (filter (is_looked_at picks) buffer.now.marks.marks)) }
+{
+    let mut held = Vec::new(alloc);
+    buffer
+        .marks()
+        .range(first_looked_at(picks), picks.high, limit, &mut held)?;
+    Ok(held)
+}
+
+// All marks that are picked.
+fn all_picked(alloc: Global, buffer: &Buffer, picks: Picks) -> Result<Vec<Mark>, AllocError>
+    requires order { is_before picks.high picks.low ≡ false }
+    ensures { IfOk result
+        (λ found. found.items ≡ filter (is_picked picks) buffer.now.marks.marks) }
+{
+    let held = looked_at(alloc, buffer, picks, buffer.marks().len())?;
+    picked_among(alloc, held.as_slice(), picks)
+}
+
+// The first marks that are picked, as many as are wanted. The first look is at as many marks, and
+// each further one at twice as many as the one before, until enough of them are picked.
+fn first_picked(
+    alloc: Global,
+    buffer: &Buffer,
+    picks: Picks,
+    wanted: usize,
+) -> Result<Vec<Mark>, AllocError>
+    requires order { is_before picks.high picks.low ≡ false }
+    ensures { IfOk result (λ found. found.items
+        ≡ take wanted (filter (is_picked picks) buffer.now.marks.marks)) }
+{
+    let mut looks = wanted;
+    loop {
+        let held = looked_at(alloc, buffer, picks, looks)?;
+        let mut found = picked_among(alloc, held.as_slice(), picks)?;
+        if wanted <= found.len() {
+            found.truncate(wanted);
+            return Ok(found);
+        }
+        if held.len() < looks {
+            return Ok(found);
+        }
+        let Some(more) = looks.checked_mul(2) else {
+            return Err(AllocError);
+        };
+        looks = more;
+    }
+}
+
+// The marks from a first place on, no more of them than a limit.
+fn marks_ahead(
+    alloc: Global,
+    buffer: &Buffer,
+    picks: Picks,
+    limit: Option<u64>,
+) -> Result<Vec<Mark>, AllocError>
+    requires order { is_before picks.high picks.low ≡ false }
+    ensures { IfOk result (λ found. found.items
+        ≡ first_marks limit (filter (is_picked picks) buffer.now.marks.marks)) }
+{
+    match limit {
+        Some(limit) => first_picked(alloc, buffer, picks, limit as usize),
+        None => all_picked(alloc, buffer, picks),
+    }
+}
+
+// The same marks in reverse order, no more of them than a limit.
+fn marks_back(
+    alloc: Global,
+    buffer: &Buffer,
+    picks: Picks,
+    limit: Option<u64>,
+) -> Result<Vec<Mark>, AllocError>
+    requires order { is_before picks.high picks.low ≡ false }
+    ensures { IfOk result (λ found. found.items
+        ≡ first_marks limit (reverse (filter (is_picked picks) buffer.now.marks.marks))) }
+{
+    let mut found = all_picked(alloc, buffer, picks)?;
+    found.reverse();
+    match limit {
+        Some(limit) => {
+            found.truncate(limit as usize);
+            Ok(found)
+        }
+        None => Ok(found),
+    }
+}
+
+// The marks from one place to another, in reverse order where that lies before it, and no more of
+// them than a limit.
+fn marks_from(
+    alloc: Global,
+    buffer: &Buffer,
+    span: Span,
+    overlap: bool,
+    limit: Option<u64>,
+) -> Result<Vec<Mark>, AllocError>
+    ensures { IfOk result (λ found. found.items ≡ first_marks limit
+        (marks_from span.meant overlap span.start span.stop buffer.now.marks.marks)) }
+{
+    let Span { meant, start, stop } = span;
+    if stop.is_before(start) {
+        let picks = Picks {
+            meant,
+            overlap,
+            low: stop,
+            high: start,
+        };
+        return marks_back(alloc, buffer, picks, limit);
+    }
+    let picks = Picks {
+        meant,
+        overlap,
+        low: start,
+        high: stop,
+    };
+    marks_ahead(alloc, buffer, picks, limit)
+}
+
+// Marks as they are listed.
+fn marks_value(
+    alloc: Global,
+    groups: &Groups,
+    details: bool,
+    marks: &[Mark],
+) -> Result<Value, AllocError>
+    requires { All (IsOfGroups groups.now) marks.now }
+    ensures told { IfOk result (λ value. content value
+        ≡ array_of (map (listed_mark groups.now details) marks.now)) }
+    ensures spelled { IfOk result (λ value. HasSpelling (content value)) }
+{
+    if marks.len() > u32::MAX as usize {
+        return Err(AllocError);
+    }
+    let mut items = Vec::with_capacity(alloc, marks.len())?;
+    for mark in marks {
+        items.push(listed_value(alloc, groups, details, *mark)?)?;
+    }
+    Ok(Value::List(items))
+}
+
+// The place that one number names: 0 the first, -1 the last, another one that of a mark.
+fn place_by_number(buffer: &Buffer, meant: Option<u32>, number: i64) -> Option<Pos>
+    ensures { result ≡ place_by_number (seen_buffer_now buffer.now) meant number }
+{
+    if number == 0 {
+        return Some(Pos { row: 0, col: 0 });
+    }
+    let text = buffer.text();
+    if number == -1 {
+        let row = text.count() as u32;
+        return Some(Pos { row, col: 0 });
+    }
+    let Some(ns) = meant else {
+        return None;
+    };
+    match mark_numbered(buffer, ns, number) {
+        Some(mark) => Some(mark.start),
+        None => None,
+    }
+}
+
+// An integer, and 0 where a value is none.
+fn integer_or_none(value: &Value) -> i64
+    ensures { result ≡ unwrap_or (integer_of (content value.now)) (pos 0) }
+{
+    integer_of(value).unwrap_or(0)
+}
+
+// The place that two values name.
+fn place_pair(buffer: &Buffer, values: &[Value]) -> Option<Pos>
+    ensures { result ≡ place_pair buffer.now.text (map content values.now) }
+{
+    match values {
+        [row, col] => place_or_last(buffer.text(), integer_or_none(row), integer_or_none(col)),
+        _ => None,
+    }
+}
+
+// The place that a value names.
+fn place_of_value(buffer: &Buffer, meant: Option<u32>, value: &Value) -> Option<Pos>
+    ensures { result ≡ place_of_value (seen_buffer_now buffer.now) meant (content value.now) }
+{
+    match value {
+        Value::List(values) => place_pair(buffer, values.as_slice()),
+        _ => place_by_number(buffer, meant, integer_or_none(value)),
+    }
+}
+
+// The place that an argument names.
+fn place_given(buffer: &Buffer, meant: Option<u32>, args: &Args, place: usize) -> Option<Pos>
+    ensures { result ≡ place_of_value (seen_buffer_now buffer.now) meant
+        (object_at (typed_arguments args.now) place) }
+{
+    match args.object(place) {
+        Some(value) => place_of_value(buffer, meant, value),
+        None => place_by_number(buffer, meant, 0),
+    }
+}
+
+// The marks that the second to the fourth argument mean.
+fn span_given(editor: &Editor, buffer: &Buffer, args: &Args) -> Result<Span, Fail>
+    ensures row { (next : Span → Answer) → Decides
+        (span_answer (seen_now editor.now) (seen_buffer_now buffer.now) (typed_arguments args.now)
+        next) next result }
+{
+    let Some(meant) = meant_namespace(editor, args.number(1)) else {
+        return Err(out_of_bounds(editor.alloc()));
+    };
+    let Some(start) = place_given(buffer, meant, args, 2) else {
+        return Err(out_of_bounds(editor.alloc()));
+    };
+    let Some(stop) = place_given(buffer, meant, args, 3) else {
+        return Err(out_of_bounds(editor.alloc()));
+    };
+    Ok(Span { meant, start, stop })
+}
+
+// The keys: how many marks at most, their details, and those that reach into the range.
+fn listing_rules() -> [Rule; 3]
+    ensures { map key_of result ≡ listing_keys }
+{
+    [
+        Rule::optional("limit", Takes::From(1)),
+        Rule::flag("details"),
+        Rule::flag("overlap"),
+    ]
+}
+
+// The marks of a span as they are listed.
+fn span_value(
+    editor: &Editor,
+    buffer: &Buffer,
+    span: Span,
+    pairs: &[Pair],
+) -> Result<Value, AllocError>
+    requires painted { All (IsOfGroups editor.now.stage.groups) buffer.now.marks.marks }
+    ensures row { IfOk result (λ value. spanned_answer (seen_now editor.now)
+        (seen_buffer_now buffer.now) (last_pairs (map pair_content pairs.now)) span
+        ≡ reply_of (content value)) }
+    ensures spelled { IfOk result (λ value. HasSpelling (content value)) }
+{
+    let alloc = editor.alloc();
+    let overlap = flag_or(pairs, "overlap", false);
+    let details = flag_or(pairs, "details", false);
+    let limit = integer_from(pairs, "limit", 1);
+    let marks = marks_from(alloc, buffer, span, overlap, limit)?;
+    marks_value(alloc, editor.groups(), details, marks.as_slice())
+}
+
+// The marks of a buffer that a call lists.
+fn marks_told(editor: &Editor, buffer: &Buffer, args: &Args, pairs: &[Pair]) -> Result<Value, Fail>
+    requires painted { All (IsOfGroups editor.now.stage.groups) buffer.now.marks.marks }
+    ensures row { ReadsAnswer (marks_answer (seen_now editor.now) (seen_buffer_now buffer.now)
+        (typed_arguments args.now) (last_pairs (map pair_content pairs.now))) result }
+    ensures spelled { IfOk result (λ value. HasSpelling (content value)) }
+{
+    map_fault(editor.alloc(), &listing_rules(), pairs)?;
+    let span = span_given(editor, buffer, args)?;
+    Ok(span_value(editor, buffer, span, pairs)?)
+}
+
+/// `nvim_buf_get_extmarks`: the marks from one place to another, both included.
+pub fn nvim_buf_get_extmarks(editor: &Editor, args: &Args) -> Result<Value, Fail>
+    ensures row { (session : ℕ)
+        → ReadsAnswer (nvim_buf_get_extmarks (seen_now editor.now) session
+        (typed_arguments args.now)) result }
+    ensures spelled { IfOk result (λ value. HasSpelling (content value)) }
+{
+    editor.known();
+    let given = args.number(0);
+    match editor.buffer(editor.named_buffer(given)) {
+        Some(buffer) => marks_told(editor, buffer, args, args.pairs(4)),
+        None => Err(no_buffer(editor.alloc(), given)),
+    }
+}

@@ -1,0 +1,49 @@
+//! The methods of this crate by their names.
+ghost use Rattle.std.specs.Prelude.{◌≡◌, IfNone, IfOk, IfSome};
+ghost use Rattle.nv_value.specs.View.{content};
+ghost use Rattle.nv_msgpack.specs.Shortest.{HasSpelling};
+ghost use Rattle.nv_args.specs.Args.{typed_arguments};
+ghost use Rattle.nv_args.specs.Methods.{method_name};
+ghost use Rattle.nv_model.specs.Standing.{seen_now};
+ghost use Rattle.nv_editor.specs.Doing.{AnswersRow, row_among};
+ghost use Rattle.nv_api_mark.specs.Rows.{mark_rows};
+
+use crate::clearing::nvim_buf_clear_namespace;
+use crate::grouping::{nvim_get_hl_id_by_name, nvim_set_hl};
+use crate::listing::nvim_buf_get_extmarks;
+use crate::marks::{nvim_buf_del_extmark, nvim_buf_get_extmark_by_id, nvim_buf_set_extmark};
+use crate::naming::{nvim_create_namespace, nvim_get_namespaces};
+use crate::telling::nvim_get_hl;
+use nv_args::{Args, Fail, Method};
+use nv_editor::{Editor, Happened};
+use nv_value::Value;
+
+/// Calls a method on namespaces, marks or highlight groups for a session; nothing where the method
+/// is another one.
+pub fn call_method(
+    method: Method,
+    editor: &mut Editor,
+    session: u64,
+    args: &mut Args,
+    happened: &mut Happened,
+) -> Option<Result<Value, Fail>>
+    ensures row { AnswersRow (row_among mark_rows (method_name method)) (seen_now editor.old)
+        session (typed_arguments args.old) result editor.old editor.new
+        happened.old happened.new }
+    ensures spelled { IfSome result (λ given. IfOk given (λ value. HasSpelling (content value))) }
+    ensures kept { IfNone result (args.new ≡ args.old) }
+{
+    match method {
+        Method::CreateNamespace => Some(nvim_create_namespace(editor, args)),
+        Method::GetNamespaces => Some(nvim_get_namespaces(editor)),
+        Method::BufSetExtmark => Some(nvim_buf_set_extmark(editor, args)),
+        Method::BufDelExtmark => Some(nvim_buf_del_extmark(editor, args)),
+        Method::BufGetExtmarkById => Some(nvim_buf_get_extmark_by_id(editor, args)),
+        Method::BufGetExtmarks => Some(nvim_buf_get_extmarks(editor, args)),
+        Method::BufClearNamespace => Some(nvim_buf_clear_namespace(editor, args)),
+        Method::SetHl => Some(nvim_set_hl(editor, args)),
+        Method::GetHl => Some(nvim_get_hl(editor, args)),
+        Method::GetHlIdByName => Some(nvim_get_hl_id_by_name(editor, args)),
+        _ => None,
+    }
+}
