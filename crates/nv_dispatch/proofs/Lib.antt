@@ -1,3 +1,4 @@
+pub mod WorkedMarks
 pub mod WorkedRuns
 pub mod WorkedWindows
 pub mod CallLaws

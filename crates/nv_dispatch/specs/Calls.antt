@@ -15,11 +15,12 @@ use Rattle.nv_model.specs.Answering.{array_of}
 use Rattle.nv_model.specs.Rows.{Row}
 use Rattle.nv_editor.specs.Doing.{row_among}
 use Rattle.nv_api_buf.specs.Rows.{buffer_rows}
+use Rattle.nv_api_mark.specs.Rows.{mark_rows}
 use Rattle.nv_api_win.specs.Rows.{window_rows}
 
 -- all rows by the names of their methods
 abbrev pub all_rows : List (List ℕ × Row)
-all_rows = buffer_rows ++ window_rows
+all_rows = buffer_rows ++ (mark_rows ++ window_rows)
 
 -- the row of a method
 unfoldable pub row_named : List ℕ → Option Row

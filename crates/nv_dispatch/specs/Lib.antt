@@ -3,5 +3,6 @@ pub mod Laws
 pub mod Outcomes
 pub mod Runs
 pub mod Worked
+pub mod WorkedMarks
 pub mod WorkedWindows
 pub mod inside

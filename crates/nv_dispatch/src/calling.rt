@@ -1,5 +1,5 @@
 //! The call of a method, and of calls one after another (Neovim help `api`, `nvim_call_atomic()`).
-ghost use Rattle.std.specs.Prelude.{◌≡◌, ◌<◌, ◌^◌, [], codes, is_some, length, map, true, IfOk, IfSome, MatchOption, IfNone, Ok, OnOk, Some};
+ghost use Rattle.std.specs.Prelude.{◌≡◌, ◌<◌, ◌^◌, ◌++◌, [], codes, is_some, length, map, true, IfOk, IfSome, MatchOption, IfNone, Ok, OnOk, Some};
 ghost use Rattle.nv_value.specs.Content.{list};
 ghost use Rattle.nv_value.specs.View.{content, contents};
 ghost use Rattle.nv_msgpack.specs.Shortest.{HasSpelling};
@@ -12,9 +12,11 @@ ghost use Rattle.nv_args.specs.Table.{method_named};
 ghost use Rattle.nv_args.specs.Weight.{AreLight, weight};
 ghost use Rattle.nv_model.specs.Editors.{ModelEditor};
 ghost use Rattle.nv_model.specs.Standing.{seen_now, Stands};
-ghost use Rattle.nv_editor.specs.Doing.{AnswersRow};
+ghost use Rattle.nv_editor.specs.Doing.{AnswersRow, row_among};
 ghost use Rattle.nv_editor.specs.Light.{AreLightArgs};
 ghost use Rattle.nv_editor.specs.Sound.{AllSealed};
+ghost use Rattle.nv_api_mark.specs.Rows.{mark_rows};
+ghost use Rattle.nv_api_win.specs.Rows.{window_rows};
 ghost use Rattle.nv_dispatch.specs.Calls.{atomic_outcome, batch_of_values, outcome_before_seal, outcome_of_call, outcome_of_method, outcome_of_value, row_named};
 ghost use Rattle.nv_dispatch.specs.Outcomes.{CanBeSent, GivesOutcome, IfAnswered};
 ghost use Rattle.nv_dispatch.specs.inside.Batches.{CanBeListed, IsBatch};
@@ -40,6 +42,26 @@ fn method_with_row(name: &[u8]) -> Option<Method>
     if has_row(method) { Some(method) } else { None }
 }
 
+// What the rows on marks, groups, windows and tabpages give for a method; nothing where it has none
+// of them.
+fn later_row_of(
+    editor: &mut Editor,
+    session: u64,
+    method: Method,
+    args: &mut Args,
+    happened: &mut Happened,
+) -> Option<Result<Value, Fail>>
+    ensures row { AnswersRow (row_among (mark_rows ++ window_rows) (method_name method))
+        (seen_now editor.old) session (typed_arguments args.old) result editor.old editor.new
+        happened.old happened.new }
+    ensures spelled { IfSome result (λ given. IfOk given (λ value. HasSpelling (content value))) }
+{
+    match nv_api_mark::call_method(method, editor, session, args, happened) {
+        Some(given) => Some(given),
+        None => nv_api_win::call_method(method, editor, session, args, happened),
+    }
+}
+
 // What the table of rows gives for a method; nothing where it has no row.
 fn row_of(
     editor: &mut Editor,
@@ -55,7 +77,7 @@ fn row_of(
 {
     match nv_api_buf::call_method(method, editor, session, args, happened) {
         Some(given) => Some(given),
-        None => nv_api_win::call_method(method, editor, session, args, happened),
+        None => later_row_of(editor, session, method, args, happened),
     }
 }
 

@@ -1,6 +1,7 @@
 //! Laws of calls, each the contract of a function that does nothing.
 
 ghost use Rattle.nv_dispatch.specs.Laws.{AtomicIsOneByOne, AtomicStops, EachSpliceIsOneFact, NamesStandOnce, RefusedLeavesAll, RowsStandInTable, TicksCountFacts};
+ghost use Rattle.nv_dispatch.specs.WorkedMarks.{MarksMoveWithText, MarksPastEnd, MarksReverse, MarkDetails, MarkFaults, Namespaces, HighlightGroups};
 ghost use Rattle.nv_dispatch.specs.WorkedWindows.{SplitRight, WidthWish, CloseSplit, TabNewClose, CursorMoves, OpeningFaults};
 ghost use Rattle.nv_dispatch.specs.Worked.{EmptyText, IndexBounds, StartAboveEnd, TextPlaces, UndoBranches, SecondBuffer, NotModifiable, FaultTexts, CallsInOne};
 
@@ -15,6 +16,18 @@ pub fn worked_runs()
     ensures not_modifiable { NotModifiable }
     ensures fault_texts { FaultTexts }
     ensures calls_in_one { CallsInOne }
+{}
+
+/// What calls on namespaces, marks and highlight groups of a fresh editor answer, by the
+/// definitions alone.
+pub fn worked_marks()
+    ensures marks_move { MarksMoveWithText }
+    ensures marks_past_end { MarksPastEnd }
+    ensures marks_reverse { MarksReverse }
+    ensures mark_details { MarkDetails }
+    ensures mark_faults { MarkFaults }
+    ensures namespaces { Namespaces }
+    ensures highlight_groups { HighlightGroups }
 {}
 
 /// What calls on windows and tabpages of a fresh editor answer, by the definitions alone.

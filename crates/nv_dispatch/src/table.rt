@@ -43,23 +43,32 @@ pub fn has_row(method: Method) -> bool
     ensures { result ≡ is_some (row_named (method_name method)) }
 {
     match method {
-        Method::BufDelete
+        Method::BufClearNamespace
+        | Method::BufDelExtmark
+        | Method::BufDelete
         | Method::BufGetChangedtick
+        | Method::BufGetExtmarkById
+        | Method::BufGetExtmarks
         | Method::BufGetLines
         | Method::BufGetName
         | Method::BufGetOffset
         | Method::BufGetText
         | Method::BufIsValid
         | Method::BufLineCount
+        | Method::BufSetExtmark
         | Method::BufSetLines
         | Method::BufSetName
         | Method::BufSetText
         | Method::Command
         | Method::CreateBuf
+        | Method::CreateNamespace
         | Method::GetApiInfo
         | Method::GetCurrentBuf
         | Method::GetCurrentTabpage
         | Method::GetCurrentWin
+        | Method::GetHl
+        | Method::GetHlIdByName
+        | Method::GetNamespaces
         | Method::GetOptionValue
         | Method::ListBufs
         | Method::ListTabpages
@@ -69,6 +78,7 @@ pub fn has_row(method: Method) -> bool
         | Method::SetCurrentBuf
         | Method::SetCurrentTabpage
         | Method::SetCurrentWin
+        | Method::SetHl
         | Method::SetOptionValue
         | Method::TabpageGetNumber
         | Method::TabpageGetWin
@@ -87,19 +97,9 @@ pub fn has_row(method: Method) -> bool
         | Method::WinSetHeight
         | Method::WinSetWidth => true,
         Method::BufAttach
-        | Method::BufClearNamespace
-        | Method::BufDelExtmark
         | Method::BufDetach
-        | Method::BufGetExtmarkById
-        | Method::BufGetExtmarks
-        | Method::BufSetExtmark
         | Method::CallAtomic
-        | Method::CreateNamespace
-        | Method::GetHl
-        | Method::GetHlIdByName
-        | Method::GetNamespaces
         | Method::ListUis
-        | Method::SetHl
         | Method::Strwidth
         | Method::UiAttach
         | Method::UiDetach
