@@ -7,3 +7,4 @@ mod SameLemmas
 mod SpellableLemmas
 mod SideLemmas
 mod CandidateParts
+mod PutLemmas

@@ -81,3 +81,14 @@ map_pushed (x ∷ old) v = ap (λ (l : List Tree). content x ∷ l) (map_pushed 
 -- one value more has its content
 pub value_pushed : (old new : List Value) (v : Value) (t : Tree) → new ≡ old ++ v ∷ [] → content v ≡ t → map content new ≡ map content old ++ t ∷ []
 value_pushed old new v t e f = ap (map content) e ∙ map_pushed old v ∙ ap (λ (u : Tree). map content old ++ u ∷ []) f
+
+-- the same by the value at the place
+pub value_written_at : {X : Type 0} (F : X → Tree) (before after all : List ℕ) (xs : List X) (i : ℕ) (d : X) → i < length xs
+    → before ++ all_shortest (trees_of (map F (drop i xs))) ≡ all → after ≡ before ++ shortest (F (get_or xs i d))
+    → after ++ all_shortest (trees_of (map F (drop (i + 1) xs))) ≡ all
+value_written_at F before after all xs i d lt h e =
+    let x = get_or xs i d in
+    let rest = all_shortest (trees_of (map F (drop (i + 1) xs))) in
+    let here : drop i xs ≡ x ∷ drop (i + 1) xs = drop_more xs i d lt in
+    ap (λ (l : List ℕ). l ++ rest) e ∙ append_assoc before (shortest (F x)) rest
+    ∙ ap (λ l. before ++ all_shortest (trees_of (map F l))) (sym here) ∙ h

@@ -34,6 +34,12 @@ const SCROLLS: [&[u8]; 9] = [
     b"\x90",
 ];
 
+// Two events of one name that don't share an entry.
+const TWO_FLUSHES: &[u8] = b"\x93\x02\xa6redraw\x92\x92\xa5flush\x90\x92\xa5flush\x90";
+
+// A line that wraps.
+const WRAPPED: &[u8] = b"\x93\x02\xa6redraw\x91\x92\xa9grid_line\x95\x01\x00\x00\x90\xc3";
+
 fn bold() -> Attr {
     Attr {
         bold: true,
@@ -155,6 +161,12 @@ fn joined(alloc: Global, parts: &[&[u8]]) -> Result<Vec<u8>, AllocError> {
     Ok(bytes)
 }
 
+fn bytes_of(alloc: Global, events: &[Redraw]) -> Result<Vec<u8>, AllocError> {
+    let mut bytes = Vec::new(alloc);
+    write_batch(events, &mut bytes)?;
+    Ok(bytes)
+}
+
 fn value_in(alloc: Global, bytes: &[u8]) -> Result<Value, AllocError> {
     let bounds = Bounds {
         depth: 64,
@@ -166,26 +178,47 @@ fn value_in(alloc: Global, bytes: &[u8]) -> Result<Value, AllocError> {
     }
 }
 
-// How many events a value tells, and none where it is no batch.
-fn count_told(alloc: Global, value: &Value) -> Result<Option<usize>, AllocError> {
+// The bytes of the events that a value tells, and none where it tells none.
+fn told(alloc: Global, value: &Value) -> Result<Vec<u8>, AllocError> {
     match batch_of(alloc, value)? {
-        Some(events) => Ok(Some(events.len())),
-        None => Ok(None),
+        Some(events) => bytes_of(alloc, events.as_slice()),
+        None => Ok(Vec::new(alloc)),
     }
+}
+
+#[test]
+fn batches_in_bytes(rt: HostRuntime) -> Result<(), Fail> {
+    let alloc = rt.alloc();
+    let events = first_batch(alloc)?;
+    let mut bytes = vec![in alloc; 0xc0]?;
+    write_batch(events.as_slice(), &mut bytes)?;
+    assert!(rt; bytes.as_slice().starts_with(&[0xc0, 0x93]));
+    let bytes = bytes_of(alloc, events.as_slice())?;
+    let wanted = joined(alloc, &FIRST)?;
+    assert_eq!(rt; bytes.as_slice(), wanted.as_slice());
+    let more = scrolls(alloc)?;
+    let bytes = bytes_of(alloc, more.as_slice())?;
+    let wanted = joined(alloc, &SCROLLS)?;
+    assert_eq!(rt; bytes.as_slice(), wanted.as_slice());
+    Ok(())
 }
 
 #[test]
 fn batches_from_values(rt: HostRuntime) -> Result<(), Fail> {
     let alloc = rt.alloc();
+    let wanted = joined(alloc, &FIRST)?;
+    let read = told(alloc, &value_in(alloc, wanted.as_slice())?)?;
+    assert_eq!(rt; read.as_slice(), wanted.as_slice());
     let more = scrolls(alloc)?;
-    assert_eq!(rt; count_told(alloc, &batch_value(alloc, more.as_slice())?)?, Some(4));
-    let bytes = joined(alloc, &SCROLLS)?;
-    assert_eq!(rt; count_told(alloc, &value_in(alloc, bytes.as_slice())?)?, Some(4));
-    let two = value_in(alloc, b"\x93\x02\xa6redraw\x92\x92\xa5flush\x90\x92\xa5flush\x90")?;
-    assert_eq!(rt; count_told(alloc, &two)?, None);
-    let wrap = value_in(alloc, b"\x93\x02\xa6redraw\x91\x92\xa9grid_line\x95\x01\x00\x00\x90\xc3")?;
-    assert_eq!(rt; count_told(alloc, &wrap)?, None);
-    assert_eq!(rt; count_told(alloc, &Value::Nil)?, None);
+    let made = told(alloc, &batch_value(alloc, more.as_slice())?)?;
+    let wanted = joined(alloc, &SCROLLS)?;
+    assert_eq!(rt; made.as_slice(), wanted.as_slice());
+    let two = told(alloc, &value_in(alloc, TWO_FLUSHES)?)?;
+    assert!(rt; two.is_empty());
+    let wrap = told(alloc, &value_in(alloc, WRAPPED)?)?;
+    assert!(rt; wrap.is_empty());
+    let none = told(alloc, &Value::Nil)?;
+    assert!(rt; none.is_empty());
     Ok(())
 }
 
@@ -234,13 +267,7 @@ fn a_screen_takes_a_batch(rt: HostRuntime) -> Result<(), Fail> {
     assert!(rt; screen.take(&scroll(-1))?);
     assert!(rt; screen.take(&upper)?);
     assert!(rt; !screen.shows(&grid, 0, 0));
-    let bytes = joined(alloc, &FIRST)?;
-    let value = value_in(alloc, bytes.as_slice())?;
-    let read = match batch_of(alloc, &value)? {
-        Some(events) => events,
-        None => Vec::new(alloc),
-    };
-    assert_eq!(rt; count_taken(&mut screen, read.as_slice())?, 9);
+    assert_eq!(rt; count_taken(&mut screen, events.as_slice())?, 9);
     assert!(rt; screen.shows(&grid, 0, 0));
     Ok(())
 }
