@@ -1,0 +1,5 @@
+pub mod Keys
+pub mod Laws
+pub mod Painters
+pub mod Pictures
+pub mod inside

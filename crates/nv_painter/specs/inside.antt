@@ -1,0 +1,6 @@
+pub mod Kept
+pub mod Lent
+pub mod Lone
+pub mod Moving
+pub mod SameKeys
+pub mod Telling

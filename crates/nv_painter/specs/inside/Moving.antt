@@ -1,0 +1,35 @@
+-- inside: windows whose text moved.
+use Rattle.std.specs.Prelude.{ℕ, ℤ, pos, neg_ℤ, ◌+◌, ◌^◌, ◌<◌, Bool, ◌&&◌, nat_le, nat_lt, if◌then◌else◌, List, [], get_or, Option}
+use Rattle.nv_hl.specs.Cells.{Screen}
+use Rattle.nv_linegrid.specs.Client.{Shown, ShownRows, cells_from, row_between, row_from}
+use Rattle.nv_linegrid.specs.Scrolls.{Shift, shifts_between}
+use Rattle.nv_linegrid.specs.Told.{View, blank_shown_rows}
+
+-- inside: rows up, or down as a number below 0
+abbrev pub rows_up : ℕ → Bool → ℤ
+rows_up rows Bool.true = neg_ℤ (pos rows)
+rows_up rows Bool.false = pos rows
+
+-- inside: the cells of a window have rows and columns of 32 bits
+pub record EndsInReach (v : View) : Type 0 where
+  pub rows : v.row + v.height < 2 ^ 32
+  pub cols : v.col + v.width < 2 ^ 32
+
+-- inside: the row at a place after a shift
+abbrev pub row_after_shift : Shift → ShownRows → ℕ → List (Option Shown)
+row_after_shift s rows k =
+    if nat_le s.top k && nat_lt k s.bot
+    then
+    row_between s.left s.right (cells_from rows (row_from s.top s.bot s.rows k)) 0
+    (get_or rows k [])
+    else get_or rows k []
+
+-- inside: how windows' texts moved, not at all where the size is new
+abbrev pub moves : Bool → List View → List View → List Shift
+moves Bool.true olds news = []
+moves Bool.false olds news = shifts_between olds news
+
+-- inside: the rows that move: spaces where the size is new
+abbrev pub rows_to_move : Bool → ShownRows → Screen → ShownRows
+rows_to_move Bool.true rows s = blank_shown_rows s.width s.height
+rows_to_move Bool.false rows s = rows

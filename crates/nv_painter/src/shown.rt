@@ -1,0 +1,130 @@
+//! What a client shows: rows of cells with the ids of their attributes.
+
+ghost use Rattle.nv_linegrid.specs.Client.{Shown};
+ghost use Rattle.nv_linegrid.specs.Rows.{same_shown};
+ghost use Rattle.nv_linegrid.specs.Told.{blank_shown_rows};
+ghost use Rattle.std.specs.Vec.Iter.{into_iter_items};
+ghost use Rattle.std.specs.Prelude.{◌≡◌, ◌∷◌, [], IfOk, Some, length, map, replicate};
+
+use nv_hl::CellText;
+use std::alloc::{AllocError, Global};
+use std::marker::Model;
+
+/// A cell that is shown: its text, and the id of its attribute.
+#[derive(Drop)]
+pub struct ShownCell {
+    pub text: CellText,
+    pub id: u64,
+}
+
+impl Model for ShownCell {
+    ghost use Rattle.nv_linegrid.specs.Client.{Shown};
+
+    ghost Value = { Shown };
+
+    ghost view = { λ c. record { text = c.text; id = c.id } };
+}
+
+impl ShownCell {
+    /// A cell with a text and an id.
+    pub fn new(text: CellText, id: u64) -> ShownCell
+        ensures { result ≡ record { text = text; id = id } }
+    {
+        ShownCell { text, id }
+    }
+
+    /// Whether both have the same text and the same id.
+    pub fn is_same(&self, other: &ShownCell) -> bool
+        ensures { result ≡ same_shown self.now other.now }
+    {
+        self.id == other.id && self.text.is_same(&other.text)
+    }
+
+    /// A copy.
+    pub fn copy(&self, alloc: Global) -> Result<ShownCell, AllocError>
+        ensures { IfOk result (λ c. c ≡ self.now) }
+    {
+        let text = self.text.copy(alloc)?;
+        Ok(ShownCell { text, id: self.id })
+    }
+}
+
+/// A row of cells, some of which may be unknown.
+#[derive(Drop)]
+pub struct ShownRow {
+    cells: Vec<Option<ShownCell>>,
+}
+
+impl Model for ShownRow {
+    ghost use Rattle.std.specs.Prelude.{List, Option};
+    ghost use Rattle.nv_linegrid.specs.Client.{Shown};
+
+    ghost Value = { List (Option Shown) };
+
+    ghost view = { λ r. r.cells.items };
+}
+
+fn known_cells(alloc: Global, cells: Vec<ShownCell>) -> Result<Vec<Option<ShownCell>>, AllocError>
+    ensures { IfOk result (λ known. known.items ≡ map Some cells.items) }
+{
+    let mut known = Vec::with_capacity(alloc, cells.len())?;
+    for cell in cells {
+        known.push(Some(cell))?;
+    }
+    Ok(known)
+}
+
+fn blank_cells(alloc: Global, width: u32) -> Result<Vec<Option<ShownCell>>, AllocError>
+    ensures { IfOk result
+        (λ cells. cells.items ≡ replicate width (Some (record { text = 32 ∷ []; id = 0 }))) }
+{
+    let mut cells = Vec::with_capacity(alloc, width as usize)?;
+    for _ in 0..width {
+        cells.push(Some(ShownCell::new(CellText::from_byte(b' '), 0)))?;
+    }
+    Ok(cells)
+}
+
+impl ShownRow {
+    /// A row of these cells.
+    pub fn new(cells: Vec<Option<ShownCell>>) -> ShownRow
+        ensures { result ≡ cells.items }
+    {
+        ShownRow { cells }
+    }
+
+    /// A row in which each cell is known.
+    pub fn known(alloc: Global, cells: Vec<ShownCell>) -> Result<ShownRow, AllocError>
+        ensures { IfOk result (λ row. row ≡ map Some cells.items) }
+    {
+        let cells = known_cells(alloc, cells)?;
+        Ok(ShownRow { cells })
+    }
+
+    /// A row of spaces without an attribute.
+    pub fn blank(alloc: Global, width: u32) -> Result<ShownRow, AllocError>
+        ensures { IfOk result
+            (λ row. row ≡ replicate width (Some (record { text = 32 ∷ []; id = 0 }))) }
+    {
+        let cells = blank_cells(alloc, width)?;
+        Ok(ShownRow { cells })
+    }
+
+    /// Its cells from the left.
+    pub fn cells(&self) -> &[Option<ShownCell>]
+        ensures { result.now ≡ self.now }
+    {
+        self.cells.as_slice()
+    }
+}
+
+/// Rows of spaces without an attribute.
+pub fn blank_rows(alloc: Global, width: u32, height: u32) -> Result<Vec<ShownRow>, AllocError>
+    ensures { IfOk result (λ rows. rows.items ≡ blank_shown_rows width height) }
+{
+    let mut rows = Vec::with_capacity(alloc, height as usize)?;
+    for _ in 0..height {
+        rows.push(ShownRow::blank(alloc, width)?)?;
+    }
+    Ok(rows)
+}

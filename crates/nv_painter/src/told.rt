@@ -1,0 +1,235 @@
+//! What a client was told.
+
+ghost use Rattle.nv_linegrid.specs.Batch.{batch, event_if, is_place, is_size, same_colours, told_after};
+ghost use Rattle.nv_linegrid.specs.Laws.{ShowsWanted};
+ghost use Rattle.nv_linegrid.specs.Scrolls.{rows_after_shifts, scroll_of};
+ghost use Rattle.nv_linegrid.specs.Told.{IsDrawn, nothing_told};
+ghost use Rattle.nv_painter.specs.inside.Moving.{EndsInReach, moves, rows_to_move};
+ghost use Rattle.std.specs.Prelude.{◌≡◌, ◌++◌, All, IfOk, None, OnOk, if◌then◌else◌, map};
+
+use crate::ids::{add_attrs_of_rows, push_attrs};
+use crate::lines::push_rows;
+use crate::scrolling::push_scrolls;
+use crate::shown::{ShownRow, blank_rows};
+use crate::view::PaneView;
+use nv_hl::{Attr, Colours, Grid};
+use nv_linegrid::Redraw;
+use std::alloc::{AllocError, Global};
+use std::marker::Model;
+use std::mem;
+
+/// What a client is to show: a screen, and the windows on it by rising handles.
+#[derive(Drop)]
+pub struct Picture {
+    pub screen: Grid,
+    pub colours: Colours,
+    /// The row and the column of the cursor.
+    pub cursor: (u32, u32),
+    pub views: Vec<PaneView>,
+}
+
+impl Model for Picture {
+    ghost use Rattle.nv_linegrid.specs.Told.{Wanted};
+
+    ghost Value = { Wanted };
+
+    ghost view = { λ p. record {
+      screen = p.screen;
+      colours = p.colours;
+      cursor = p.cursor;
+      views = p.views.items;
+    } };
+}
+
+/// What a client was told, which is what it shows.
+#[derive(Drop)]
+pub struct ToldScreen {
+    /// The width and the height in cells.
+    size: Option<(u32, u32)>,
+    rows: Vec<ShownRow>,
+    /// The attributes of the ids from 1 on.
+    attrs: Vec<Attr>,
+    colours: Option<Colours>,
+    cursor: Option<(u32, u32)>,
+    views: Vec<PaneView>,
+}
+
+impl Model for ToldScreen {
+    ghost use Rattle.nv_linegrid.specs.Told.{IsWhole, Told};
+
+    ghost Value = { Told };
+
+    ghost view = { λ t. record {
+      size = t.size;
+      rows = t.rows.items;
+      attrs = t.attrs.items;
+      colours = t.colours;
+      cursor = t.cursor;
+      views = t.views.items;
+    } };
+
+    ghost invariant = { λ t. IsWhole (record {
+      size = t.size;
+      rows = t.rows.items;
+      attrs = t.attrs.items;
+      colours = t.colours;
+      cursor = t.cursor;
+      views = t.views.items;
+    }) };
+}
+
+fn is_size(size: Option<(u32, u32)>, width: u32, height: u32) -> bool
+    ensures { result ≡ is_size size width height }
+{
+    match size {
+        None => false,
+        Some(size) => size.0 == width && size.1 == height,
+    }
+}
+
+fn is_place(place: Option<(u32, u32)>, cursor: (u32, u32)) -> bool
+    ensures { result ≡ is_place place cursor }
+{
+    match place {
+        None => false,
+        Some(place) => place.0 == cursor.0 && place.1 == cursor.1,
+    }
+}
+
+fn are_same_colours(old: Option<Colours>, new: Colours) -> bool
+    ensures { result ≡ same_colours old new }
+{
+    match old {
+        None => false,
+        Some(old) => {
+            old.fg == new.fg
+                && old.bg == new.bg
+                && old.sp == new.sp
+                && old.cterm_fg == new.cterm_fg
+                && old.cterm_bg == new.cterm_bg
+        }
+    }
+}
+
+// Tells an event, where it comes.
+fn push_if(events: &mut Vec<Redraw>, comes: bool, event: Redraw) -> Result<(), AllocError>
+    ensures { OnOk result (events.new.items ≡ events.old.items ++ event_if comes event) }
+{
+    if comes {
+        events.push(event)?;
+    }
+    Ok(())
+}
+
+// The cursor before it is told: a new size makes it unknown.
+fn cursor_before(is_resized: bool, cursor: Option<(u32, u32)>) -> Option<(u32, u32)>
+    ensures { result ≡ (if is_resized then None else cursor) }
+{
+    if is_resized { None } else { cursor }
+}
+
+// Tells the scrolls, and gives the rows before the lines are told: spaces where the size is new.
+fn push_moves(
+    alloc: Global,
+    events: &mut Vec<Redraw>,
+    is_resized: bool,
+    rows: Vec<ShownRow>,
+    olds: &[PaneView],
+    picture: &Picture,
+) -> Result<Vec<ShownRow>, AllocError>
+    requires { All EndsInReach picture.now.views }
+    ensures events { OnOk result (events.new.items ≡ events.old.items
+        ++ map scroll_of (moves is_resized olds.now picture.now.views)) }
+    ensures rows { IfOk result (λ after. after.items ≡ rows_after_shifts
+        (moves is_resized olds.now picture.now.views)
+        (rows_to_move is_resized rows.items picture.now.screen)) }
+{
+    if is_resized {
+        return blank_rows(alloc, picture.screen.width(), picture.screen.height());
+    }
+    push_scrolls(alloc, events, rows, olds, picture.views.as_slice())
+}
+
+// Tells what differs, and gives what was told then.
+fn told_next(
+    alloc: Global,
+    old: ToldScreen,
+    picture: Picture,
+) -> Result<(Vec<Redraw>, ToldScreen), AllocError>
+    requires drawn { IsDrawn picture }
+    ensures events { IfOk result (λ next. next.0.items ≡ batch old picture) }
+    ensures told { IfOk result (λ next. next.1 ≡ told_after old picture) }
+    ensures shows { IfOk result (λ next. ShowsWanted old picture) }
+{
+    let (old_size, old_colours, old_cursor) = (old.size, old.colours, old.cursor);
+    let old_views = old.views;
+    let old_rows = old.rows;
+    let mut attrs = old.attrs;
+    let width = picture.screen.width();
+    let height = picture.screen.height();
+    let is_resized = !is_size(old_size, width, height);
+    let mut events = Vec::new(alloc);
+    let size = Redraw::Resize {
+        grid: 1,
+        width,
+        height,
+    };
+    push_if(&mut events, is_resized, size)?;
+    let colours = picture.colours;
+    let is_recoloured = !are_same_colours(old_colours, colours);
+    push_if(&mut events, is_recoloured, Redraw::DefaultColors { colours })?;
+    let count = attrs.len();
+    add_attrs_of_rows(&mut attrs, picture.screen.rows())?;
+    push_attrs(&mut events, attrs.as_slice(), count)?;
+    push_if(&mut events, is_resized, Redraw::Clear { grid: 1 })?;
+    let olds = old_views.as_slice();
+    let mut rows = push_moves(alloc, &mut events, is_resized, old_rows, olds, &picture)?;
+    push_rows(alloc, &mut events, &mut rows, attrs.as_slice(), picture.screen.rows())?;
+    let cursor = picture.cursor;
+    let is_moved = !is_place(cursor_before(is_resized, old_cursor), cursor);
+    let place = Redraw::Goto {
+        grid: 1,
+        row: cursor.0,
+        col: cursor.1,
+    };
+    push_if(&mut events, is_moved, place)?;
+    events.push(Redraw::Flush)?;
+    let told = ToldScreen {
+        size: Some((width, height)),
+        rows,
+        attrs,
+        colours: Some(colours),
+        cursor: Some(cursor),
+        views: picture.views,
+    };
+    Ok((events, told))
+}
+
+impl ToldScreen {
+    /// Nothing was told.
+    pub fn new(alloc: Global) -> ToldScreen
+        ensures { result ≡ nothing_told }
+    {
+        ToldScreen {
+            size: None,
+            rows: Vec::new(alloc),
+            attrs: Vec::new(alloc),
+            colours: None,
+            cursor: None,
+            views: Vec::new(alloc),
+        }
+    }
+
+    /// Tells what differs from what was told: the events take what is shown to the picture.
+    pub fn tell(&mut self, alloc: Global, picture: Picture) -> Result<Vec<Redraw>, AllocError>
+        requires drawn { IsDrawn picture }
+        ensures events { IfOk result (λ events. events.items ≡ batch self.old picture) }
+        ensures told { OnOk result (self.new ≡ told_after self.old picture) }
+        ensures shows { IfOk result (λ events. ShowsWanted self.old picture) }
+    {
+        let old = mem::replace(self, ToldScreen::new(alloc));
+        let (events, told) = told_next(alloc, old, picture)?;
+        *self = told;
+        Ok(events)
+    }
+}
