@@ -1,6 +1,6 @@
 #!/usr/bin/python3
-"""Attaches with pynvim to `nvimd embed` as a child process, by its own `attach`, and goes through buffers, options, windows,
-tabpages, calls in one and faults, with what each must answer.
+"""Attaches with pynvim to `nvimd embed` as a child process, by its own `attach`, and goes through buffers, options, namespaces,
+extmarks, highlight groups, windows, tabpages, calls in one and faults, with what each must answer.
 
 Usage: clients/attach.py      from anywhere; it starts the launcher `nvimd` at the top of the repository.
 Wants Debian's python3-pynvim.
@@ -93,6 +93,53 @@ def faults(nvim):
     refused("newline", lambda: nvim.api.buf_set_lines(0, 0, 1, True, ["a\nb"]), "String cannot contain newlines")
 
 
+def marks(nvim):
+    buffer = nvim.current.buffer
+    buffer[:] = ["abcdef", "xy"]
+    names = nvim.api.get_namespaces()
+    same("no namespace", names, {})
+    first = nvim.api.create_namespace("first")
+    second = nvim.api.create_namespace("second")
+    same("namespaces", nvim.api.get_namespaces(), {"first": first, "second": second})
+    same("a known name", nvim.api.create_namespace("first"), first)
+    same("a mark", buffer.api.set_extmark(first, 0, 3, {"right_gravity": False}), 1)
+    same("another", buffer.api.set_extmark(first, 0, 3, {}), 2)
+    buffer.api.set_text(0, 3, 0, 3, ["XY"])
+    same("moved by text", buffer.api.get_extmarks(first, 0, -1, {}), [[1, 0, 3], [2, 0, 5]])
+    same("in reverse", buffer.api.get_extmarks(first, -1, 0, {"limit": 1}), [[2, 0, 5]])
+    same("by id", buffer.api.get_extmark_by_id(first, 2, {}), [0, 5])
+    same("by another id", buffer.api.get_extmark_by_id(first, 9, {}), [])
+    same("coloured", buffer.api.set_extmark(second, 1, 0, {"end_col": 2, "hl_group": "NonText"}), 1)
+    details = {
+        "ns_id": second, "right_gravity": True, "priority": 4096, "end_row": 1, "end_col": 2, "end_right_gravity": False,
+        "hl_group": "NonText", "hl_eol": False,
+    }
+    same("overlap", buffer.api.get_extmarks(second, [1, 1], -1, {"overlap": True, "details": True}), [[1, 1, 0, details]])
+    nvim.command("undo")
+    same("moved back by undo", buffer.api.get_extmarks(first, 0, -1, {}), [[1, 0, 3], [2, 0, 3]])
+    same("removed", buffer.api.del_extmark(first, 1), True)
+    same("removed before", buffer.api.del_extmark(first, 1), False)
+    buffer.api.clear_namespace(-1, 0, 1)
+    same("cleared", buffer.api.get_extmarks(-1, 0, -1, {}), [[1, 1, 0]])
+    refused("no namespace of 9", lambda: buffer.api.set_extmark(9, 0, 0, {}), "Index out of bounds")
+    refused("a row outside", lambda: buffer.api.set_extmark(first, 9, 0, {}), "Index out of bounds")
+    refused("a key", lambda: buffer.api.set_extmark(first, 0, 0, {"nope": 1}), "Invalid key: nope")
+    same("the last id", buffer.api.set_extmark(first, 0, 0, {"id": 4294967295}), 4294967295)
+    refused("no id left", lambda: buffer.api.set_extmark(first, 0, 0, {}), "No id left")
+
+
+def groups(nvim):
+    same("a link", nvim.api.get_hl(0, {"name": "EndOfBuffer"}), {"link": "NonText"})
+    same("no group", nvim.api.get_hl(0, {"name": "Nope"}), {})
+    nvim.api.set_hl(0, "Mine", {"fg": "#0a00Ff", "bold": True})
+    same("a group", nvim.api.get_hl(0, {"name": "Mine"}), {"fg": 0x0A00FF, "bold": True})
+    nvim.api.set_hl(0, "Mine", {"fg": 1, "default": True})
+    same("it stays", nvim.api.get_hl(0, {"name": "Mine"}), {"fg": 0x0A00FF, "bold": True})
+    same("its id", nvim.api.get_hl_id_by_name("Mine"), 8)
+    refused("a colour", lambda: nvim.api.set_hl(0, "Mine", {"fg": "red"}), "Invalid value for key: fg")
+    refused("namespace 1", lambda: nvim.api.set_hl(1, "Mine", {}), "Index out of bounds")
+
+
 def windows(nvim):
     first = nvim.current.window
     same("windows", [w.handle for w in nvim.windows], [1000])
@@ -116,7 +163,7 @@ def windows(nvim):
     refused("last window", lambda: nvim.api.win_close(first, False), "Cannot close the last one")
 
 
-PARTS = [buffers, undo, options, faults, windows]
+PARTS = [buffers, undo, options, faults, marks, groups, windows]
 
 
 def main():
