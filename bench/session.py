@@ -76,6 +76,7 @@ class Server:
     def __init__(self, words):
         self.child = subprocess.Popen(words, stdin=subprocess.PIPE, stdout=subprocess.PIPE, bufsize=0)
         self.count = 0
+        self.told = b""
         self.ask(b"")
 
     def ask(self, stream):
@@ -95,7 +96,13 @@ class Server:
             tail = (tail + piece)[-(len(piece) + 64):]
         seconds = time.perf_counter() - start
         writer.join()
+        self.told = tail[: tail.index(wanted)]
         return seconds
+
+    def namespace(self):
+        """Makes a namespace; its id, which both servers spell in one byte at the end of the reply."""
+        self.ask(request(1, b"nvim_create_namespace", text(b"bench")))
+        return self.told[-1]
 
     def peak(self):
         """The greatest memory so far, in MB."""
@@ -127,6 +134,42 @@ def edits(kind, lines, count):
     if kind == "insert, delete":
         return b"".join(set_rows(row, row, [LINE]) + set_rows(row, row + 1, []) for row in rows[: count // 2])
     return b"".join(request(1, b"nvim_buf_get_offset", integer(0), integer(row)) for row in rows)
+
+
+def set_mark(namespace, row, col):
+    return request(1, b"nvim_buf_set_extmark", integer(0), integer(namespace), integer(row), integer(col), b"\x80")
+
+
+def get_marks(namespace, start, end, keys=b"\x80"):
+    return request(1, b"nvim_buf_get_extmarks", integer(0), integer(namespace), start, end, keys)
+
+
+def place(row, col):
+    return items([integer(row), integer(col)])
+
+
+LIMIT_ONE = b"\x81" + text(b"limit") + integer(1)
+
+
+def mark_figures(words, count):
+    """The figures of so many marks, one in each line of a text, set in random order."""
+    server = Server(words)
+    server.ask(set_rows(0, -1, [b"x" * 40] * count))
+    namespace = server.namespace()
+    rows = random.sample(range(count), count)
+    asked = [random.randrange(count) for _ in range(1_000)]
+    found = {}
+    found[f"a mark set, {count} lines, us"] = server.ask(b"".join(set_mark(namespace, row, 20) for row in rows)) * 1e6 / count
+    found[f"a line put before {count} marks, us"] = server.ask(set_rows(0, 0, [LINE]) * 1_000) * 1e6 / 1_000
+    within = b"".join(request(1, b"nvim_buf_set_text", *[integer(n) for n in (0, row, 9, row, 9)], items([text(b"y")])) for row in asked)
+    found[f"a byte put before one of {count}, us"] = server.ask(within) * 1e6 / 1_000
+    lines = b"".join(get_marks(namespace, place(row, 0), place(row, -1)) for row in asked)
+    found[f"marks of a line of {count}, us"] = server.ask(lines) * 1e6 / 1_000
+    firsts = b"".join(get_marks(namespace, place(row, 0), integer(-1), LIMIT_ONE) for row in asked)
+    found[f"the next of {count} marks, us"] = server.ask(firsts) * 1e6 / 1_000
+    found[f"{count} marks listed, ms"] = min(server.ask(get_marks(namespace, integer(0), integer(-1))) for _ in range(3)) * 1e3
+    server.close()
+    return found
 
 
 def small_figures(words):
@@ -172,6 +215,8 @@ def figures(words):
         server.ask(edits("replace", 1_000, 50_000))
     found["peak of 1e6 one-line edits, MB"] = server.peak()
     server.close()
+    for count in (1_000, 100_000):
+        found.update(mark_figures(words, count))
     return found
 
 
