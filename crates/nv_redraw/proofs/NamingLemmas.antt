@@ -38,7 +38,6 @@ by_name_step e (f ∷ fs) = names_differ_at (bytes_eq (event_name e) (event_name
 own_name : (e : Redraw) → bytes_eq (event_name e) (event_name e) ≡ true
 own_name e = (bytes_eq-Decides (event_name e) (event_name e)).1 refl
 
-
 count_first : (e : Redraw) (es : List Redraw) → count_named (event_name e) (e ∷ es) ≡ suc (count_named (event_name e) es)
 count_first e es = ap (λ t. cond t (suc (count_named (event_name e) es)) 0) (own_name e)
 

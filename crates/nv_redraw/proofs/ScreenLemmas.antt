@@ -147,9 +147,9 @@ seen_text (Some a) text c e =
     let cell : Option Cell → Cell = λ o. cell_or o c in
     let same : record { text = text; attr = a } ≡ c = ap cell e in
     both (same_attr a c.attr) (bytes_eq text c.text) ((same_attrs_are_equal a c.attr).1 (ap (λ (x : Cell). x.attr) same)) (same_texts text c.text (ap (λ (x : Cell). x.text) same)) where
-  cell_or : Option Cell → Cell → Cell
-  cell_or None d = d
-  cell_or (Some x) d = x
+      cell_or : Option Cell → Cell → Cell
+      cell_or None d = d
+      cell_or (Some x) d = x
 
 cell_seen_is : (table : List (ℕ × Attr)) (o : Option Shown) (c : Cell) → cell_shows table o c ≡ true → cell_seen table o ≡ Some c
 cell_seen_is table None c e = absurd (false≢true e)
@@ -249,6 +249,7 @@ shows_grid c s row col = (there, back) where
       let p = and_parts (is_size c.size s.width s.height && is_place c.cursor (row, col)) (rows_show c.table c.rows s.rows) e in
       let q = and_parts (is_size c.size s.width s.height) (is_place c.cursor (row, col)) p.0 in
       record { size = size_is c.size s.width s.height q.0; cells = rows_seen_is c.table c.rows s.rows p.1; cursor = place_is c.cursor (row, col) q.1 }
+
   back : ShowsGrid c s (row, col) → (is_size c.size s.width s.height && is_place c.cursor (row, col) && rows_show c.table c.rows s.rows) ≡ true
   back h =
       both (is_size c.size s.width s.height && is_place c.cursor (row, col)) (rows_show c.table c.rows s.rows)

@@ -59,16 +59,55 @@ flag_spellable true = tt
 flag_spellable false = tt
 
 rgb_spellable : (a : Attr) → HasSpelling (map_tree (rgb_fields a))
-rgb_spellable a = map_spellable (rgb_fields a) (lit< tt)
-    ((lit< tt, colour_spellable a.fg), ((lit< tt, colour_spellable a.bg), ((lit< tt, colour_spellable a.sp), ((lit< tt, flag_spellable a.reverse),
-    ((lit< tt, flag_spellable a.italic), ((lit< tt, flag_spellable a.bold), ((lit< tt, flag_spellable a.underline), ((lit< tt, flag_spellable a.undercurl),
-    ((lit< tt, flag_spellable a.strikethrough), tt)))))))))
+rgb_spellable a = map_spellable (rgb_fields a) (lit< tt) (
+  (lit< tt, colour_spellable a.fg),
+  (
+    (lit< tt, colour_spellable a.bg),
+    (
+      (lit< tt, colour_spellable a.sp),
+      (
+        (lit< tt, flag_spellable a.reverse),
+        (
+          (lit< tt, flag_spellable a.italic),
+          (
+            (lit< tt, flag_spellable a.bold),
+            (
+              (lit< tt, flag_spellable a.underline),
+              (
+                (lit< tt, flag_spellable a.undercurl),
+                ((lit< tt, flag_spellable a.strikethrough), tt),
+              ),
+            ),
+          ),
+        ),
+      ),
+    ),
+  ),
+)
 
 cterm_spellable : (a : Attr) → HasSpelling (map_tree (cterm_fields a))
-cterm_spellable a = map_spellable (cterm_fields a) (lit< tt)
-    ((lit< tt, colour_spellable a.ctermfg), ((lit< tt, colour_spellable a.ctermbg), ((lit< tt, flag_spellable a.reverse),
-    ((lit< tt, flag_spellable a.italic), ((lit< tt, flag_spellable a.bold), ((lit< tt, flag_spellable a.underline), ((lit< tt, flag_spellable a.undercurl),
-    ((lit< tt, flag_spellable a.strikethrough), tt))))))))
+cterm_spellable a = map_spellable (cterm_fields a) (lit< tt) (
+  (lit< tt, colour_spellable a.ctermfg),
+  (
+    (lit< tt, colour_spellable a.ctermbg),
+    (
+      (lit< tt, flag_spellable a.reverse),
+      (
+        (lit< tt, flag_spellable a.italic),
+        (
+          (lit< tt, flag_spellable a.bold),
+          (
+            (lit< tt, flag_spellable a.underline),
+            (
+              (lit< tt, flag_spellable a.undercurl),
+              ((lit< tt, flag_spellable a.strikethrough), tt),
+            ),
+          ),
+        ),
+      ),
+    ),
+  ),
+)
 
 -- ---- events
 
@@ -121,9 +160,10 @@ weaker most (g ∷ gs) h = (record { name = h.0.name; few_events = omega (arith,
 entry_at : (b : Bool) (most : ℕ) (e : Redraw) (g : NamedEvents) (gs : List NamedEvents) → IsSpellableEvent e → IsSpellableEntry most g → AllByRecursion (IsSpellableEntry most) gs
     → AllByRecursion (IsSpellableEntry (suc most)) (cond b (record { name = g.name; events = e ∷ g.events } ∷ gs) (record { name = event_name e; events = e ∷ [] } ∷ g ∷ gs))
 entry_at true most e g gs h k l = (record { name = k.name; few_events = omega (arith, k.few_events); events = (h, k.events) }, weaker most gs l)
-entry_at false most e g gs h k l =
-    (record { name = name_short e; few_events = omega arith; events = (h, tt) },
-    (record { name = k.name; few_events = omega (arith, k.few_events); events = k.events }, weaker most gs l))
+entry_at false most e g gs h k l = (
+  record { name = name_short e; few_events = omega arith; events = (h, tt) },
+  (record { name = k.name; few_events = omega (arith, k.few_events); events = k.events }, weaker most gs l),
+)
 
 entry_more : (most : ℕ) (e : Redraw) (gs : List NamedEvents) → IsSpellableEvent e → AllByRecursion (IsSpellableEntry most) gs → AllByRecursion (IsSpellableEntry (suc most)) (with_event e gs)
 entry_more most e [] h l = (record { name = name_short e; few_events = omega arith; events = (h, tt) }, tt)

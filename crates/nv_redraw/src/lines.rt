@@ -212,7 +212,11 @@ fn row_from(rectangle: Rectangle, at: usize) -> Option<usize>
         }
     } else {
         let from = at.checked_add(count)?;
-        if from < rectangle.bot as usize { Some(from) } else { None }
+        if from < rectangle.bot as usize {
+            Some(from)
+        } else {
+            None
+        }
     }
 }
 
@@ -263,7 +267,12 @@ fn scrolled_row(
         then row_between rectangle.left rectangle.right source.now 0 row.now else row.now)) }
 {
     if rectangle.top as usize <= at && at < rectangle.bot as usize {
-        row.between(alloc, rectangle.left as usize, rectangle.right as usize, source)
+        row.between(
+            alloc,
+            rectangle.left as usize,
+            rectangle.right as usize,
+            source,
+        )
     } else {
         row.copy(alloc)
     }

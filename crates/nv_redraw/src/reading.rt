@@ -56,7 +56,11 @@ fn item_at(items: &[Value], place: usize) -> Option<&Value>
     ensures { MatchOption result (nth_tree (contents items.now) place ≡ nil)
         (λ value. nth_tree (contents items.now) place ≡ content value.now) }
 {
-    if place < items.len() { Some(&items[place]) } else { None }
+    if place < items.len() {
+        Some(&items[place])
+    } else {
+        None
+    }
 }
 
 fn integer_of(value: &Value) -> i64
@@ -96,13 +100,7 @@ fn id_of(value: &Value) -> u64
     ensures { result ≡ id_or_0 (content value.now) }
 {
     match value {
-        Value::Int(number) => {
-            if *number < 0 {
-                0
-            } else {
-                *number as u64
-            }
-        }
+        Value::Int(number) => { if *number < 0 { 0 } else { *number as u64 } }
         Value::Big(number) => *number,
         _ => 0,
     }

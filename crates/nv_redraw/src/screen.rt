@@ -33,11 +33,11 @@ impl Model for Screen {
     ghost Value = { Client };
 
     ghost view = { λ s. record {
-        size = s.size;
-        rows = s.rows.items;
-        table = s.table.items ++ first_table;
-        colours = s.colours;
-        cursor = s.cursor;
+      size = s.size;
+      rows = s.rows.items;
+      table = s.table.items ++ first_table;
+      colours = s.colours;
+      cursor = s.cursor;
     } };
 }
 

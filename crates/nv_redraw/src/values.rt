@@ -233,8 +233,18 @@ fn cterm_value(alloc: Global, attr: &Attr) -> Result<Value, AllocError>
     ensures { IfOk result (λ value. content value ≡ map_tree (cterm_fields attr.now)) }
 {
     let mut fields = Vec::with_capacity(alloc, 8)?;
-    push_colour(&mut fields, alloc, b"foreground", attr.ctermfg.map(u32::from))?;
-    push_colour(&mut fields, alloc, b"background", attr.ctermbg.map(u32::from))?;
+    push_colour(
+        &mut fields,
+        alloc,
+        b"foreground",
+        attr.ctermfg.map(u32::from),
+    )?;
+    push_colour(
+        &mut fields,
+        alloc,
+        b"background",
+        attr.ctermbg.map(u32::from),
+    )?;
     push_flags(&mut fields, alloc, attr)?;
     Ok(Value::Pairs(fields))
 }
