@@ -153,10 +153,18 @@ fn the_screen_has_the_least_size_of_uis(rt: HostRuntime) -> Result<(), Fail> {
     let mut editor = Editor::new(alloc, limits())?;
     assert_eq!(rt; editor.put_ui(ui(7, 12, 10))?, true);
     assert_eq!(rt; editor.put_ui(ui(3, 40, 4))?, true);
-    assert_eq!(rt; is_shared(&editor, (12, 4), 3, 7), true, "by rising sessions");
+    assert_eq!(rt;
+        is_shared(&editor, (12, 4), 3, 7),
+        true,
+        "by rising sessions"
+    );
     assert_eq!(rt; editor.put_ui(ui(9, 1, 2))?, false, "a window has two rows");
     assert_eq!(rt; editor.put_ui(ui(7, 50, 10))?, true);
-    assert_eq!(rt; is_shared(&editor, (40, 4), 3, 7), true, "in place of its session's");
+    assert_eq!(rt;
+        is_shared(&editor, (40, 4), 3, 7),
+        true,
+        "in place of its session's"
+    );
     Ok(())
 }
 

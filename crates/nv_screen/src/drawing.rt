@@ -96,11 +96,7 @@ fn lay_separators(
 
 /// The screen of a scene, as `draw` gives it, where the cells of known lines aren't laid anew.
 #[tactic(auto, unfolding(crate::specs::Drawing::drawn_rows))]
-pub fn draw_from<K: KnownLines>(
-    alloc: Global,
-    scene: &Scene,
-    known: &K,
-) -> Result<Grid, AllocError>
+pub fn draw_from<K: KnownLines>(alloc: Global, scene: &Scene, known: &K) -> Result<Grid, AllocError>
     requires { All IsDrawable scene.now.panes.items }
     ensures { IfOk result (λ grid. grid ≡ screen_of_scene scene.now) }
 {

@@ -13,13 +13,7 @@ use std::alloc::{AllocError, Global};
 pub trait KnownLines {
     /// The cells of a line in rows of so many cells, with this width of Tabs, lent where they are
     /// known.
-    fn cells_of(
-        &self,
-        line: &SceneLine,
-        width: u32,
-        tabstop: u32,
-        looks: &Looks,
-    ) -> Option<&[Cell]>
+    fn cells_of(&self, line: &SceneLine, width: u32, tabstop: u32, looks: &Looks) -> Option<&[Cell]>
         ensures { IfSome result
             (λ cells. cells.now ≡ scene_cells width tabstop looks.now line.now) };
 }
@@ -52,5 +46,12 @@ pub fn line_cells(
 {
     let width = pane.rect.width;
     let bytes = line.bytes.as_slice();
-    cells(alloc, bytes, line.spans.as_slice(), width, pane.tabstop, looks)
+    cells(
+        alloc,
+        bytes,
+        line.spans.as_slice(),
+        width,
+        pane.tabstop,
+        looks,
+    )
 }
