@@ -1,21 +1,19 @@
 -- The events that the value of a batch tells are those of the batch.
-use Rattle.std.proofs.Common.{ℕ, zero, suc, ℤ, pos, ◌^◌, ◌<◌, ◌≡◌, Bool, true, false, cond, List, [], ◌∷◌, ◌++◌, map, Option, None, Some, is_some, option_map, ltb, refl, sym, ap, ◌∙◌, subst}
-use Rattle.std.specs.Prelude.{codes, if◌then◌else◌}
+use Rattle.std.proofs.Common.{ℕ, pos, ◌^◌, ◌<◌, ◌≡◌, Bool, true, false, cond, List, [], ◌∷◌, ◌++◌, map, Option, None, Some, is_some, option_map, ltb, refl, sym, ap, ◌∙◌}
+use Rattle.std.specs.Prelude.{codes}
 use Rattle.std.specs.Str.{bytes_eq}
 use Rattle.std.specs.List.{AllByRecursion}
 use Rattle.std.proofs.lemmas.Bool.{lt-ltb}
-use Rattle.std.proofs.lemmas.List.{append_assoc}
 use Rattle.std.proofs.lemmas.Slice.Eq.{bytes_eq-Decides}
-use Rattle.nv_value.specs.Content.{Tree, Trees, trees_of, in_turn, integer, big}
+use Rattle.nv_value.specs.Content.{Tree, trees_of, in_turn, integer, big}
 use Rattle.nv_hl.specs.declared.attribute.Attr.{Attr}
-use Rattle.nv_hl.specs.declared.colours.Colours.{Colours}
 use Rattle.nv_linegrid.specs.declared.event.Run.{Run}
 use Rattle.nv_linegrid.specs.declared.event.Run.TheVariants.{Same, One, Times}
 use Rattle.nv_linegrid.specs.declared.event.Redraw.{Redraw}
 use Rattle.nv_linegrid.specs.declared.event.Redraw.TheVariants.{Resize, DefaultColors, HlAttr, Clear, Scroll, LineOf, Goto, Flush}
-use Rattle.nv_redraw.specs.Values.{AttrFields, id_tree, pair_if_there, pairs_there, colour_tree, flag_tree, rgb_fields, cterm_fields, run_tree, event_name, event_tree, NamedEvents, with_event, events_by_name, entry_tree, batch_tree}
-use Rattle.nv_redraw.specs.Reading.{IsColourBelow, IsTypedAttr, AreTypedColours, IsTypedRun, IsTypedEvent, AreTypedEvents, OneValueOneBatch}
-use Rattle.nv_redraw.specs.inside.Candidates.{items_in, size_in, if_below, below_or_0, integer_or_0, id_or_0, value_of_key, colour_of_key, cterm_of_key, flag_of_key, attr_of_maps, run_in, runs_in, candidate, candidates_named, candidates_of_entry, candidates_of_entries, candidates}
+use Rattle.nv_redraw.specs.Values.{AttrFields, pair_if_there, pairs_there, colour_tree, flag_tree, rgb_fields, cterm_fields, run_tree, event_name, event_tree, NamedEvents, with_event, events_by_name, entry_tree, batch_tree}
+use Rattle.nv_redraw.specs.Reading.{IsColourBelow, IsTypedAttr, IsTypedRun, IsTypedEvent, AreTypedEvents, OneValueOneBatch}
+use Rattle.nv_redraw.specs.inside.Candidates.{items_in, size_in, if_below, below_or_0, integer_or_0, id_or_0, value_of_key, colour_of_key, cterm_of_key, flag_of_key, attr_of_maps, run_in, runs_in, candidate, candidates_named, candidates_of_entries, candidates}
 
 below_is : (limit n : ℕ) → n < limit → if_below limit n ≡ n
 below_is limit n h = ap (λ b. cond b n 0) (lt-ltb n limit h)

@@ -1,8 +1,8 @@
 -- What is written one after another is the spelling of the whole.
-use Rattle.std.proofs.Common.{ℕ, zero, suc, ℤ, pos, ◌+◌, ◌*◌, ◌/◌, ◌<◌, ◌≤◌, ◌≡◌, Bool, true, false, cond, ltb, List, [], ◌∷◌, ◌++◌, length, map, Option, None, Some, refl, sym, ap, ◌∙◌, arith}
+use Rattle.std.proofs.Common.{ℕ, suc, ℤ, ◌+◌, ◌/◌, ◌≡◌, List, [], ◌∷◌, ◌++◌, length, map, Option, refl, sym, ap, ◌∙◌, arith}
 use Rattle.std.specs.Prelude.{codes}
 use Rattle.std.proofs.lemmas.List.{append_assoc, append-nil}
-use Rattle.nv_value.specs.Content.{Tree, Trees, trees_of, in_turn, pairs, count}
+use Rattle.nv_value.specs.Content.{Tree, trees_of, in_turn, count}
 use Rattle.nv_msgpack.specs.Shortest.{shortest, all_shortest, unsigned_spelling, integer_spelling, list_head, text_head, map_head}
 use Rattle.nv_linegrid.specs.declared.event.Run.{Run}
 use Rattle.nv_linegrid.specs.declared.event.Redraw.{Redraw}

@@ -1,8 +1,7 @@
 -- Cells put in rows, runs told, and what a screen shows.
-use Rattle.std.proofs.Common.{ℕ, zero, suc, ◌+◌, ◌-◌, ◌<◌, ◌≤◌, ◌≡◌, ◌↔◌, Bool, true, false, cond, eqb, ltb, leb, List, [], ◌∷◌, ◌++◌, length, map, take, drop, set, get_or, replicate, Option, None, Some, is_some, refl, sym, ap, ◌∙◌, subst, arith, length-append}
+use Rattle.std.proofs.Common.{ℕ, suc, ◌+◌, ◌<◌, ◌≡◌, ◌↔◌, Bool, true, false, eqb, List, [], ◌∷◌, ◌++◌, length, map, take, drop, set, get_or, replicate, Option, None, Some, is_some, refl, sym, ap, ◌∙◌, subst, arith, length-append}
 use Rattle.std.proofs.lemmas.List.{append_assoc, append-nil, drop_more, drop-set-lt, length-replicate, take_more_set, take-append-drop}
 use Rattle.std.specs.Prelude.{◌&&◌, option_map, nat_le, if◌then◌else◌}
-use Rattle.std.specs.Cmp.Derive.{both_true}
 use Rattle.std.proofs.lemmas.Bool.{and_parts, eqb-true, eq-eqb, leb-true, false≢true}
 use Rattle.nv_hl.specs.Cells.{Screen}
 use Rattle.nv_hl.proofs.LawLemmas.{same_attrs_are_equal}

@@ -1,7 +1,7 @@
 -- Values side by side: those of other lengths differ, and the next ones are compared first.
-use Rattle.std.proofs.Common.{ℕ, zero, suc, ◌+◌, ◌<◌, ◌≡◌, Bool, true, false, ◌&&◌, List, [], ◌∷◌, length, drop, get_or, refl, sym, ap, ◌∙◌, arith}
+use Rattle.std.proofs.Common.{ℕ, suc, ◌+◌, ◌<◌, ◌≡◌, Bool, true, false, ◌&&◌, List, [], ◌∷◌, length, drop, get_or, refl, sym, ap, ◌∙◌}
 use Rattle.std.proofs.lemmas.List.{drop_more}
-use Rattle.nv_value.specs.Content.{Tree, Trees, one}
+use Rattle.nv_value.specs.Content.{Trees, one}
 use Rattle.nv_value.specs.View.{content, contents, pair_contents}
 use Rattle.nv_value.specs.declared.value.Value.{Value}
 use Rattle.nv_value.specs.declared.value.Pair.{Pair}

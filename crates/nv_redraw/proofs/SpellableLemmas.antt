@@ -1,9 +1,9 @@
 -- A batch whose lengths are below 2 ^ 32 has a spelling.
-use Rattle.std.proofs.Common.{ℕ, zero, suc, ℤ, pos, ◌+◌, ◌*◌, ◌^◌, ◌<◌, ◌≤◌, ◌≡◌, Bool, true, false, cond, ltb, List, [], ◌∷◌, ◌++◌, length, map, Option, None, Some, lit<, refl, sym, ap, ◌∙◌, subst, arith}
+use Rattle.std.proofs.Common.{ℕ, suc, pos, ◌^◌, ◌<◌, ◌≤◌, ◌≡◌, Bool, true, false, cond, ltb, List, [], ◌∷◌, ◌++◌, length, map, Option, None, Some, lit<, refl, sym, subst, arith}
 use Rattle.std.specs.List.{AllByRecursion}
 use Rattle.std.specs.Str.{bytes_eq}
 use Rattle.std.proofs.lemmas.Bool.{ltb-false}
-use Rattle.nv_value.specs.Content.{Tree, Trees, trees_of, in_turn, count, integer, big}
+use Rattle.nv_value.specs.Content.{Tree, trees_of, in_turn, count, integer, big}
 use Rattle.nv_msgpack.specs.Shortest.{HasSpelling, HaveSpellings}
 use Rattle.nv_hl.specs.declared.attribute.Attr.{Attr}
 use Rattle.nv_linegrid.specs.declared.event.Run.{Run}
@@ -12,7 +12,7 @@ use Rattle.nv_linegrid.specs.declared.event.Redraw.{Redraw}
 use Rattle.nv_linegrid.specs.declared.event.Redraw.TheVariants.{Resize, DefaultColors, HlAttr, Clear, Scroll, LineOf, Goto, Flush}
 use Rattle.nv_redraw.specs.Values.{AttrFields, id_tree, pair_if_there, pairs_there, map_tree, colour_tree, flag_tree, rgb_fields, cterm_fields, run_tree, event_name, event_tree, NamedEvents, with_event, events_by_name, entry_tree, batch_tree}
 use Rattle.nv_redraw.specs.Spellable.{IsSpellableRun, IsSpellableEvent, IsSpellableBatch}
-use Rattle.nv_redraw.proofs.SpellingLemmas.{count-in_turn, count-trees_of}
+use Rattle.nv_redraw.proofs.SpellingLemmas.{count-in_turn}
 
 id_at : (n : ℕ) (b : Bool) → ltb n 0x8000000000000000 ≡ b → HasSpelling (cond b (integer (pos n)) (big n))
 id_at n true h = tt

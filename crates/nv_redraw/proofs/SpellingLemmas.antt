@@ -1,13 +1,13 @@
 -- What is written so far, with what is to come, is all; and what an error leaves.
-use Rattle.std.proofs.Common.{ℕ, zero, suc, ◌+◌, ◌*◌, ◌/◌, ◌<◌, ◌≤◌, ◌≡◌, Bool, true, false, List, [], ◌∷◌, ◌++◌, length, map, take, drop, get_or, Option, None, Some, refl, sym, ap, ◌∙◌, subst, arith, length-append}
-use Rattle.std.proofs.lemmas.List.{append_assoc, append-nil, drop_more, take-take, length-take}
+use Rattle.std.proofs.Common.{ℕ, ◌+◌, ◌*◌, ◌<◌, ◌≤◌, ◌≡◌, List, [], ◌∷◌, ◌++◌, length, map, take, drop, get_or, refl, sym, ap, ◌∙◌, arith}
+use Rattle.std.proofs.lemmas.List.{append_assoc, drop_more, take-take, length-take}
 use Rattle.std.proofs.Math.Seq.{take-append_seam}
-use Rattle.nv_value.specs.Content.{Tree, Trees, trees_of, in_turn, count}
+use Rattle.nv_value.specs.Content.{Tree, trees_of, in_turn, count}
 use Rattle.nv_value.specs.View.{content}
 use Rattle.nv_value.specs.declared.value.Value.{Value}
 use Rattle.nv_msgpack.specs.Shortest.{shortest, all_shortest, BeginsAs}
 use Rattle.nv_linegrid.specs.declared.event.Redraw.{Redraw}
-use Rattle.nv_redraw.specs.Values.{NamedEvents, entry_tree, events_by_name, pairs_there, AttrFields}
+use Rattle.nv_redraw.specs.Values.{NamedEvents, entry_tree, events_by_name}
 use Rattle.nv_redraw.proofs.NamingLemmas.{FrontAt}
 
 -- what begins as a list that begins as the old one begins as the old one

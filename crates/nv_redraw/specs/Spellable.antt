@@ -4,7 +4,7 @@ use Rattle.std.specs.List.{AllByRecursion}
 use Rattle.nv_linegrid.specs.declared.event.Run.{Run}
 use Rattle.nv_linegrid.specs.declared.event.Run.TheVariants.{Same, One, Times}
 use Rattle.nv_linegrid.specs.declared.event.Redraw.{Redraw}
-use Rattle.nv_linegrid.specs.declared.event.Redraw.TheVariants.{Resize, DefaultColors, HlAttr, Clear, Scroll, LineOf, Goto, Flush}
+use Rattle.nv_linegrid.specs.declared.event.Redraw.TheVariants.{LineOf}
 
 -- the text of a run's cells
 abbrev pub run_text : Run → List ℕ

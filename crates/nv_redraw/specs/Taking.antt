@@ -1,5 +1,5 @@
 -- What a client's machine answers (help: ui-linegrid).
-use Rattle.std.specs.Prelude.{◌≡◌, ℕ, List, map, Option, None, Some}
+use Rattle.std.specs.Prelude.{◌≡◌, ℕ, map, Option, None, Some}
 use Rattle.nv_hl.specs.Cells.{Screen}
 use Rattle.nv_linegrid.specs.Client.{Client, cell_seen}
 

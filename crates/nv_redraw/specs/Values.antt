@@ -1,9 +1,8 @@
 -- The values that tell events and batches (help: ui-events, ui-linegrid; MessagePack-RPC
 -- specification, "Notification Message").
-use Rattle.std.specs.Prelude.{ℕ, suc, ℤ, pos, ◌≡◌, ◌+◌, ◌^◌, ◌<◌, Bool, true, false, nat_lt, if◌then◌else◌, List, [], ◌∷◌, ◌++◌, length, map, codes, bytes_eq, Option, Some, None, option_map}
-use Rattle.nv_value.specs.Content.{Tree, Trees, trees_of, in_turn, integer, big, truth, text, list, pairs}
+use Rattle.std.specs.Prelude.{ℕ, pos, Bool, true, false, nat_lt, if◌then◌else◌, List, [], ◌∷◌, ◌++◌, map, codes, bytes_eq, Option, Some, None, option_map}
+use Rattle.nv_value.specs.Content.{Tree, trees_of, in_turn, integer, big, truth, text, list, pairs}
 use Rattle.nv_hl.specs.declared.attribute.Attr.{Attr}
-use Rattle.nv_hl.specs.declared.colours.Colours.{Colours}
 use Rattle.nv_linegrid.specs.declared.event.Run.{Run}
 use Rattle.nv_linegrid.specs.declared.event.Run.TheVariants.{Same, One, Times}
 use Rattle.nv_linegrid.specs.declared.event.Redraw.{Redraw}

@@ -1,6 +1,6 @@
 -- The value of the first batch of an empty screen, and of a batch that scrolls.
 use Prim.Native.String.{String}
-use Rattle.std.specs.Prelude.{◌≡◌, ℕ, pos, negsuc, true, false, List, [], ◌∷◌, codes}
+use Rattle.std.specs.Prelude.{◌≡◌, ℕ, negsuc, true, false, List, [], ◌∷◌, codes}
 use Rattle.nv_value.specs.Content.{Tree, integer, truth, text, pairs, no_more, one}
 use Rattle.nv_linegrid.specs.Told.{nothing_told}
 use Rattle.nv_linegrid.specs.Batch.{batch, told_after}

@@ -1,6 +1,6 @@
 -- inside: the events that a value tells, if it is the value of a batch.
-use Rattle.std.specs.Prelude.{ℕ, zero, suc, ℤ, pos, negsuc, ◌^◌, Bool, true, false, nat_lt, if◌then◌else◌, List, [], ◌∷◌, ◌++◌, codes, bytes_eq, Option, None, Some, is_some, option_map}
-use Rattle.nv_value.specs.Content.{Tree, Trees, no_more, one, nil, truth, integer, big, text, bin, list, pairs, ext, opaque}
+use Rattle.std.specs.Prelude.{ℕ, zero, suc, ℤ, pos, negsuc, ◌^◌, Bool, nat_lt, if◌then◌else◌, List, [], ◌∷◌, ◌++◌, codes, bytes_eq, Option, None, Some, is_some, option_map}
+use Rattle.nv_value.specs.Content.{Tree, Trees, no_more, one, nil, integer, big, text, list, pairs}
 use Rattle.nv_hl.specs.declared.attribute.Attr.{Attr}
 use Rattle.nv_hl.specs.declared.colours.Colours.{Colours}
 use Rattle.nv_linegrid.specs.declared.event.Run.{Run}

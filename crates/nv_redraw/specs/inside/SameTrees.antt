@@ -1,5 +1,5 @@
 -- inside: whether two trees are the same.
-use Rattle.std.specs.Prelude.{ℕ, ℤ, Bool, true, false, ◌&&◌, ◌==◌, List, bytes_eq}
+use Rattle.std.specs.Prelude.{Bool, true, false, ◌&&◌, ◌==◌, bytes_eq}
 use Rattle.std.specs.Ordering.{int_eq}
 use Rattle.nv_hl.specs.Attributes.{same_flag}
 use Rattle.nv_value.specs.Content.{Tree, Trees, no_more, one, nil, truth, integer, big, text, bin, list, pairs, ext, opaque}

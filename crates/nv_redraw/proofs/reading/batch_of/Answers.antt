@@ -1,4 +1,4 @@
-use Rattle.std.proofs.Common.{◌≡◌, List, sym, ap, ◌∙◌}
+use Rattle.std.proofs.Common.{◌≡◌, List, ap, ◌∙◌}
 use Rattle.nv_linegrid.specs.declared.event.Redraw.{Redraw}
 use Rattle.nv_value.specs.View.{content}
 use Rattle.nv_redraw.specs.Values.{batch_tree}

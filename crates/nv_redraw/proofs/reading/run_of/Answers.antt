@@ -1,8 +1,4 @@
-use Rattle.std.proofs.Common.{◌≡◌, List, ℕ, arith, sym, ap, ◌∙◌, rules}
-use Rattle.nv_linegrid.specs.declared.event.Run.{Run}
-use Rattle.nv_linegrid.specs.declared.event.Run.TheVariants.{Same, One, Times}
-use Rattle.nv_value.specs.View.{contents}
-use Rattle.nv_redraw.specs.inside.Candidates.{nth_tree, bytes_in, id_or_0, size_in}
+use Rattle.std.proofs.Common.{arith, rules}
 use Rattle.nv_redraw.proofs.CandidateParts.{run_of_few, run_of_two, run_of_many}
 use Rattle.nv_redraw.proofs.reading.run_of.Goals as goal
 

@@ -1,7 +1,7 @@
 -- Values of other lengths differ; a pair is its key and its value.
-use Rattle.std.proofs.Common.{◌≡◌, ◌<◌, ◌+◌, ℕ, Bool, true, false, ◌&&◌, length, drop, get_or, sym, ap, subst, ◌∙◌, arith, rules}
-use Rattle.nv_value.specs.View.{content, pair_contents}
-use Rattle.nv_redraw.specs.inside.SameTrees.{same_tree, same_trees}
+use Rattle.std.proofs.Common.{◌≡◌, ◌+◌, ℕ, Bool, true, false, ◌&&◌, drop, get_or, sym, ap, subst, ◌∙◌, arith, rules}
+use Rattle.nv_value.specs.View.{pair_contents}
+use Rattle.nv_redraw.specs.inside.SameTrees.{same_trees}
 use Rattle.nv_redraw.proofs.SideLemmas.{lengths_differ, pair_lengths_differ, pairs_at}
 use Rattle.nv_redraw.proofs.sameness.+same.Goals as goal
 

@@ -1,7 +1,7 @@
-use Rattle.std.proofs.Common.{◌≡◌, ◌+◌, ℕ, List, length, drop, sym, ap, ◌∙◌, arith}
+use Rattle.std.proofs.Common.{◌≡◌, List, length, drop, ap, ◌∙◌, arith}
 use Rattle.std.proofs.lemmas.List.{take_rest}
 use Rattle.nv_linegrid.specs.declared.event.Redraw.{Redraw}
-use Rattle.nv_redraw.specs.Values.{NamedEvents, events_by_name}
+use Rattle.nv_redraw.specs.Values.{NamedEvents}
 use Rattle.nv_redraw.specs.inside.Naming.{count_named}
 use Rattle.nv_redraw.proofs.NamingLemmas.{front_at}
 use Rattle.nv_redraw.proofs.spelling.count_entries.Goals as goal

@@ -1,8 +1,7 @@
-use Rattle.std.proofs.Common.{◌≡◌, ◌+◌, ◌-◌, ◌++◌, ℕ, List, take, drop, sym, ap, ◌∙◌, arith}
+use Rattle.std.proofs.Common.{◌≡◌, ◌+◌, ◌-◌, ◌++◌, ℕ, List, take, drop, ap, ◌∙◌, arith}
 use Rattle.std.proofs.lemmas.List.{take_rest}
 use Rattle.nv_linegrid.specs.declared.event.Redraw.{Redraw}
 use Rattle.nv_msgpack.specs.Shortest.{shortest}
-use Rattle.nv_msgpack.proofs.Writing.{on_err}
 use Rattle.nv_redraw.specs.Values.{entry_tree}
 use Rattle.nv_redraw.specs.inside.Naming.{count_named}
 use Rattle.nv_redraw.proofs.NamingLemmas.{front_at}

@@ -1,4 +1,4 @@
-use Rattle.std.proofs.Common.{◌≡◌, ◌++◌, pos, get_or, arith, rules, sym, subst, List, ℕ}
+use Rattle.std.proofs.Common.{◌≡◌, ◌++◌, pos, get_or, rules, sym, subst, List, ℕ}
 use Rattle.nv_value.specs.Content.{integer}
 use Rattle.nv_msgpack.specs.Shortest.{integer_spelling, BeginsAs}
 use Rattle.nv_msgpack.proofs.Writing.{on_err}
