@@ -1,0 +1,11 @@
+pub mod Fitting
+pub mod Areas
+pub mod Settled
+pub mod SettleSteps
+pub mod Painted
+pub mod Pushed
+pub mod SettledTop
+pub mod Found
+pub mod Lined
+pub mod Shown
+pub mod SettlingLaws

@@ -1,0 +1,109 @@
+-- The marks that show on a row, among those that may.
+use Rattle.std.proofs.Common.{◌≡◌, ℕ, ◌+◌, ◌-◌, ◌<◌, ◌≤◌, ◌&&◌, Bool, true, false, cond, not, nat_le, nat_lt, suc, List, [], ◌∷◌, ◌++◌, length, map, filter, All, Option, Some, None, refl, sym, ap, subst, ◌∙◌, arith}
+use Rattle.std.specs.Prelude.{IsPermutation, IsSorted, IsSortedBy, flat_map}
+use Rattle.std.specs.Cmp.{IsTotalOrder, IsStrictWeakOrder, then_total, on_total, nat_cmp_total}
+use Rattle.std.specs.Ordering.{is_lt}
+use Rattle.std.proofs.lemmas.Bool.Decides.{nat_tests}
+use Rattle.std.proofs.lemmas.List.Elements.{All-filter}
+use Rattle.std.proofs.lemmas.List.Kept.{IsSortedBy-filter}
+use Rattle.std.proofs.lemmas.List.Sorted.{All-permutation, ranks_by}
+use Rattle.nv_places.specs.Places.{is_before}
+use Rattle.nv_places.specs.declared.place.Pos.{Pos}
+use Rattle.nv_marks.specs.Order.{starts_within}
+use Rattle.nv_marks.specs.declared.extmark.Far.{Far}
+use Rattle.nv_marks.specs.declared.extmark.Mark.{Mark}
+use Rattle.nv_marks.specs.declared.extmark.Paint.{Paint}
+use Rattle.nv_marks.proofs.SwapLemmas.{IsPermutation-filter}
+use Rattle.nv_hl.specs.Groups.{NamedGroup}
+use Rattle.nv_linedraw.specs.declared.looks.Span.{Span}
+use Rattle.nv_windows.specs.Views.{row_begin}
+use Rattle.nv_scene.specs.Panes.{AreSpansOf, paint_order, range_from, range_to, shows_by, shows_on, span_on}
+use Rattle.nv_scene.specs.inside.Painting.{AreLaid, may_show, may_show_by, showing_marks, spans_of_mark}
+
+pub paint_order_total : IsTotalOrder paint_order
+paint_order_total =
+    then_total (then_total
+    (on_total (λ (m : Mark). m.priority) nat_cmp_total)
+    (on_total (λ (m : Mark). m.ns) nat_cmp_total))
+    (on_total (λ (m : Mark). m.id) nat_cmp_total)
+
+pub paint_order_ranks : IsStrictWeakOrder (λ (m k : Mark). is_lt (paint_order m k))
+paint_order_ranks = ranks_by paint_order_total (λ (m : Mark). m)
+
+-- what passes the narrower test passes the wider one
+filter_narrower : {X : Type 0} (p q : X → Bool) → ((x : X) → p x ≡ true → q x ≡ true) → (xs : List X) → filter p (filter q xs) ≡ filter p xs
+filter_narrower p q narrower [] = refl
+filter_narrower {X = X} p q narrower (x ∷ xs) = by (q x) refl (p x) refl (filter_narrower p q narrower xs)
+  where
+    by : (a : Bool) → q x ≡ a → (b : Bool) → p x ≡ b → filter p (filter q xs) ≡ filter p xs
+        → filter p (cond a (x ∷ filter q xs) (filter q xs)) ≡ cond b (x ∷ filter p xs) (filter p xs)
+    by true e true f rest = ap (λ (t : Bool). cond t (x ∷ filter p (filter q xs)) (filter p (filter q xs))) f ∙ ap (λ (l : List X). x ∷ l) rest
+    by true e false f rest = ap (λ (t : Bool). cond t (x ∷ filter p (filter q xs)) (filter p (filter q xs))) f ∙ rest
+    by false e false f rest = rest
+    by false e true f rest = let so = narrower x f in cc
+
+shown_starts : (p : Pos) (row len behind : ℕ) (stop : Option Far) (paint : Option Paint) → row < behind → shows_by p row len stop paint ≡ true
+    → (not (is_before p (row_begin 0)) && not (is_before (row_begin behind) p)) ≡ true
+shown_starts p row len behind None paint h e = cc
+shown_starts p row len behind (Some far) None h e = cc
+shown_starts p row len behind (Some far) (Some paint) h e =
+    numbers p.row p.col row behind far.pos.row (nat_lt (range_from p row) (range_to far.pos row len)) h e
+  where
+    numbers : (a c row behind stop : ℕ) (t : Bool) → row < behind → (nat_le a row && nat_le row stop && t) ≡ true
+        → (not (is_before (record { row = a; col = c }) (row_begin 0)) && not (is_before (row_begin behind) (record { row = a; col = c }))) ≡ true
+    numbers a c row behind stop t h e = grind (arith, nat_tests)
+
+shown_stops : (p : Pos) (row len first : ℕ) (stop : Option Far) (paint : Option Paint) → first ≤ row → shows_by p row len stop paint ≡ true → may_show_by first stop paint ≡ true
+shown_stops p row len first None paint h e = cc
+shown_stops p row len first (Some far) None h e = cc
+shown_stops p row len first (Some far) (Some paint) h e =
+    numbers p.row row first far.pos.row (nat_lt (range_from p row) (range_to far.pos row len)) h e
+  where
+    numbers : (a row first stop : ℕ) (t : Bool) → first ≤ row → (nat_le a row && nat_le row stop && t) ≡ true → nat_le first stop ≡ true
+    numbers a row first stop t h e = grind (arith, nat_tests)
+
+-- the marks that show on a row are among those
+shown_among : (first behind row len : ℕ) (marks : List Mark) → first ≤ row → row < behind
+    → filter (shows_on row len) (showing_marks first behind marks) ≡ filter (shows_on row len) marks
+shown_among first behind row len marks above below =
+    filter_narrower (shows_on row len) (may_show first) (λ k e. shown_stops k.start row len first k.stop k.paint above e) (filter (starts_within (row_begin 0) (row_begin behind)) marks)
+    ∙ filter_narrower (shows_on row len) (starts_within (row_begin 0) (row_begin behind)) (λ k e. shown_starts k.start row len behind k.stop k.paint below e) marks
+
+-- their spans are those of the row
+pub spans_shown : (groups : List NamedGroup) (first behind row len : ℕ) (marks laid : List Mark) (spans : List Span) → first ≤ row → row < behind
+    → AreLaid first behind marks laid → spans ≡ map (span_on groups row len) (filter (shows_on row len) laid) → AreSpansOf groups marks row len spans
+spans_shown groups first behind row len marks laid spans above below are is = record {
+  order = filter (shows_on row len) laid;
+  marks_are =
+      subst (λ (l : List Mark). IsPermutation l (filter (shows_on row len) laid)) (shown_among first behind row len marks above below)
+      (IsPermutation-filter (shows_on row len) (showing_marks first behind marks) laid are.same_marks);
+  rising = IsSortedBy-filter (λ (m k : Mark). is_lt (paint_order m k)) paint_order_ranks (shows_on row len) laid are.rising;
+  spans_are = is;
+}
+
+-- what holds of all marks holds of those
+pub laid_all : (P : Mark → Type 0) (first behind : ℕ) (marks laid : List Mark) → AreLaid first behind marks laid → All P marks → All P laid
+laid_all P first behind marks laid are all =
+    All-permutation P (showing_marks first behind marks) laid are.same_marks
+    (All-filter (may_show first) P (filter (starts_within (row_begin 0) (row_begin behind)) marks)
+    (All-filter (starts_within (row_begin 0) (row_begin behind)) P marks all))
+
+pub fewer_pass : {X : Type 0} (p : X → Bool) (xs : List X) → length (filter p xs) ≤ length xs
+fewer_pass p [] = omega arith
+fewer_pass p (x ∷ xs) = by (p x) (fewer_pass p xs)
+  where
+    by : (t : Bool) → length (filter p xs) ≤ length xs → length (cond t (x ∷ filter p xs) (filter p xs)) ≤ suc (length xs)
+    by true rest = omega (arith, rest)
+    by false rest = omega (arith, rest)
+
+-- the spans of marks one by one
+pub all_shown : (groups : List NamedGroup) (row len : ℕ) (marks : List Mark)
+    → flat_map (spans_of_mark groups row len) marks ≡ map (span_on groups row len) (filter (shows_on row len) marks)
+all_shown groups row len [] = refl
+all_shown groups row len (k ∷ ks) = by (shows_on row len k) (all_shown groups row len ks)
+  where
+    by : (t : Bool) → flat_map (spans_of_mark groups row len) ks ≡ map (span_on groups row len) (filter (shows_on row len) ks)
+        → cond t (span_on groups row len k ∷ []) [] ++ flat_map (spans_of_mark groups row len) ks
+        ≡ map (span_on groups row len) (cond t (k ∷ filter (shows_on row len) ks) (filter (shows_on row len) ks))
+    by true rest = ap (λ (l : List Span). span_on groups row len k ∷ l) rest
+    by false rest = rest

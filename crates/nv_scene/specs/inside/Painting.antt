@@ -1,0 +1,32 @@
+-- inside: the marks that may show on some rows. Only private contracts cite this.
+use Rattle.std.specs.Prelude.{ℕ, Bool, false, nat_le, if◌then◌else◌, List, [], ◌∷◌, filter, Option, Some, None, IsPermutation, IsSorted}
+use Rattle.nv_marks.specs.Order.{starts_within}
+use Rattle.nv_marks.specs.declared.extmark.Far.{Far}
+use Rattle.nv_marks.specs.declared.extmark.Mark.{Mark}
+use Rattle.nv_marks.specs.declared.extmark.Paint.{Paint}
+use Rattle.nv_hl.specs.Groups.{NamedGroup}
+use Rattle.nv_linedraw.specs.declared.looks.Span.{Span}
+use Rattle.nv_windows.specs.Views.{row_begin}
+use Rattle.nv_scene.specs.Panes.{paint_order, shows_on, span_on}
+
+-- a mark has a range with a group that ends in a row or behind it
+abbrev pub may_show_by : ℕ → Option Far → Option Paint → Bool
+may_show_by first (Some far) (Some paint) = nat_le first far.pos.row
+may_show_by first _ _ = false
+
+abbrev pub may_show : ℕ → Mark → Bool
+may_show first k = may_show_by first k.stop k.paint
+
+-- the marks that may show on the rows from one up to before another
+abbrev pub showing_marks : ℕ → ℕ → List Mark → List Mark
+showing_marks first behind marks =
+    filter (may_show first) (filter (starts_within (row_begin 0) (row_begin behind)) marks)
+
+-- those in the order in which they are laid over one another
+pub record AreLaid (first behind : ℕ) (marks laid : List Mark) : Type 0 where
+  pub same_marks : IsPermutation (showing_marks first behind marks) laid
+  pub rising : IsSorted paint_order laid
+
+-- what one mark shows on a row
+abbrev pub spans_of_mark : List NamedGroup → ℕ → ℕ → Mark → List Span
+spans_of_mark groups row len k = if shows_on row len k then span_on groups row len k ∷ [] else []
