@@ -14,7 +14,7 @@ use Rattle.nv_screen.specs.declared.scene.SceneLine.{SceneLine}
 use Rattle.nv_screen.specs.Drawing.{pane_cells}
 use Rattle.nv_screen.specs.Sound.{IsDrawable}
 use Rattle.nv_screen.proofs.TextLemmas.{rows_counted}
-use Rattle.nv_painter.specs.Keys.{LineKey, cells_of_key, key_in_front, keys_with, keys_without, most_cells, most_keys, same_line_key}
+use Rattle.nv_painter.specs.Keys.{LineKey, cells_of_key, key_in_front, keys_with_line, keys_without, most_cells, most_keys, same_line_key}
 use Rattle.nv_painter.specs.Pictures.{rows_in_pane}
 use Rattle.nv_painter.specs.inside.Kept.{AreKept, IsAbsent, IsEntry, IsThere}
 use Rattle.nv_painter.specs.inside.SameKeys.{key_is, key_same}
@@ -83,7 +83,7 @@ has_key key (e ∷ es) = by (same_line_key key e.0) (has_key key es)
 
 -- what is there after a key was found: it stands first
 pub record Promoted (key : LineKey) (c d : LruCache LineKey (List Cell)) : Type 0 where
-  pub keys : keys_of d.entries ≡ keys_with key (keys_of c.entries)
+  pub keys : keys_of d.entries ≡ keys_with_line key (keys_of c.entries)
   pub kept : AreKept d
   pub cells : List Cell
   pub rest : List Entry
@@ -153,7 +153,7 @@ length-front (suc n) (e ∷ es) = omega (arith, length-front n es)
 
 -- what is there after a key was put with its cells
 pub record Put (key : LineKey) (c d : LruCache LineKey (List Cell)) : Type 0 where
-  pub keys : keys_of d.entries ≡ keys_with key (keys_of c.entries)
+  pub keys : keys_of d.entries ≡ keys_with_line key (keys_of c.entries)
   pub kept : AreKept d
 
 pub putting : (key : LineKey) (cells : List Cell) (c d : LruCache LineKey (List Cell)) → AreKept c
@@ -189,7 +189,7 @@ pub many_cells : (cells all : List Cell) → cells ≡ take 2001 all → most_ce
 many_cells cells all is many = omega (arith, ap length is, length-take 2001 all, many)
 
 -- a line with too many cells leaves the keys
-pub too_many : (key : LineKey) (keys : List LineKey) → most_cells < length (cells_of_key key) → keys ≡ keys_with key keys
+pub too_many : (key : LineKey) (keys : List LineKey) → most_cells < length (cells_of_key key) → keys ≡ keys_with_line key keys
 too_many key keys many =
     let no : nat_le (length (cells_of_key key)) most_cells ≡ false = grind (arith, nat_tests) in
     sym (ap (λ b. cond b (key_in_front key keys) keys) no)

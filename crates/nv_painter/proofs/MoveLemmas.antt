@@ -19,8 +19,8 @@ moved_at_most v down n =
     ⊎_elim
     (λ (lt : n < v.height). let is : min v.height n ≡ n = omega (arith, lt) in ap (λ k. shift_by v (rows_up k down) k) is)
     (λ (le : v.height ≤ n).
-        let is : min v.height n ≡ v.height = omega (arith, le) in
-        ap (λ k. shift_by v (rows_up k down) k) is ∙ none v.height (omega arith) ∙ sym (none n le))
+    let is : min v.height n ≡ v.height = omega (arith, le) in
+    ap (λ k. shift_by v (rows_up k down) k) is ∙ none v.height (omega arith) ∙ sym (none n le))
     (cases_lt n v.height)
   where
     not_less : (m : ℕ) → v.height ≤ m → ltb m v.height ≡ false

@@ -70,14 +70,14 @@ abbrev pub key_in_front : LineKey → List LineKey → List LineKey
 key_in_front key keys = take most_keys (key ∷ keys_without key keys)
 
 -- a line whose cells are too many isn't kept
-abbrev pub keys_with : LineKey → List LineKey → List LineKey
-keys_with key keys =
+abbrev pub keys_with_line : LineKey → List LineKey → List LineKey
+keys_with_line key keys =
     if nat_le (length (cells_of_key key)) most_cells then key_in_front key keys else keys
 
 abbrev pub keys_with_lines : ℕ → ℕ → Looks → List LineKey → List SceneLine → List LineKey
 keys_with_lines width tabstop looks keys [] = keys
 keys_with_lines width tabstop looks keys (line ∷ lines) =
-    keys_with_lines width tabstop looks (keys_with (key_of_line width tabstop looks line) keys)
+    keys_with_lines width tabstop looks (keys_with_line (key_of_line width tabstop looks line) keys)
     lines
 
 -- the windows in order, and the lines of each in order

@@ -106,11 +106,7 @@ pub fn add_attrs_of_rows(attrs: &mut Vec<Attr>, rows: &[Row]) -> Result<(), Allo
 }
 
 /// Tells the ids of attributes, from the one at a place on.
-pub fn push_attrs(
-    events: &mut Vec<Redraw>,
-    attrs: &[Attr],
-    count: usize,
-) -> Result<(), AllocError>
+pub fn push_attrs(events: &mut Vec<Redraw>, attrs: &[Attr], count: usize) -> Result<(), AllocError>
     requires { count ≤ length attrs.now }
     ensures { OnOk result (events.new.items
         ≡ events.old.items ++ attrs_defined (suc count) (drop count attrs.now)) }

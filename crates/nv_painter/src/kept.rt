@@ -1,6 +1,6 @@
 //! The cells of the lines that were drawn last.
 
-ghost use Rattle.nv_painter.specs.Keys.{cells_of_key, key_of_line, keys_with, keys_with_lines, keys_with_panes, most_cells, same_line_key};
+ghost use Rattle.nv_painter.specs.Keys.{cells_of_key, key_of_line, keys_with_line, keys_with_lines, keys_with_panes, most_cells, same_line_key};
 ghost use Rattle.nv_painter.specs.Pictures.{rows_in_pane, view_of};
 ghost use Rattle.nv_painter.specs.inside.Kept.{AreKept, IsAbsent, IsThere};
 ghost use Rattle.nv_painter.specs.inside.Lent.{lent_content};
@@ -46,12 +46,7 @@ impl Model for KeptLines {
 }
 
 /// The key of a line, lent.
-pub fn lent_key<'a>(
-    line: &'a SceneLine,
-    width: u32,
-    tabstop: u32,
-    looks: &'a Looks,
-) -> LentKey<'a>
+pub fn lent_key<'a>(line: &'a SceneLine, width: u32, tabstop: u32, looks: &'a Looks) -> LentKey<'a>
     ensures { lent_content result ≡ key_of_line width tabstop looks.now line.now }
 {
     LentKey {
@@ -84,7 +79,7 @@ fn promote(cache: &mut LruCache<LineKey, Row>, key: LentKey) -> Option<usize>
         ((cache.new ≡ cache.old) × IsAbsent (lent_content key.entry) cache.old)
         (λ n. (n ≡ length (cells_of_key (lent_content key.entry)))
         × (keys_of cache.new.entries
-        ≡ keys_with (lent_content key.entry) (keys_of cache.old.entries))) }
+        ≡ keys_with_line (lent_content key.entry) (keys_of cache.old.entries))) }
 {
     let Some(cells) = kept_cells(cache, key) else {
         return None;
@@ -95,18 +90,14 @@ fn promote(cache: &mut LruCache<LineKey, Row>, key: LentKey) -> Option<usize>
 }
 
 // Puts the cells of a line under its key.
-fn put(
-    cache: &mut LruCache<LineKey, Row>,
-    key: LineKey,
-    cells: Vec<Cell>,
-) -> Result<(), AllocError>
+fn put(cache: &mut LruCache<LineKey, Row>, key: LineKey, cells: Vec<Cell>) -> Result<(), AllocError>
     requires kept { AreKept cache.old }
     requires absent { IsAbsent key cache.old }
     requires cells { cells.items ≡ cells_of_key key }
     requires count { length cells.items ≤ most_cells }
     ensures kept { AreKept cache.new }
     ensures keys { OnOk result
-        (keys_of cache.new.entries ≡ keys_with key (keys_of cache.old.entries)) }
+        (keys_of cache.new.entries ≡ keys_with_line key (keys_of cache.old.entries)) }
 {
     let row = Row::new(cells);
     cache.put(key, row)?;
@@ -136,7 +127,15 @@ fn front_cells(
     let bytes = line.bytes.as_slice();
     let spans = line.spans.as_slice();
     let most = MOST_CELLS + 1;
-    first_cells(alloc, bytes, spans, pane.rect.width, pane.tabstop, looks, most)
+    first_cells(
+        alloc,
+        bytes,
+        spans,
+        pane.rect.width,
+        pane.tabstop,
+        looks,
+        most,
+    )
 }
 
 // The rows of a line in a window, at most as many as the window has.
@@ -145,7 +144,13 @@ fn line_rows(alloc: Global, line: &SceneLine, pane: &Pane) -> Result<u32, AllocE
     ensures { IfOk result (λ n. n ≡ rows_in_pane pane.now line.now) }
 {
     let bytes = line.bytes.as_slice();
-    first_rows(alloc, bytes, pane.rect.width, pane.tabstop, pane.rect.height)
+    first_rows(
+        alloc,
+        bytes,
+        pane.rect.width,
+        pane.tabstop,
+        pane.rect.height,
+    )
 }
 
 // Keeps the cells of a line, unless they are too many, and gives its rows.
@@ -160,7 +165,7 @@ fn keep_line(
     requires drawable { IsDrawable pane.now }
     ensures kept { AreKept cache.new }
     ensures keys { OnOk result (keys_of cache.new.entries
-        ≡ keys_with (key_of_line pane.now.rect.width pane.now.tabstop looks.now line.now)
+        ≡ keys_with_line (key_of_line pane.now.rect.width pane.now.tabstop looks.now line.now)
         (keys_of cache.old.entries)) }
     ensures rows { IfOk result (λ n. n ≡ rows_in_pane pane.now line.now) }
 {

@@ -46,12 +46,7 @@ fn joins_next(cells: &[ShownCell], at: usize) -> bool
 }
 
 // So many equal cells, where an id was told last.
-fn run_of(
-    alloc: Global,
-    last: Option<u64>,
-    cell: &ShownCell,
-    count: u32,
-) -> Result<Run, AllocError>
+fn run_of(alloc: Global, last: Option<u64>, cell: &ShownCell, count: u32) -> Result<Run, AllocError>
     ensures { IfOk result (λ run. run ≡ run_of last cell.now count) }
 {
     let text = cell.text.copy(alloc)?;
@@ -248,7 +243,14 @@ pub fn push_rows(
         (rows.new.items ≡ known_rows (shown_rows attrs.now screen.now)) }
 {
     for k in 0..screen.len() {
-        push_row(alloc, events, k as u32, &mut rows[k], attrs, screen[k].cells())?;
+        push_row(
+            alloc,
+            events,
+            k as u32,
+            &mut rows[k],
+            attrs,
+            screen[k].cells(),
+        )?;
     }
     Ok(())
 }

@@ -92,6 +92,7 @@ impl Painter {
             looks.now line.now)) self.now.keys ≡ true)
             × (cells.now ≡ pane_cells pane.now looks.now line.now)) }
     {
-        self.kept.find(lent_key(line, pane.rect.width, pane.tabstop, looks))
+        self.kept
+            .find(lent_key(line, pane.rect.width, pane.tabstop, looks))
     }
 }

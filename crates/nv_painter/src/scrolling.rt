@@ -56,10 +56,7 @@ fn is_same_rect(a: &PaneView, b: &PaneView) -> bool
 fn is_same_text(a: &PaneView, b: &PaneView) -> bool
     ensures { result ≡ is_same_text a.now b.now }
 {
-    is_same_rect(a, b)
-        && a.buffer == b.buffer
-        && a.tick == b.tick
-        && a.tabstop == b.tabstop
+    is_same_rect(a, b) && a.buffer == b.buffer && a.tick == b.tick && a.tabstop == b.tabstop
 }
 
 // The rows of the first lines, or `most` where there are more.
@@ -194,11 +191,7 @@ fn copy_row(alloc: Global, row: &ShownRow) -> Result<ShownRow, AllocError>
 }
 
 // The cells that come to a row, none where they come from outside.
-fn source_of<'a>(
-    rows: &'a [ShownRow],
-    shift: &Shift,
-    row: usize,
-) -> &'a [Option<ShownCell>]
+fn source_of<'a>(rows: &'a [ShownRow], shift: &Shift, row: usize) -> &'a [Option<ShownCell>]
     requires { row < length rows.now }
     ensures { result.now ≡ cells_from rows.now
         (row_from shift.now.top shift.now.bot shift.now.rows row) }
@@ -235,7 +228,13 @@ fn row_after_shift(
     if has_row(shift, row) {
         let cells = rows[row].cells();
         let source = source_of(rows, shift, row);
-        return row_between(alloc, cells, source, shift.left as usize, shift.right as usize);
+        return row_between(
+            alloc,
+            cells,
+            source,
+            shift.left as usize,
+            shift.right as usize,
+        );
     }
     copy_row(alloc, &rows[row])
 }

@@ -222,10 +222,16 @@ fn put_event(alloc: Global, text: &mut Vec<u8>, event: &Redraw) -> Result<(), Al
             put(text, format!(in alloc; "resize {width} {height}")?)
         }
         Redraw::DefaultColors { colours } => {
-            put(text, format!(in alloc; "colours {} {}", colours.fg, colours.sp)?)
+            put(
+                text,
+                format!(in alloc; "colours {} {}", colours.fg, colours.sp)?,
+            )
         }
         Redraw::HlAttr { id, attr } => {
-            put(text, format!(in alloc; "attr {id} {} {}", attr.reverse, attr.bold)?)
+            put(
+                text,
+                format!(in alloc; "attr {id} {} {}", attr.reverse, attr.bold)?,
+            )
         }
         Redraw::Clear { .. } => put(text, format!(in alloc; "clear")?),
         Redraw::Scroll {
@@ -235,9 +241,15 @@ fn put_event(alloc: Global, text: &mut Vec<u8>, event: &Redraw) -> Result<(), Al
             right,
             rows,
             ..
-        } => put(text, format!(in alloc; "scroll {top} {bot} {left} {right} {rows}")?),
+        } => put(
+            text,
+            format!(in alloc; "scroll {top} {bot} {left} {right} {rows}")?,
+        ),
         Redraw::LineOf {
-            row, col, cells, ..
+            row,
+            col,
+            cells,
+            ..
         } => {
             put(text, format!(in alloc; "line {row} {col}")?)?;
             put_runs(alloc, text, cells.as_slice())
@@ -321,7 +333,10 @@ fn odd_cells_are_told(rt: HostRuntime) -> Result<(), Fail> {
 fn moved(alloc: Global) -> Result<Vec<u8>, AllocError> {
     let mut painter = Painter::new(alloc)?;
     let upper = two_lines(alloc, 0, b"a", b"b")?;
-    painter.paint(alloc, scene_of(alloc, (12, 4), upper, 4, 0, 0, b"[No Name] [+]")?)?;
+    painter.paint(
+        alloc,
+        scene_of(alloc, (12, 4), upper, 4, 0, 0, b"[No Name] [+]")?,
+    )?;
     let lower = two_lines(alloc, 1, b"b", b"c")?;
     let scene = scene_of(alloc, (12, 4), lower, 4, 1, 2, b"[No Name] [+]")?;
     let mut text = Vec::new(alloc);
@@ -353,7 +368,10 @@ fn grown(alloc: Global) -> Result<Vec<u8>, AllocError> {
 #[test]
 fn a_new_size_is_told_first(rt: HostRuntime) -> Result<(), Fail> {
     let text = grown(rt.alloc())?;
-    assert!(rt; text.as_slice().starts_with(b"resize 60 30\nclear\nline 1 0 [~,1]\n"));
+    assert!(rt;
+        text.as_slice()
+            .starts_with(b"resize 60 30\nclear\nline 1 0 [~,1]\n")
+    );
     Ok(())
 }
 

@@ -177,14 +177,24 @@ fn told_next(
     push_if(&mut events, is_resized, size)?;
     let colours = picture.colours;
     let is_recoloured = !are_same_colours(old_colours, colours);
-    push_if(&mut events, is_recoloured, Redraw::DefaultColors { colours })?;
+    push_if(
+        &mut events,
+        is_recoloured,
+        Redraw::DefaultColors { colours },
+    )?;
     let count = attrs.len();
     add_attrs_of_rows(&mut attrs, picture.screen.rows())?;
     push_attrs(&mut events, attrs.as_slice(), count)?;
     push_if(&mut events, is_resized, Redraw::Clear { grid: 1 })?;
     let olds = old_views.as_slice();
     let mut rows = push_moves(alloc, &mut events, is_resized, old_rows, olds, &picture)?;
-    push_rows(alloc, &mut events, &mut rows, attrs.as_slice(), picture.screen.rows())?;
+    push_rows(
+        alloc,
+        &mut events,
+        &mut rows,
+        attrs.as_slice(),
+        picture.screen.rows(),
+    )?;
     let cursor = picture.cursor;
     let is_moved = !is_place(cursor_before(is_resized, old_cursor), cursor);
     let place = Redraw::Goto {

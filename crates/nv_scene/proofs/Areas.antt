@@ -44,7 +44,7 @@ page_area : (ws : Workspace) (w : ℤ) (t : Page) (r : Rect) → IsSoundWorkspac
     → IsTextArea (without_status r)
 page_area ws w t r sound page e =
     let is = rect_sound w (rects t.tree (windows_area ws)) r (windows_area ws)
-        (rects_have_least_size t.tree (windows_area ws) page.filled page.roomy) (rects_lie_in_area t.tree (windows_area ws) page.filled page.roomy) e in record {
+    (rects_have_least_size t.tree (windows_area ws) page.filled page.roomy) (rects_lie_in_area t.tree (windows_area ws) page.filled page.roomy) e in record {
       wide = omega (arith, is.0);
       high = omega (arith, is.1);
       low = omega (arith, is.2.bottom, sound.height);

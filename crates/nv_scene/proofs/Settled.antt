@@ -91,7 +91,7 @@ middle_settled s m low front (w ∷ ws) rest below r =
     ∙ ap (after_operations (flat_map (window_settling s) ws)) (one_settled s m front w (ws ++ rest) here r.1)
     ∙ ap (λ (us : List Window). after_operations (flat_map (window_settling s) ws) (with_windows us m)) (sym (append_assoc front (settled s w ∷ []) (ws ++ rest)))
     ∙ middle_settled s m (w.handle +ℤ pos 1) (front ++ settled s w ∷ []) ws rest
-        (below_append (w.handle +ℤ pos 1) front (settled s w ∷ []) (lower w.handle (w.handle +ℤ pos 1) front (omega (arith, ints)) here) (omega (arith, ints), tt)) r.1
+    (below_append (w.handle +ℤ pos 1) front (settled s w ∷ []) (lower w.handle (w.handle +ℤ pos 1) front (omega (arith, ints)) here) (omega (arith, ints), tt)) r.1
     ∙ ap (λ (us : List Window). with_windows us m) (append_assoc front (settled s w ∷ []) (map (settled s) ws ++ rest))
   where
     lower : (a b : ℤ) (vs : List Window) → a ≤ℤ b → AreBelow a vs → AreBelow b vs
@@ -106,7 +106,7 @@ first_settled m n sound =
     let ws : List Window = m.stage.workspace.windows in
     ap (λ (us : List Window). after_operations (flat_map (window_settling (seen_of m)) (take n ws)) (with_windows us m)) (sym (take-append-drop n ws))
     ∙ middle_settled (seen_of m) m (pos 1000) [] (take n ws) (drop n ws) tt
-        (subst (λ (us : List Window). IsRisingFrom (pos 1000) (handles_of_windows us)) (sym (take-append-drop n ws)) sound.rising)
+    (subst (λ (us : List Window). IsRisingFrom (pos 1000) (handles_of_windows us)) (sym (take-append-drop n ws)) sound.rising)
 
 pub all_settled : (m : ModelEditor) → IsSoundWorkspace m.stage.workspace
     → after_operations (settle_operations (seen_of m)) m ≡ with_windows (map (settled (seen_of m)) m.stage.workspace.windows) m

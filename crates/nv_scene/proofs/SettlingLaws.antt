@@ -115,9 +115,9 @@ shows_one s w none area b is =
     sym (λ i. top_by w (is.area_is i) (is.buffer_is i)) ∙ stays s w none in
     let within : w.cursor.row < length (line_heights area.width b) = omega (arith, is.row, length-map b.lines (rows_of_line area.width b.tabstop)) in
     let shown = room_left area.height (line_heights area.width b) w.cursor.row w.top is.high within
-        (has_rows (rows_of_line area.width b.tabstop) b.lines w.cursor.row
-        (λ line. (rows_are_whole area.width b.tabstop line [] no_looks is.wide is.stop).1) is.row)
-        here in
+    (has_rows (rows_of_line area.width b.tabstop) b.lines w.cursor.row
+    (λ line. (rows_are_whole area.width b.tabstop line [] no_looks is.wide is.stop).1) is.row)
+    here in
     record { first = shown.0; room = shown.1 }
 
 each_shows : (s : Seen) (ws : List Window) → flat_map (window_settling s) ws ≡ []

@@ -91,12 +91,7 @@ fn is_current(editor: &Editor, window: i64) -> bool
 }
 
 // A window over its buffer, as a pane with these text cells.
-fn pane_on(
-    editor: &Editor,
-    buffer: &Buffer,
-    window: Window,
-    rect: Rect,
-) -> Result<Pane, AllocError>
+fn pane_on(editor: &Editor, buffer: &Buffer, window: Window, rect: Rect) -> Result<Pane, AllocError>
     requires shows { ShowsText buffer.now.text window }
     requires painted { All (IsOfGroups editor.now.stage.groups) buffer.now.marks.marks }
     ensures { IfOk result (λ pane.

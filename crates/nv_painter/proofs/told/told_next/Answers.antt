@@ -61,7 +61,7 @@ invariant_of-told c =
     let attrs = c.add_attrs_of_rows.new.attrs.items in
     let attrs_is : attrs ≡ attrs_after t w = search rules in
     let told = told_made t w (Some (c.width-width.result, c.height-height.result)) c.push_rows.new.rows.items attrs (Some c.picture.inside.colours)
-        (Some c.picture.inside.cursor) c.picture.inside.views.items (search rules) attrs_is (search rules) refl refl refl in
+    (Some c.picture.inside.cursor) c.picture.inside.views.items (search rules) attrs_is (search rules) refl refl refl in
     subst IsWhole (sym told) (batch_shows t w c.old.invariant drawn).whole
 
 pub returns-clause-events : goal.returns-clause-events
@@ -112,7 +112,7 @@ returns-clause-told c =
     let attrs = c.add_attrs_of_rows.new.attrs.items in
     let attrs_is : attrs ≡ attrs_after t w = search rules in
     let told = told_made t w (Some (c.width-width.result, c.height-height.result)) c.push_rows.new.rows.items attrs (Some c.picture.inside.colours)
-        (Some c.picture.inside.cursor) c.picture.inside.views.items (search rules) attrs_is (search rules) refl refl refl in
+    (Some c.picture.inside.cursor) c.picture.inside.views.items (search rules) attrs_is (search rules) refl refl refl in
     told ∙ (λ i. told_after (c.old.view_is i) (c.picture.view_is i))
 
 pub returns-clause-shows : goal.returns-clause-shows

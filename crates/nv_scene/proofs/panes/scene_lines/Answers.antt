@@ -10,6 +10,6 @@ loop-row-preserved c =
     let pushed : c.push.new.self.items ≡ c.loop-row.lines.items ++ c.in_ok-line.line ∷ [] = c.in_ok-push.ensures.items in (
       omega (arith, ap (λ (ls : List SceneLine). length ls) pushed, length-append c.loop-row.lines.items (c.in_ok-line.line ∷ []), c.loop-row.invariant.0, c.loop-row.auto.row),
       subst (AreLinesOf c.args.groups.now (seen_buffer_now c.args.buffer.now) c.args.first) (sym pushed)
-      (lines_push c.args.groups.now (seen_buffer_now c.args.buffer.now) c.args.first c.loop-row.row c.loop-row.lines.items c.in_ok-line.line c.loop-row.invariant.1
-      (omega (arith, c.loop-row.invariant.0, c.loop-row.auto.row)) c.in_ok-line.ensures),
+          (lines_push c.args.groups.now (seen_buffer_now c.args.buffer.now) c.args.first c.loop-row.row c.loop-row.lines.items c.in_ok-line.line c.loop-row.invariant.1
+          (omega (arith, c.loop-row.invariant.0, c.loop-row.auto.row)) c.in_ok-line.ensures),
     )
