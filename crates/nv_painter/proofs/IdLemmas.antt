@@ -1,14 +1,11 @@
 -- Ids of attributes.
-use Rattle.std.proofs.Common.{◌≡◌, ℕ, List, [], ◌∷◌, ◌++◌, map, Bool, true, false, cond, ◌||◌, Option, Some, refl, ap, sym, subst, ◌∙◌}
-use Rattle.std.proofs.lemmas.Bool.{false≢true}
+use Rattle.std.proofs.Common.{◌≡◌, ℕ, List, [], ◌∷◌, ◌++◌, Bool, true, false, cond, ◌||◌, refl, ap, sym, ◌∙◌}
 use Rattle.std.proofs.lemmas.List.Folds.{list_any-append}
 use Rattle.std.specs.List.{list_any}
 use Rattle.nv_hl.specs.declared.attribute.Attr.{Attr}
-use Rattle.nv_hl.specs.declared.cell.Cell.{Cell}
 use Rattle.nv_hl.specs.Attributes.{empty_attr, same_attr}
 use Rattle.nv_hl.proofs.LawLemmas.{same_attrs_are_equal}
-use Rattle.nv_linegrid.specs.Client.{Shown, shown_of}
-use Rattle.nv_linegrid.specs.Told.{has_id, id_from, id_of, shown_cell, with_attr, with_attrs_of}
+use Rattle.nv_linegrid.specs.Told.{has_id, id_from, id_of, with_attr}
 
 pub attr_is_same : (a : Attr) → same_attr a a ≡ true
 attr_is_same a = (same_attrs_are_equal a a).1 refl

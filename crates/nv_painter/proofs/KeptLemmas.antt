@@ -1,5 +1,5 @@
 -- The list of kept keys, and what is kept under them.
-use Rattle.std.proofs.Common.{◌≡◌, ◌≤◌, ◌<◌, ◌+◌, ◌-◌, ◌/◌, min, ℕ, zero, suc, Bool, true, false, cond, ◌||◌, nat_le, List, [], ◌∷◌, length, map, take, Option, Some, None, refl, sym, ap, subst, ◌∙◌, arith, is_some}
+use Rattle.std.proofs.Common.{◌≡◌, ◌≤◌, ◌<◌, ◌-◌, ◌/◌, min, ℕ, zero, suc, Bool, true, false, cond, ◌||◌, nat_le, List, [], ◌∷◌, length, take, Some, None, refl, sym, ap, subst, ◌∙◌, arith, is_some}
 use Rattle.std.proofs.lemmas.Bool.{false≢true}
 use Rattle.std.proofs.lemmas.Bool.Decides.{nat_tests}
 use Rattle.std.proofs.lemmas.List.{length-take, take_all}
@@ -17,7 +17,7 @@ use Rattle.nv_screen.proofs.TextLemmas.{rows_counted}
 use Rattle.nv_painter.specs.Keys.{LineKey, cells_of_key, key_in_front, keys_with_line, keys_without, most_cells, most_keys, same_line_key}
 use Rattle.nv_painter.specs.Pictures.{rows_in_pane}
 use Rattle.nv_painter.specs.inside.Kept.{AreKept, IsAbsent, IsEntry, IsThere}
-use Rattle.nv_painter.specs.inside.SameKeys.{key_is, key_same}
+use Rattle.nv_painter.specs.inside.SameKeys.{key_is}
 
 abbrev Entry : Type 0
 Entry = LineKey × List Cell

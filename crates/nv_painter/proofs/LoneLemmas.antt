@@ -1,11 +1,11 @@
 -- A window alone on a screen is a sound scene.
-use Rattle.std.proofs.Common.{◌≡◌, ◌≤◌, ◌<◌, ◌+◌, ◌*◌, ℕ, ℤ, pos, leb, ltb, Bool, true, false, cond, ◌&&◌, List, [], ◌∷◌, ◌++◌, length, map, MatchOption, Some, None, refl, ap, sym, subst, ◌∙◌, arith}
+use Rattle.std.proofs.Common.{◌≡◌, ◌≤◌, ◌<◌, ◌+◌, ◌*◌, ℕ, pos, leb, ltb, Bool, true, false, cond, ◌&&◌, [], ◌∷◌, ◌++◌, length, map, MatchOption, Some, None, ap, sym, subst, ◌∙◌, arith}
 use Rattle.std.proofs.lemmas.Bool.Decides.{Decides-int_eq}
 use Rattle.std.proofs.lemmas.Map.Keys.{IsDistinct-cons}
 use Rattle.std.specs.List.{AllByRecursion, IsDistinct}
 use Rattle.std.specs.Ordering.{int_eq}
 use Rattle.nv_layout.specs.declared.nodes.Rect.{Rect}
-use Rattle.nv_layout.specs.Tiling.{LiesIn, in_rect, times_in}
+use Rattle.nv_layout.specs.Tiling.{LiesIn, times_in}
 use Rattle.nv_screen.specs.declared.scene.Pane.{Pane}
 use Rattle.nv_screen.specs.declared.scene.Scene.{Scene}
 use Rattle.nv_screen.specs.Sound.{HasCursor, IsSoundPane, IsSoundPatch, IsSoundScene, IsSoundSpot, pane_area, scene_areas, whole_screen}

@@ -1,12 +1,11 @@
 -- Windows whose text moved.
-use Rattle.std.proofs.Common.{◌≡◌, ℕ, zero, suc, ℤ, pos, negsuc, neg_ℤ, ◌+◌, ◌-◌, ◌<◌, ◌≤◌, ltb, leb, List, [], ◌∷◌, ◌++◌, length, map, take, drop, get_or, min, sum, Bool, true, false, cond, ◌&&◌, Option, Some, None, refl, ap, sym, ◌∙◌, append_assoc, arith, ⊎_elim}
+use Rattle.std.proofs.Common.{◌≡◌, ℕ, zero, suc, pos, neg_ℤ, ◌+◌, ◌-◌, ◌<◌, ◌≤◌, ltb, leb, List, [], ◌∷◌, ◌++◌, length, map, take, drop, get_or, min, sum, Bool, true, false, cond, ◌&&◌, Option, Some, None, refl, ap, sym, ◌∙◌, append_assoc, arith, ⊎_elim}
 use Rattle.std.proofs.lemmas.Bool.{cases_lt}
 use Rattle.std.proofs.lemmas.Bool.Decides.{nat_tests}
 use Rattle.std.proofs.lemmas.List.Sums.{sum_by-cons}
 use Rattle.nv_linedraw.proofs.LayLemmas.{drop_at}
-use Rattle.nv_linegrid.specs.declared.event.Redraw.{Redraw}
 use Rattle.nv_linegrid.specs.Client.{Shown, ShownRows, cells_from, row_between, row_from, scrolled_from}
-use Rattle.nv_linegrid.specs.Scrolls.{Shift, rows_after_shifts, rows_of_lines, scroll_of, shift_between, shift_by, shift_in, shifts_between}
+use Rattle.nv_linegrid.specs.Scrolls.{Shift, rows_of_lines, scroll_of, shift_between, shift_by, shift_in, shifts_between}
 use Rattle.nv_linegrid.specs.Told.{View}
 use Rattle.nv_painter.specs.Laws.{CutHeightsMoveAlike}
 use Rattle.nv_painter.specs.inside.Moving.{row_after_shift, rows_up}

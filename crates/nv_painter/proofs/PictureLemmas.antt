@@ -1,5 +1,5 @@
 -- A sound scene is a whole screen with its cursor and its windows on it.
-use Rattle.std.proofs.Common.{◌≡◌, ℕ, ◌+◌, ◌-◌, ◌/◌, ◌%◌, ◌<◌, ◌≤◌, ◌^◌, ℤ, min, List, [], ◌∷◌, ◌++◌, length, map, take, Bool, true, false, cond, All, MatchOption, Option, Some, None, refl, ap, sym, subst, ◌∙◌, arith, mod-lt}
+use Rattle.std.proofs.Common.{◌≡◌, ℕ, ◌+◌, ◌-◌, ◌/◌, ◌%◌, ◌<◌, ◌^◌, ℤ, min, List, [], ◌∷◌, ◌++◌, length, map, take, Bool, true, false, cond, All, MatchOption, Some, sym, ◌∙◌, arith, mod-lt}
 use Rattle.std.proofs.lemmas.Bool.Decides.{Decides-int_eq}
 use Rattle.std.proofs.lemmas.List.Elements.{All-cons, All-nil}
 use Rattle.std.proofs.lemmas.Map.Keys.{IsDistinct-cons, IsDistinct-head, IsDistinct-tail}
@@ -15,11 +15,11 @@ use Rattle.nv_screen.specs.declared.scene.Pane.{Pane}
 use Rattle.nv_screen.specs.declared.scene.Scene.{Scene}
 use Rattle.nv_screen.specs.declared.scene.Spot.{Spot}
 use Rattle.nv_screen.specs.Cursor.{bytes_at, cursor_among, cursor_in_pane, rows_together}
-use Rattle.nv_screen.specs.Sound.{HasCursor, IsSoundPane, IsSoundScene, IsSoundSpot, pane_area, whole_screen}
+use Rattle.nv_screen.specs.Sound.{HasCursor, IsSoundPane, IsSoundSpot, pane_area, whole_screen}
 use Rattle.nv_screen.proofs.WholeScreens.{screens_are_whole}
-use Rattle.nv_linegrid.specs.Told.{IsDrawn, IsInScreen, View, is_same_window}
+use Rattle.nv_linegrid.specs.Told.{IsInScreen, View, is_same_window}
 use Rattle.nv_painter.specs.Laws.{SoundScenesAreShown}
-use Rattle.nv_painter.specs.Pictures.{picture_of, view_of, views_of, views_with, with_view}
+use Rattle.nv_painter.specs.Pictures.{view_of, views_with, with_view}
 use Rattle.nv_painter.specs.inside.Moving.{EndsInReach}
 
 -- ---- the cursor

@@ -2,7 +2,6 @@
 use Rattle.std.proofs.Common.{◌≡◌, ℕ, suc, ◌+◌, pos, eqb, List, [], ◌∷◌, ◌++◌, length, map, drop, Bool, true, false, cond, not, Option, Some, None, refl, ap, sym, subst, ◌∙◌, ◌≤◌, arith}
 use Rattle.std.proofs.lemmas.List.{length-append, length-replicate}
 use Rattle.std.proofs.lemmas.Bool.{and_parts, eqb-true, false≢true}
-use Rattle.std.specs.List.{AllByRecursion}
 use Rattle.nv_hl.specs.declared.attribute.Attr.{Attr}
 use Rattle.nv_hl.specs.declared.cell.Cell.{Cell}
 use Rattle.nv_hl.specs.declared.colours.Colours.{Colours}
@@ -14,10 +13,10 @@ use Rattle.nv_linegrid.proofs.TableLemmas.{rows_grow}
 use Rattle.nv_screen.specs.declared.scene.Scene.{Scene}
 use Rattle.nv_painter.specs.Painters.{ShowsScene}
 use Rattle.nv_painter.specs.Pictures.{picture_of}
-use Rattle.nv_linegrid.specs.Batch.{attrs_after, attrs_defined, batch, batch_by, cursor_before, event_if, is_place, is_resized, is_size, rows_before_lines, rows_to_scroll, same_colours, shifts_of, told_after}
+use Rattle.nv_linegrid.specs.Batch.{attrs_after, attrs_defined, batch, batch_by, cursor_before, event_if, is_place, is_resized, is_size, rows_before_lines, same_colours, shifts_of, told_after}
 use Rattle.nv_linegrid.specs.Rows.{lines_of_rows}
 use Rattle.nv_linegrid.specs.Scrolls.{Shift, rows_after_shifts, scroll_of, shifts_between}
-use Rattle.nv_linegrid.specs.Told.{AreSized, IsDrawn, IsWhole, Told, View, Wanted, client_of, known_rows, shown_rows, with_attrs_of_rows}
+use Rattle.nv_linegrid.specs.Told.{IsDrawn, IsWhole, Told, View, Wanted, client_of, known_rows, shown_rows, with_attrs_of_rows}
 use Rattle.nv_painter.specs.inside.Moving.{moves, rows_to_move}
 
 moves_are : (r : Bool) (t : Told) (w : Wanted) → moves r t.views w.views ≡ shifts_of r t w

@@ -1,5 +1,5 @@
 -- What a client is to show of a scene (own rule).
-use Rattle.std.specs.Prelude.{ℕ, ◌+◌, min, List, [], ◌∷◌, map, if◌then◌else◌, int_lt}
+use Rattle.std.specs.Prelude.{ℕ, min, List, [], ◌∷◌, map, if◌then◌else◌, int_lt}
 use Rattle.nv_linedraw.specs.LineCells.{rows_of_line}
 use Rattle.nv_screen.specs.declared.scene.Pane.{Pane}
 use Rattle.nv_screen.specs.declared.scene.Scene.{Scene}

@@ -10,11 +10,13 @@ mod lines;
 mod painter;
 mod scrolling;
 mod shown;
+mod speaking;
 mod told;
 mod view;
 
 pub use laws::picture_laws;
 pub use painter::Painter;
+pub use speaking::Batch;
 
 #[cfg(test)]
 mod tests;

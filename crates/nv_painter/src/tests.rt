@@ -1,15 +1,17 @@
 //! Scenes painted one after another.
 
 ghost use Rattle.nv_painter.specs.inside.Lone.{IsLonePane};
+ghost use Rattle.nv_painter.specs.Spoken.{AreSendable};
 ghost use Rattle.nv_screen.specs.Sound.{AreInRows, IsSoundScene};
 ghost use Rattle.std.specs.Prelude.{◌≡◌, ◌<◌, ◌≤◌, ◌+◌, ◌-◌, ◌∷◌, [], IfOk, length, min};
 
-use crate::Painter;
+use crate::{Batch, Painter};
 use nv_hl::{Attr, Cell, Colours};
 use nv_layout::Rect;
 use nv_linedraw::Looks;
 use nv_linegrid::{Redraw, Run};
 use nv_lines::{Line, is_line};
+use nv_rpc::Message;
 use nv_screen::{Bars, Pane, Scene, SceneLine, Spot};
 use std::alloc::{AllocError, Global};
 use std::test::Fail;
@@ -394,5 +396,36 @@ fn kept(alloc: Global) -> Result<(Option<usize>, Option<usize>), AllocError> {
 #[test]
 fn a_painted_line_is_kept(rt: HostRuntime) -> Result<(), Fail> {
     assert!(rt; kept(rt.alloc())? == (Some(12), None));
+    Ok(())
+}
+
+fn one_message(alloc: Global) -> Result<Vec<Message>, AllocError>
+    ensures { IfOk result (λ messages. AreSendable messages.items) }
+{
+    let mut messages = Vec::with_capacity(alloc, 1)?;
+    messages.push(Message::Detach { buffer: 1 })?;
+    Ok(messages)
+}
+
+// A message, and then the empty screen.
+fn spoken_batch(alloc: Global) -> Result<Vec<u8>, AllocError> {
+    let mut painter = Painter::new(alloc)?;
+    let messages = one_message(alloc)?;
+    let scene = empty_scene(alloc, (12, 4))?;
+    let batch = Batch {
+        messages,
+        scene: Some(scene),
+    };
+    let mut bytes = Vec::new(alloc);
+    painter.speak(alloc, batch, &mut bytes)?;
+    Ok(bytes)
+}
+
+#[test]
+fn messages_are_spoken_before_the_scene(rt: HostRuntime) -> Result<(), Fail> {
+    let bytes = spoken_batch(rt.alloc())?;
+    let front = b"\x93\x02\xb5nvim_buf_detach_event\x91\xd4\x00\x01\x93\x02\xa6redraw\x97";
+    assert!(rt; bytes.as_slice().starts_with(front));
+    assert!(rt; bytes.as_slice().ends_with(b"\x92\xa5flush\x90"));
     Ok(())
 }

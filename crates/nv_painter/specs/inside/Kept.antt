@@ -1,5 +1,5 @@
 -- inside: the cells that are kept.
-use Rattle.std.specs.Prelude.{◌≡◌, ℕ, ◌≤◌, false, true, List, length}
+use Rattle.std.specs.Prelude.{◌≡◌, ◌≤◌, false, true, List, length}
 use Rattle.std.specs.Map.{keys_of}
 use Rattle.std.specs.List.{AllByRecursion, list_any}
 use Rattle.lru.specs.LruCache.{LruCache}

@@ -1,4 +1,4 @@
-use Rattle.std.proofs.Common.{◌≡◌, ◌<◌, ◌∙◌, None, Some, get_or, length, refl, sym, ap, arith, rules}
+use Rattle.std.proofs.Common.{◌≡◌, ◌<◌, None, Some, get_or, length, refl, sym, arith, rules}
 use Rattle.nv_painter.proofs.IdLemmas.{id_of_empty}
 use Rattle.nv_painter.proofs.LineLemmas.{shown_more}
 use Rattle.nv_painter.proofs.ids.is_shown.Goals as goal

@@ -1,4 +1,4 @@
-use Rattle.std.proofs.Common.{◌≡◌, ◌++◌, ◌∷◌, [], refl, sym, rules}
+use Rattle.std.proofs.Common.{◌≡◌, ◌++◌, ◌∷◌, [], sym, rules}
 use Rattle.nv_linegrid.specs.Client.{Shown}
 use Rattle.nv_painter.proofs.IdLemmas.{id_of_empty}
 use Rattle.nv_painter.proofs.LineLemmas.{cells_more}

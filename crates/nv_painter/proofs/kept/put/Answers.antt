@@ -1,6 +1,5 @@
-use Rattle.std.proofs.Common.{◌≡◌, ◌≤◌, ◌∙◌, length, rules}
-use Rattle.lru.specs.LruCache.{lru_cache, put_entries}
-use Rattle.nv_painter.specs.Keys.{cells_of_key, most_cells, same_line_key}
+use Rattle.std.proofs.Common.{◌≡◌, ◌≤◌, length, rules}
+use Rattle.nv_painter.specs.Keys.{cells_of_key, most_cells}
 use Rattle.nv_painter.proofs.KeptLemmas.{putting}
 use Rattle.nv_painter.proofs.kept.put.Goals as goal
 

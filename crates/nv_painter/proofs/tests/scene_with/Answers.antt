@@ -1,4 +1,4 @@
-use Rattle.std.proofs.Common.{◌≡◌, ◌∷◌, [], refl, rules}
+use Rattle.std.proofs.Common.{refl, rules}
 use Rattle.nv_painter.proofs.LoneLemmas.{lone_is_sound}
 use Rattle.nv_painter.proofs.tests.scene_with.Goals as goal
 

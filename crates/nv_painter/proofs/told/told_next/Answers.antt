@@ -1,4 +1,4 @@
-use Rattle.std.proofs.Common.{◌≡◌, ◌≤◌, ◌∙◌, Some, not, length, refl, ap, sym, subst, arith, rules}
+use Rattle.std.proofs.Common.{◌≡◌, ◌∙◌, Some, not, length, refl, ap, sym, subst, arith, rules}
 use Rattle.nv_linegrid.specs.Batch.{attrs_after, batch, is_resized, told_after}
 use Rattle.nv_linegrid.specs.Laws.{ShowsWanted}
 use Rattle.nv_linegrid.specs.Scrolls.{rows_after_shifts}
