@@ -11,13 +11,13 @@ use Rattle.nv_windows.specs.declared.window.Window.{Window}
 use Rattle.nv_model.specs.Stage.{Stage}
 use Rattle.nv_model.specs.Seen.{Seen, SeenBuffer}
 use Rattle.nv_model.specs.Operations.{Operation, name_put, shown, buffer_dropped, buffer_made, tab_made, tab_closed, modifiable_put, modified_put, listed_put, tabstop_put}
-use Rattle.nv_model.specs.Answers.{replied, deleted, attached, detached}
+use Rattle.nv_model.specs.Answers.{replied, deleted, attached, detached, quit}
 use Rattle.nv_model.specs.Laws.{splices_in, splices_among}
 use Rattle.nv_api_buf.specs.TextRows.{nvim_buf_line_count, nvim_buf_get_changedtick, nvim_buf_get_offset, nvim_buf_get_lines, nvim_buf_set_lines, nvim_buf_get_text, nvim_buf_set_text}
 use Rattle.nv_model.specs.Deleting.{dropping_operations, showing_operations}
 use Rattle.nv_api_buf.specs.BufferRows.{nvim_list_bufs, nvim_get_current_buf, nvim_set_current_buf, nvim_create_buf, nvim_buf_delete, nvim_buf_is_valid, nvim_buf_get_name, nvim_buf_set_name, nvim_buf_attach, nvim_buf_detach}
 use Rattle.nv_api_buf.specs.OptionRows.{BufferOption, buffer_options, option_among, option_named, tabstop_of, nvim_get_option_value, nvim_set_option_value}
-use Rattle.nv_api_buf.specs.Commands.{Command, undo, redo, undo_to, tabnew, tabclose}
+use Rattle.nv_api_buf.specs.Commands.{Command, undo, redo, undo_to, tabnew, tabclose, quit_all}
 use Rattle.nv_api_buf.specs.CommandRows.{command_answer, nvim_command}
 use Rattle.nv_api_buf.specs.Metadata.{nvim_get_api_info, nvim_set_client_info}
 use Rattle.nv_model.specs.Rows.{TellsSplices, RowTells}
@@ -83,12 +83,16 @@ tells_tab_made s n = tells_none s nil (buffer_made true ∷ tab_made n ∷ []) [
 tells_tab_closed : (s : Seen) (t : ℤ) → TellsSplices s (replied nil (tab_closed t ∷ []) [])
 tells_tab_closed s t = tells_none s nil (tab_closed t ∷ []) [] (λ k. refl) (λ k. refl)
 
+tells_quit : (s : Seen) → TellsSplices s (replied nil [] (quit ∷ []))
+tells_quit s = tells_none s nil [] (quit ∷ []) (λ k. refl) (λ k. refl)
+
 tells_commands : (s : Seen) (c : Command) → TellsSplices s (command_answer s c)
 tells_commands s undo = search words
 tells_commands s redo = search words
 tells_commands s (undo_to k) = search words
 tells_commands s tabnew = search (words, tells_tab_made)
 tells_commands s tabclose = search (words, tells_tab_closed)
+tells_commands s quit_all = tells_quit s
 
 api_info : RowTells nvim_get_api_info
 api_info s session args = search words
@@ -185,30 +189,28 @@ detach s session args = search (words, tells_detached)
 pub each_splice_is_told : EachSpliceIsTold
 unfolding EachSpliceIsTold
 each_splice_is_told = (
+  api_info,
   (
-    api_info,
+    client_info,
     (
-      client_info,
+      command,
       (
-        command,
+        get_option,
         (
-          get_option,
+          set_option,
           (
-            set_option,
+            list_bufs,
             (
-              list_bufs,
+              current_buf,
               (
-                current_buf,
+                set_current_buf,
                 (
-                  set_current_buf,
+                  create_buf,
                   (
-                    create_buf,
+                    delete_buf,
                     (
-                      delete_buf,
-                      (
-                        is_valid,
-                        (get_name, (set_name, (line_count, (changedtick, (get_offset, (get_lines, (set_lines, (get_text, (set_text, tt))))))))),
-                      ),
+                      is_valid,
+                      (get_name, (set_name, (line_count, (changedtick, (get_offset, (get_lines, (set_lines, (get_text, (set_text, (attach, (detach, tt))))))))))),
                     ),
                   ),
                 ),
@@ -219,5 +221,4 @@ each_splice_is_told = (
       ),
     ),
   ),
-  (attach, (detach, tt)),
 )

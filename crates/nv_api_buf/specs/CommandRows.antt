@@ -1,4 +1,4 @@
--- What commands do (help: nvim_command(), undo-tree, tabpage).
+-- What commands do (help: nvim_command(), undo-tree, tabpage, :qall).
 use Rattle.std.specs.Prelude.{ℕ, ℤ, pos, ◌+◌, ◌==◌, Bool, true, not, ◌&&◌, ◌||◌, nat_lt, nat_le, int_lt, List, [], ◌∷◌, length}
 use Rattle.nv_value.specs.Content.{nil}
 use Rattle.nv_undo.specs.Tree.{last}
@@ -12,10 +12,10 @@ use Rattle.nv_windows.specs.Operations.{has_one_tabpage}
 use Rattle.nv_model.specs.Stage.{Stage}
 use Rattle.nv_model.specs.Seen.{Seen, SeenBuffer, sealed_undo}
 use Rattle.nv_model.specs.Operations.{buffer_made, tab_made, tab_closed}
-use Rattle.nv_model.specs.Answers.{Answer, replied, unless, or_refused, on_buffer, edits, undo_operations, undo_splices}
+use Rattle.nv_model.specs.Answers.{Answer, quit, replied, unless, or_refused, on_buffer, edits, undo_operations, undo_splices}
 use Rattle.nv_model.specs.Deleting.{no_buffer_left}
 use Rattle.nv_api_buf.specs.BufferRows.{buffers_are_full}
-use Rattle.nv_api_buf.specs.Commands.{Command, undo, redo, undo_to, tabnew, tabclose, command_of}
+use Rattle.nv_api_buf.specs.Commands.{Command, undo, redo, undo_to, tabnew, tabclose, quit_all, command_of}
 
 -- a buffer is gone through its changes by legs: its open change is closed, and then each leg is
 -- gone; where no splice is to be made it needs no leave
@@ -42,7 +42,7 @@ abbrev pub tabs_are_full : Seen → Bool
 tabs_are_full s =
     buffers_are_full s || nat_le s.stage.limits.windows (length s.stage.workspace.windows)
 
--- what each command does, for the current buffer or tabpage
+-- what each command does, for the current buffer or tabpage, or for the editor
 abbrev pub command_answer : Seen → Command → Answer
 command_answer s undo = on_buffer s (pos 0) (λ n b. legs_answer s n b (undo_legs (sealed_undo b)))
 command_answer s redo = on_buffer s (pos 0) (λ n b. legs_answer s n b (redo_legs (sealed_undo b)))
@@ -58,6 +58,7 @@ command_answer s tabnew =
 command_answer s tabclose =
     unless ((has_one_tabpage s.stage.workspace, last_one) ∷ [])
     (replied nil (tab_closed s.stage.workspace.tabpage ∷ []) [])
+command_answer s quit_all = replied nil [] (quit ∷ [])
 
 -- nvim_command(command): one of the known commands (own rule: any other text is refused)
 abbrev pub nvim_command : Seen → ℕ → List Arg → Answer

@@ -1,4 +1,4 @@
--- The texts of commands (help: nvim_command(), undo-commands, :tabnew, :tabclose).
+-- The texts of commands (help: nvim_command(), undo-commands, :tabnew, :tabclose, :qall).
 use Rattle.std.specs.Prelude.{ℕ, List, drop, take, codes, bytes_eq, Option, Some, None, option_map, if◌then◌else◌}
 use Rattle.nv_args.specs.Texts.{decimal_number}
 
@@ -9,6 +9,8 @@ pub data Command : Type 0 where
   undo_to : ℕ → Command
   tabnew : Command
   tabclose : Command
+  -- the editor ends for all sessions (help: :qall)
+  quit_all : Command
 
 -- `undo N`: one space, and 1 to 18 decimal digits (help: :undo N; own rule for their number)
 abbrev pub undo_number : List ℕ → Option Command
@@ -23,4 +25,5 @@ command_of words =
     else if bytes_eq words (codes "redo") then Some redo
     else if bytes_eq words (codes "tabnew") then Some tabnew
     else if bytes_eq words (codes "tabclose") then Some tabclose
+    else if bytes_eq words (codes "qall!") then Some quit_all
     else undo_number words

@@ -30,11 +30,6 @@ buffer_rows =
     ∷ row "nvim_buf_set_lines" nvim_buf_set_lines
     ∷ row "nvim_buf_get_text" nvim_buf_get_text
     ∷ row "nvim_buf_set_text" nvim_buf_set_text
-    ∷ []
-
--- the methods by which a session follows a buffer (help: nvim_buf_attach(), nvim_buf_detach())
-abbrev pub following_rows : List (List ℕ × Row)
-following_rows =
-    row "nvim_buf_attach" nvim_buf_attach
+    ∷ row "nvim_buf_attach" nvim_buf_attach
     ∷ row "nvim_buf_detach" nvim_buf_detach
     ∷ []

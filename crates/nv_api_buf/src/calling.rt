@@ -15,6 +15,7 @@ use crate::buffers::{
 };
 use crate::commands::nvim_command;
 use crate::counts::{nvim_buf_get_changedtick, nvim_buf_get_offset, nvim_buf_line_count};
+use crate::following::{nvim_buf_attach, nvim_buf_detach};
 use crate::information::{nvim_get_api_info, nvim_set_client_info};
 use crate::lines::{nvim_buf_get_lines, nvim_buf_set_lines};
 use crate::options::{nvim_get_option_value, nvim_set_option_value};
@@ -41,7 +42,9 @@ pub fn call_method(
 {
     let _ = happened.len();
     match method {
+        Method::BufAttach => Some(nvim_buf_attach(editor, args, happened)),
         Method::BufDelete => Some(nvim_buf_delete(editor, args, happened)),
+        Method::BufDetach => Some(nvim_buf_detach(editor, args, happened)),
         Method::BufGetChangedtick => Some(nvim_buf_get_changedtick(editor, args)),
         Method::BufGetLines => Some(nvim_buf_get_lines(editor, args)),
         Method::BufGetName => Some(nvim_buf_get_name(editor, args)),
@@ -61,10 +64,8 @@ pub fn call_method(
         Method::SetClientInfo => Some(nvim_set_client_info(editor, args)),
         Method::SetCurrentBuf => Some(nvim_set_current_buf(editor, args, happened)),
         Method::SetOptionValue => Some(nvim_set_option_value(editor, args, happened)),
-        Method::BufAttach
-        | Method::BufClearNamespace
+        Method::BufClearNamespace
         | Method::BufDelExtmark
-        | Method::BufDetach
         | Method::BufGetExtmarkById
         | Method::BufGetExtmarks
         | Method::BufSetExtmark

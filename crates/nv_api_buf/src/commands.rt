@@ -12,7 +12,7 @@ ghost use Rattle.nv_model.specs.Standing.{seen_now, seen_buffer_now};
 ghost use Rattle.nv_editor.specs.Doing.{GivesAnswer};
 ghost use Rattle.nv_editor.specs.Light.{AreLightArgs};
 ghost use Rattle.nv_editor.specs.Sound.{content_at, is_live_buffer};
-ghost use Rattle.nv_api_buf.specs.Commands.{command_of, undo_number, undo, redo, undo_to, tabnew, tabclose};
+ghost use Rattle.nv_api_buf.specs.Commands.{command_of, undo_number, undo, redo, undo_to, tabnew, tabclose, quit_all};
 ghost use Rattle.nv_api_buf.specs.CommandRows.{command_answer, legs_answer, nvim_command, no_tab_left, tabs_are_full};
 ghost use Rattle.nv_api_buf.specs.inside.Deciding.{Leaves};
 ghost use Rattle.nv_api_buf.specs.inside.Orders.{command_told, unless_moved, unless_tabs_full};
@@ -24,10 +24,10 @@ use crate::options::name_given;
 use nv_args::{
     Args, Fail, last_one, limit_reached, no_id_left, not_modifiable, out_of_bounds, unknown_name,
 };
-use nv_editor::{Editor, Happened};
+use nv_editor::{Editor, Fact, Happened};
 use nv_value::Value;
 
-/// A command (help: undo-commands, :tabnew, :tabclose).
+/// A command (help: undo-commands, :tabnew, :tabclose, :qall).
 #[derive(Clone, Copy)]
 pub enum Order {
     /// Back to the parent of the current change.
@@ -38,6 +38,8 @@ pub enum Order {
     UndoTo(u64),
     Tabnew,
     Tabclose,
+    /// The editor ends for all sessions.
+    QuitAll,
 }
 
 // The number that 1 to 18 decimal digits write.
@@ -85,6 +87,9 @@ pub(crate) fn order_of(words: &[u8]) -> Option<Order>
     }
     if words == b"tabclose".as_slice() {
         return Some(Order::Tabclose);
+    }
+    if words == b"qall!".as_slice() {
+        return Some(Order::QuitAll);
     }
     undo_order(words)
 }
@@ -201,6 +206,17 @@ fn close_tab(editor: &mut Editor, happened: &mut Happened) -> Result<Value, Fail
     }
 }
 
+// Ends the editor: all sessions are told to quit.
+fn quit(editor: &Editor, happened: &mut Happened) -> Result<Value, Fail>
+    ensures row { GivesAnswer (command_answer (seen_now editor.now) quit_all) result
+        editor.now editor.now happened.old happened.new }
+    ensures spelled { IfOk result (λ value. HasSpelling (content value)) }
+{
+    let _limits = editor.limits();
+    happened.push(Fact::Quit)?;
+    Ok(Value::Nil)
+}
+
 // The three undo commands, for the current buffer.
 fn undo_current(editor: &mut Editor, happened: &mut Happened) -> Result<Value, Fail>
     ensures row { GivesAnswer (command_answer (seen_now editor.old) undo) result
@@ -248,6 +264,7 @@ pub(crate) fn obey(
         Order::UndoTo(number) => undo_current_to(editor, number, happened),
         Order::Tabnew => make_tab(editor, happened),
         Order::Tabclose => close_tab(editor, happened),
+        Order::QuitAll => quit(editor, happened),
     }
 }
 

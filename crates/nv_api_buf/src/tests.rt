@@ -8,10 +8,10 @@ ghost use Rattle.nv_msgpack.specs.Shortest.{HasSpelling};
 
 use crate::commands::{obey, order_of};
 use crate::{
-    nvim_buf_attach, nvim_buf_delete, nvim_buf_get_changedtick, nvim_buf_get_lines,
-    nvim_buf_get_name, nvim_buf_get_offset, nvim_buf_get_text, nvim_buf_is_valid,
-    nvim_buf_line_count, nvim_buf_set_lines, nvim_buf_set_name, nvim_buf_set_text, nvim_create_buf,
-    nvim_get_current_buf, nvim_list_bufs, nvim_set_current_buf,
+    nvim_buf_attach, nvim_buf_delete, nvim_buf_detach, nvim_buf_get_changedtick,
+    nvim_buf_get_lines, nvim_buf_get_name, nvim_buf_get_offset, nvim_buf_get_text,
+    nvim_buf_is_valid, nvim_buf_line_count, nvim_buf_set_lines, nvim_buf_set_name,
+    nvim_buf_set_text, nvim_create_buf, nvim_get_current_buf, nvim_list_bufs, nvim_set_current_buf,
 };
 use nv_args::{Args, Fail, Method, method_of, read};
 use nv_editor::{Editor, Happened};
@@ -98,6 +98,7 @@ fn called(
         Method::BufSetLines => told(alloc, nvim_buf_set_lines(editor, &mut args, happened)),
         Method::BufSetText => told(alloc, nvim_buf_set_text(editor, &mut args, happened)),
         Method::BufAttach => told(alloc, nvim_buf_attach(editor, &args, happened)),
+        Method::BufDetach => told(alloc, nvim_buf_detach(editor, &args, happened)),
         _ => answered(alloc, editor, method, &args),
     }
 }
@@ -244,6 +245,8 @@ fn edits() -> &'static [Step] {
             b"\x93\x00\xc3\x81\xa1k\xc0",
             b"Invalid key: k",
         ),
+        ("nvim_buf_detach", b"\x91\x00", b"\xc3"),
+        ("nvim_buf_detach", b"\x91\x07", b"Invalid buffer id: 7"),
         ("", b"undo", b"\xc0"),
         ("nvim_buf_get_lines", ROWS, b"\x93\xa1a\xa1b\xa1c"),
         ("", b"redo", b"\xc0"),
@@ -253,6 +256,8 @@ fn edits() -> &'static [Step] {
         ("", b"undo 0000000000000000002", b"no command"),
         ("", b"undo  1", b"no command"),
         ("", b"Undo", b"no command"),
+        ("", b"qall!", b"\xc0"),
+        ("", b"qall", b"no command"),
     ]
 }
 

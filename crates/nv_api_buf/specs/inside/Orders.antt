@@ -4,10 +4,10 @@ use Rattle.nv_args.specs.Faults.{no_id_left, not_modifiable, limit_reached}
 use Rattle.nv_model.specs.Seen.{Seen, SeenBuffer}
 use Rattle.nv_model.specs.Answers.{Answer, unless}
 use Rattle.nv_model.specs.declared.parts.Limits.{Limits}
-use Rattle.nv_api_buf.specs.Commands.{Command, undo, redo, undo_to, tabnew, tabclose}
+use Rattle.nv_api_buf.specs.Commands.{Command, undo, redo, undo_to, tabnew, tabclose, quit_all}
 use Rattle.nv_api_buf.specs.CommandRows.{no_tab_left, tabs_are_full}
 use Rattle.nv_api_buf.specs.declared.commands.Order.{Order}
-use Rattle.nv_api_buf.specs.declared.commands.Order.TheVariants.{Undo, Redo, UndoTo, Tabnew, Tabclose}
+use Rattle.nv_api_buf.specs.declared.commands.Order.TheVariants.{Undo, Redo, UndoTo, Tabnew, Tabclose, QuitAll}
 
 -- a command by its word
 abbrev pub command_told : Order → Command
@@ -16,6 +16,7 @@ command_told Redo = redo
 command_told (UndoTo n) = undo_to n
 command_told Tabnew = tabnew
 command_told Tabclose = tabclose
+command_told QuitAll = quit_all
 
 -- an answer, unless so many splices of undo commands may not be made
 abbrev pub unless_moved : Limits → SeenBuffer → ℕ → Answer → Answer

@@ -11,7 +11,7 @@ use Rattle.nv_model.specs.Seen.{Seen}
 use Rattle.nv_model.specs.Standing.{PresentEditor, seen_now}
 use Rattle.nv_editor.specs.Doing.{AnswersRow, GivesAnswer, row_among}
 use Rattle.nv_api_buf.specs.TextRows.{nvim_buf_line_count, nvim_buf_get_changedtick, nvim_buf_get_offset, nvim_buf_get_lines, nvim_buf_set_lines, nvim_buf_get_text, nvim_buf_set_text}
-use Rattle.nv_api_buf.specs.BufferRows.{nvim_list_bufs, nvim_get_current_buf, nvim_set_current_buf, nvim_create_buf, nvim_buf_delete, nvim_buf_is_valid, nvim_buf_get_name, nvim_buf_set_name}
+use Rattle.nv_api_buf.specs.BufferRows.{nvim_list_bufs, nvim_get_current_buf, nvim_set_current_buf, nvim_create_buf, nvim_buf_delete, nvim_buf_is_valid, nvim_buf_get_name, nvim_buf_set_name, nvim_buf_attach, nvim_buf_detach}
 use Rattle.nv_api_buf.specs.OptionRows.{nvim_get_option_value, nvim_set_option_value}
 use Rattle.nv_api_buf.specs.CommandRows.{nvim_command}
 use Rattle.nv_api_buf.specs.Metadata.{nvim_set_client_info}
@@ -27,6 +27,22 @@ answers_by found row s session args result e later told now is gives =
 
 abbrev row_of : Method → Option Row
 row_of method = row_among buffer_rows (method_name method)
+
+pub returns-in-BufAttach-clause-row : goal.returns-in-BufAttach-clause-row
+returns-in-BufAttach-clause-row c =
+    let e = c.args.editor.now in
+    let told = c.args.happened.now in
+    answers_by (row_of c.args.method) nvim_buf_attach (seen_now e) c.args.session (typed_arguments c.args.args.now) c.nvim_buf_attach.result e e told c.nvim_buf_attach.new.happened
+    (ap row_of c.in-BufAttach.is)
+    (c.nvim_buf_attach.ensures.row c.args.session)
+
+pub returns-in-BufDetach-clause-row : goal.returns-in-BufDetach-clause-row
+returns-in-BufDetach-clause-row c =
+    let e = c.args.editor.now in
+    let told = c.args.happened.now in
+    answers_by (row_of c.args.method) nvim_buf_detach (seen_now e) c.args.session (typed_arguments c.args.args.now) c.nvim_buf_detach.result e e told c.nvim_buf_detach.new.happened
+    (ap row_of c.in-BufDetach.is)
+    (c.nvim_buf_detach.ensures.row c.args.session)
 
 pub returns-in-BufGetChangedtick-clause-row : goal.returns-in-BufGetChangedtick-clause-row
 returns-in-BufGetChangedtick-clause-row c =
