@@ -25,6 +25,8 @@ use Rattle.nv_api_buf.proofs.RowsTell.{each_splice_is_told}
 use Rattle.nv_api_mark.specs.Rows.{mark_rows}
 use Rattle.nv_api_mark.proofs.RowsTell.{no_splice_is_told as marks_tell}
 use Rattle.nv_api_win.specs.Rows.{window_rows}
+use Rattle.nv_api_ui.specs.Rows.{ui_rows}
+use Rattle.nv_api_ui.proofs.RowsTell.{no_splice_is_told as uis_tell}
 use Rattle.nv_api_win.proofs.RowsTell.{no_splice_is_told as windows_tell}
 use Rattle.nv_dispatch.specs.Calls.{CallOutcome, Batch, all_rows, row_named, editor_after, outcome_of_answer, answer_to_args, outcome_by_row, outcome_of_method, outcome_of_value, batch_with_first, batch_from_result, batch_of_values, outcome_of_batch, atomic_outcome, atomic_name, nvim_call_atomic, outcome_before_seal, seal_operations, outcome_with_seal, stop_value, outcome_of_call}
 use Rattle.nv_dispatch.specs.Laws.{NamesStandOnce, RowsStandInTable, RefusedLeavesAll, EachSpliceIsOneFact, TicksCountFacts, IsFirst, OneByOne, outcome_of_calls, ComesTo, AtomicIsOneByOne, AtomicStops}
@@ -136,7 +138,8 @@ rows_tell : (test : List ℕ × Row → Bool) → FoundTells (find test all_rows
 unfolding EachSpliceIsTold
 rows_tell test =
     found_tells test all_rows
-    (all-append buffer_rows (mark_rows ++ window_rows) each_splice_is_told.0 (all-append mark_rows window_rows marks_tell windows_tell))
+    (all-append buffer_rows (mark_rows ++ (window_rows ++ ui_rows)) each_splice_is_told
+    (all-append mark_rows (window_rows ++ ui_rows) marks_tell (all-append window_rows ui_rows windows_tell uis_tell)))
 
 counts_read : (n : ℤ) (m : ModelEditor) (session : ℕ) (row : Row) (is_seen : Bool) (args : Result (List Arg) ApiFault) → RowTells row → OutcomeCounts n (outcome_of_answer is_seen (answer_to_args m session row args))
 counts_read n m session row is_seen (Ok args) tells = counts_answer n (seen_of m) is_seen (row (seen_of m) session args) (tells (seen_of m) session args)

@@ -1,3 +1,4 @@
+pub mod WorkedFacts
 pub mod WorkedMarks
 pub mod WorkedRuns
 pub mod WorkedWindows
@@ -6,3 +7,10 @@ pub mod CallValues
 pub mod Light
 pub mod OutcomeLemmas
 pub mod RowLemmas
+pub mod Pasts
+pub mod Kept
+pub mod Fitting
+pub mod Undone
+pub mod QuietRows
+pub mod RowsKeep
+pub mod CallsKeep

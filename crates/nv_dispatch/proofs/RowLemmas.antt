@@ -1,5 +1,5 @@
 -- What a method gave by its row is what a call of it comes to.
-use Rattle.std.proofs.Common.{◌≡◌, ◌⊎◌, inl, inr, ℕ, List, refl, sym, ap, ◌∙◌, subst, append-nil, Bool, true, false, Option, Some, None, Result, Ok, Err}
+use Rattle.std.proofs.Common.{◌≡◌, ◌⊎◌, inl, inr, ℕ, List, refl, sym, ap, ◌∙◌, subst, Bool, true, false, Option, Some, None, Result, Ok, Err}
 use Rattle.std.specs.Prelude.{is_some, ◌++◌, ◌∷◌, [], cond, option_map, find, bytes_eq}
 use Rattle.nv_value.specs.Content.{Tree}
 use Rattle.nv_value.specs.View.{content}
@@ -10,7 +10,6 @@ use Rattle.nv_args.specs.Reading.{Arg, read}
 use Rattle.nv_args.specs.Refusals.{Refuses, Meets}
 use Rattle.nv_args.specs.Args.{typed_arguments}
 use Rattle.nv_args.specs.Table.{Signature, method_named}
-use Rattle.nv_args.specs.declared.args.Args.{Args}
 use Rattle.nv_args.specs.declared.faults.Fail.{Fail}
 use Rattle.nv_args.specs.declared.faults.Fail.TheVariants.{Api, NoMemory}
 use Rattle.nv_model.specs.Editors.{ModelEditor}

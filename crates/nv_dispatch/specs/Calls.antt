@@ -1,7 +1,7 @@
 -- What a call comes to: one method by its row, and calls one after another (help: api,
 -- nvim_call_atomic(); own rule: the splices of a call in a buffer are one change).
-use Rattle.std.specs.Prelude.{ℕ, suc, pos, Bool, false, ◌||◌, List, [], ◌∷◌, ◌++◌, map, codes, bytes_eq, Option, Some, None, unwrap_or, Result, Ok, Err, if◌then◌else◌}
-use Rattle.nv_value.specs.Content.{Tree, nil, integer, text, list}
+use Rattle.std.specs.Prelude.{ℕ, suc, pos, Bool, false, ◌||◌, List, [], ◌∷◌, ◌++◌, map, codes, bytes_eq, Option, Some, None, Result, Ok, Err, if◌then◌else◌}
+use Rattle.nv_value.specs.Content.{Tree, nil, integer, text}
 use Rattle.nv_value.specs.declared.fault.ApiFault.{ApiFault}
 use Rattle.nv_args.specs.Faults.{unknown_method}
 use Rattle.nv_args.specs.Arguments.{tree_list}
@@ -17,10 +17,11 @@ use Rattle.nv_editor.specs.Doing.{row_among}
 use Rattle.nv_api_buf.specs.Rows.{buffer_rows}
 use Rattle.nv_api_mark.specs.Rows.{mark_rows}
 use Rattle.nv_api_win.specs.Rows.{window_rows}
+use Rattle.nv_api_ui.specs.Rows.{ui_rows}
 
 -- all rows by the names of their methods
 abbrev pub all_rows : List (List ℕ × Row)
-all_rows = buffer_rows ++ (mark_rows ++ window_rows)
+all_rows = buffer_rows ++ (mark_rows ++ (window_rows ++ ui_rows))
 
 -- the row of a method
 unfoldable pub row_named : List ℕ → Option Row

@@ -6,13 +6,15 @@ use Rattle.nv_value.specs.declared.fault.ApiFault.{ApiFault}
 use Rattle.nv_args.specs.Table.{table, method_named, place_in_table}
 use Rattle.nv_args.specs.Reading.{is_call}
 use Rattle.nv_model.specs.Buffers.{tick_of}
-use Rattle.nv_model.specs.Editors.{ModelEditor}
+use Rattle.nv_model.specs.Editors.{ModelEditor, fresh_editor}
 use Rattle.nv_model.specs.Operations.{Operation, after_operations}
 use Rattle.nv_model.specs.Answers.{Fact}
 use Rattle.nv_model.specs.Laws.{IsNumbered, OfBuffer, splices_among}
 use Rattle.nv_model.specs.Answering.{array_of}
 use Rattle.nv_model.specs.Rows.{edits_among}
+use Rattle.nv_model.specs.declared.parts.Limits.{Limits}
 use Rattle.nv_dispatch.specs.Calls.{CallOutcome, all_rows, editor_after, outcome_of_value, atomic_name, outcome_before_seal, outcome_of_call, stop_value}
+use Rattle.nv_dispatch.specs.Telling.{IsSoundModel, FactsTell, past_at}
 
 -- the method of each name stands at one place of the table
 unfoldable pub NamesStandOnce : Type 0
@@ -101,3 +103,18 @@ AtomicStops =
     → ComesTo (outcome_of_calls m session (before ++ value ∷ behind))
     (Ok (array_of (array_of results ∷ stop_value (Some (length before, fault))
     ∷ []))) operations facts
+
+-- a fresh editor is sound, and each call leaves it so
+unfoldable pub SoundnessIsKept : Type 0
+SoundnessIsKept =
+    ((limits : Limits) → IsSoundModel (fresh_editor limits))
+    × ((m : ModelEditor) (session : ℕ) (name : List ℕ) (given : List Tree) → IsSoundModel m
+    → IsSoundModel (editor_after m (outcome_of_call m session name given)))
+
+-- the facts of a call tell what becomes of each buffer: its splices and no other, each in the text
+-- and at the changedtick of its moment, and its end (help: api-buffer-updates)
+unfoldable pub FactsTellPasts : Type 0
+FactsTellPasts =
+    (m : ModelEditor) (session : ℕ) (name : List ℕ) (given : List Tree) (n : ℤ) → IsSoundModel m
+    → FactsTell n (outcome_of_call m session name given).facts (past_at m n)
+    (past_at (editor_after m (outcome_of_call m session name given)) n)

@@ -2,7 +2,9 @@ pub mod Calls
 pub mod Laws
 pub mod Outcomes
 pub mod Runs
+pub mod Telling
 pub mod Worked
+pub mod WorkedFacts
 pub mod WorkedMarks
 pub mod WorkedWindows
 pub mod inside

@@ -1,8 +1,9 @@
--- Whole calls one after another, as one session makes them: what each answers.
-use Rattle.std.specs.Prelude.{ℕ, pos, ◌^◌, List, [], ◌∷◌, Result}
+-- Whole calls one after another, as one session makes them: what each answers, and what they tell.
+use Rattle.std.specs.Prelude.{ℕ, pos, ◌^◌, List, [], ◌∷◌, ◌++◌, Result}
 use Rattle.nv_value.specs.Content.{Tree}
 use Rattle.nv_value.specs.declared.fault.ApiFault.{ApiFault}
 use Rattle.nv_model.specs.Editors.{ModelEditor, fresh_editor}
+use Rattle.nv_model.specs.Answers.{Fact}
 use Rattle.nv_model.specs.declared.parts.Limits.{Limits}
 use Rattle.nv_dispatch.specs.Calls.{CallOutcome, editor_after, outcome_of_call}
 
@@ -22,6 +23,16 @@ results_from m session (asked ∷ calls) =
     results_with_rest m (outcome_of_call m session asked.name asked.given)
     (λ after. results_from after session calls)
 
+-- the facts of whole calls, each in the editor that those before it left
+abbrev pub facts_with_rest : ModelEditor → CallOutcome → (ModelEditor → List Fact) → List Fact
+facts_with_rest m o rest = o.facts ++ rest (editor_after m o)
+
+abbrev pub facts_from : ModelEditor → ℕ → List NamedCall → List Fact
+facts_from m session [] = []
+facts_from m session (asked ∷ calls) =
+    facts_with_rest m (outcome_of_call m session asked.name asked.given)
+    (λ after. facts_from after session calls)
+
 -- the limits of the server (own rule)
 abbrev pub usual_limits : Limits
 usual_limits = record {
@@ -40,3 +51,7 @@ usual_limits = record {
 -- the results of calls of session 1 to a fresh editor
 abbrev pub results_of : List NamedCall → List (Result Tree ApiFault)
 results_of calls = results_from (fresh_editor usual_limits) 1 calls
+
+-- the facts that they tell
+abbrev pub facts_told : List NamedCall → List Fact
+facts_told calls = facts_from (fresh_editor usual_limits) 1 calls

@@ -17,6 +17,7 @@ ghost use Rattle.nv_editor.specs.Light.{AreLightArgs};
 ghost use Rattle.nv_editor.specs.Sound.{AllSealed};
 ghost use Rattle.nv_api_mark.specs.Rows.{mark_rows};
 ghost use Rattle.nv_api_win.specs.Rows.{window_rows};
+ghost use Rattle.nv_api_ui.specs.Rows.{ui_rows};
 ghost use Rattle.nv_dispatch.specs.Calls.{atomic_outcome, batch_of_values, outcome_before_seal, outcome_of_call, outcome_of_method, outcome_of_value, row_named};
 ghost use Rattle.nv_dispatch.specs.Outcomes.{CanBeSent, GivesOutcome, IfAnswered};
 ghost use Rattle.nv_dispatch.specs.inside.Batches.{CanBeListed, IsBatch};
@@ -42,8 +43,26 @@ fn method_with_row(name: &[u8]) -> Option<Method>
     if has_row(method) { Some(method) } else { None }
 }
 
-// What the rows on marks, groups, windows and tabpages give for a method; nothing where it has none
-// of them.
+// What the rows on windows, tabpages and UIs give for a method; nothing where it has none of them.
+fn last_row_of(
+    editor: &mut Editor,
+    session: u64,
+    method: Method,
+    args: &mut Args,
+    happened: &mut Happened,
+) -> Option<Result<Value, Fail>>
+    ensures row { AnswersRow (row_among (window_rows ++ ui_rows) (method_name method))
+        (seen_now editor.old) session (typed_arguments args.old) result editor.old editor.new
+        happened.old happened.new }
+    ensures spelled { IfSome result (λ given. IfOk given (λ value. HasSpelling (content value))) }
+{
+    match nv_api_win::call_method(method, editor, session, args, happened) {
+        Some(given) => Some(given),
+        None => nv_api_ui::call_method(method, editor, session, args, happened),
+    }
+}
+
+// What the rows on all but buffers give for a method; nothing where it has none of them.
 fn later_row_of(
     editor: &mut Editor,
     session: u64,
@@ -51,14 +70,14 @@ fn later_row_of(
     args: &mut Args,
     happened: &mut Happened,
 ) -> Option<Result<Value, Fail>>
-    ensures row { AnswersRow (row_among (mark_rows ++ window_rows) (method_name method))
-        (seen_now editor.old) session (typed_arguments args.old) result editor.old editor.new
-        happened.old happened.new }
+    ensures row { AnswersRow (row_among (mark_rows ++ (window_rows ++ ui_rows))
+        (method_name method)) (seen_now editor.old) session (typed_arguments args.old) result
+        editor.old editor.new happened.old happened.new }
     ensures spelled { IfSome result (λ given. IfOk given (λ value. HasSpelling (content value))) }
 {
     match nv_api_mark::call_method(method, editor, session, args, happened) {
         Some(given) => Some(given),
-        None => nv_api_win::call_method(method, editor, session, args, happened),
+        None => last_row_of(editor, session, method, args, happened),
     }
 }
 

@@ -1,6 +1,7 @@
 //! Laws of calls, each the contract of a function that does nothing.
 
-ghost use Rattle.nv_dispatch.specs.Laws.{AtomicIsOneByOne, AtomicStops, EachSpliceIsOneFact, NamesStandOnce, RefusedLeavesAll, RowsStandInTable, TicksCountFacts};
+ghost use Rattle.nv_dispatch.specs.Laws.{AtomicIsOneByOne, AtomicStops, EachSpliceIsOneFact, FactsTellPasts, NamesStandOnce, RefusedLeavesAll, RowsStandInTable, SoundnessIsKept, TicksCountFacts};
+ghost use Rattle.nv_dispatch.specs.WorkedFacts.{FollowingAnswers, FollowingTells, FollowingFaults, RefusedTellNothing, FactsInOne, DeletionAnswers, DeletionTells};
 ghost use Rattle.nv_dispatch.specs.WorkedMarks.{MarksMoveWithText, MarksPastEnd, MarksReverse, MarkDetails, MarkFaults, Namespaces, HighlightGroups};
 ghost use Rattle.nv_dispatch.specs.WorkedWindows.{SplitRight, WidthWish, CloseSplit, TabNewClose, CursorMoves, OpeningFaults};
 ghost use Rattle.nv_dispatch.specs.Worked.{EmptyText, IndexBounds, StartAboveEnd, TextPlaces, UndoBranches, SecondBuffer, NotModifiable, FaultTexts, CallsInOne};
@@ -16,6 +17,18 @@ pub fn worked_runs()
     ensures not_modifiable { NotModifiable }
     ensures fault_texts { FaultTexts }
     ensures calls_in_one { CallsInOne }
+{}
+
+/// What calls by which a session follows a buffer of a fresh editor answer, and what they and the
+/// calls between them tell, by the definitions alone.
+pub fn worked_facts()
+    ensures following_answers { FollowingAnswers }
+    ensures following_tells { FollowingTells }
+    ensures following_faults { FollowingFaults }
+    ensures refused_tell_nothing { RefusedTellNothing }
+    ensures facts_in_one { FactsInOne }
+    ensures deletion_answers { DeletionAnswers }
+    ensures deletion_tells { DeletionTells }
 {}
 
 /// What calls on namespaces, marks and highlight groups of a fresh editor answer, by the
@@ -53,6 +66,15 @@ pub fn call_laws()
     ensures refused { RefusedLeavesAll }
     ensures facts { EachSpliceIsOneFact }
     ensures ticks { TicksCountFacts }
+{}
+
+/// The facts of a call, one after another, tell exactly what becomes of each buffer: each splice in
+/// the text and at the changedtick of its moment, with lines that fit there, and its end; attaching
+/// tells the lines and the changedtick of its moment. So it is in each sound model editor; a fresh
+/// one is sound, and each call leaves it so.
+pub fn telling_laws()
+    ensures sound { SoundnessIsKept }
+    ensures told { FactsTellPasts }
 {}
 
 /// Calls in one are those calls one after another, up to the first that is refused.

@@ -10,7 +10,10 @@ mod table;
 
 pub use calling::call;
 pub use done::Done;
-pub use laws::{atomic_laws, call_laws, table_laws, worked_marks, worked_runs, worked_windows};
+pub use laws::{
+    atomic_laws, call_laws, table_laws, telling_laws, worked_facts, worked_marks, worked_runs,
+    worked_windows,
+};
 pub use limits::usual_limits;
 
 #[cfg(test)]

@@ -43,9 +43,11 @@ pub fn has_row(method: Method) -> bool
     ensures { result ≡ is_some (row_named (method_name method)) }
 {
     match method {
-        Method::BufClearNamespace
+        Method::BufAttach
+        | Method::BufClearNamespace
         | Method::BufDelExtmark
         | Method::BufDelete
+        | Method::BufDetach
         | Method::BufGetChangedtick
         | Method::BufGetExtmarkById
         | Method::BufGetExtmarks
@@ -72,6 +74,7 @@ pub fn has_row(method: Method) -> bool
         | Method::GetOptionValue
         | Method::ListBufs
         | Method::ListTabpages
+        | Method::ListUis
         | Method::ListWins
         | Method::OpenWin
         | Method::SetClientInfo
@@ -80,10 +83,15 @@ pub fn has_row(method: Method) -> bool
         | Method::SetCurrentWin
         | Method::SetHl
         | Method::SetOptionValue
+        | Method::Strwidth
         | Method::TabpageGetNumber
         | Method::TabpageGetWin
         | Method::TabpageIsValid
         | Method::TabpageListWins
+        | Method::UiAttach
+        | Method::UiDetach
+        | Method::UiSetOption
+        | Method::UiTryResize
         | Method::WinClose
         | Method::WinGetBuf
         | Method::WinGetCursor
@@ -96,14 +104,6 @@ pub fn has_row(method: Method) -> bool
         | Method::WinSetCursor
         | Method::WinSetHeight
         | Method::WinSetWidth => true,
-        Method::BufAttach
-        | Method::BufDetach
-        | Method::CallAtomic
-        | Method::ListUis
-        | Method::Strwidth
-        | Method::UiAttach
-        | Method::UiDetach
-        | Method::UiSetOption
-        | Method::UiTryResize => false,
+        Method::CallAtomic => false,
     }
 }

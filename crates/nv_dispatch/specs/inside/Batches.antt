@@ -1,5 +1,5 @@
 -- inside: calls one after another, as they are made.
-use Rattle.std.specs.Prelude.{◌≡◌, ℕ, ◌+◌, ◌^◌, ◌<◌, ◌++◌, ◌||◌, Bool, List, [], ◌∷◌, length, map, Option, None, Some, option_map, IfSome, Result, Ok, Err}
+use Rattle.std.specs.Prelude.{◌≡◌, ℕ, ◌^◌, ◌<◌, ◌++◌, ◌||◌, Bool, List, [], ◌∷◌, length, map, None, Some, option_map, IfSome, Result, Ok, Err}
 use Rattle.nv_value.specs.Content.{Tree, trees_of}
 use Rattle.nv_value.specs.View.{content}
 use Rattle.nv_value.specs.declared.fault.ApiFault.{ApiFault}

@@ -1,9 +1,7 @@
-use Rattle.std.proofs.Common.{◌≡◌, ◌∙◌, ◌∷◌, [], ℕ, ◌+◌, ◌<◌, List, map, ap, sym, subst, length, rules, arith, Bool, false, None}
+use Rattle.std.proofs.Common.{◌≡◌, ◌∙◌, ◌∷◌, List, map, ap, sym, subst, length, rules, arith, Bool, false, None}
 use Rattle.std.specs.Vec.Iter.{into_iter_items}
-use Rattle.nv_value.specs.Content.{Tree}
 use Rattle.nv_value.specs.View.{content}
 use Rattle.nv_value.specs.declared.value.Value.{Value}
-use Rattle.nv_model.specs.Editors.{ModelEditor}
 use Rattle.nv_dispatch.specs.Calls.{batch_of_values}
 use Rattle.nv_dispatch.specs.inside.Batches.{IsMadeSoFar}
 use Rattle.nv_dispatch.specs.inside.Weights.{list_weight}

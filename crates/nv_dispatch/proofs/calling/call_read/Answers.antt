@@ -3,7 +3,6 @@ use Rattle.nv_value.specs.View.{content}
 use Rattle.nv_args.specs.Args.{typed_arguments}
 use Rattle.nv_args.specs.Arguments.{tree_list}
 use Rattle.nv_dispatch.proofs.CallValues.{tree_list-contents}
-use Rattle.nv_dispatch.proofs.Light.{values_light}
 use Rattle.nv_dispatch.proofs.OutcomeLemmas.{atomic_read}
 use Rattle.nv_dispatch.proofs.calling.call_read.Goals as goal
 

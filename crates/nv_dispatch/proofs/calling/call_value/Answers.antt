@@ -1,4 +1,4 @@
-use Rattle.std.proofs.Common.{◌≡◌, ◌∙◌, ℕ, List, map, ap, subst, length, arith}
+use Rattle.std.proofs.Common.{◌∙◌, ℕ, List, map, ap, subst, length, arith}
 use Rattle.nv_value.specs.Content.{Tree}
 use Rattle.nv_value.specs.View.{content}
 use Rattle.nv_args.specs.Reading.{name_of_call}

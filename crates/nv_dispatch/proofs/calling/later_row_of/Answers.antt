@@ -1,4 +1,4 @@
-use Rattle.std.proofs.Common.{subst}
+use Rattle.std.proofs.Common.{◌++◌, subst}
 use Rattle.nv_args.specs.Args.{typed_arguments}
 use Rattle.nv_args.specs.Methods.{method_name}
 use Rattle.nv_args.specs.declared.args.Args.{Args}
@@ -6,21 +6,22 @@ use Rattle.nv_model.specs.Standing.{seen_now}
 use Rattle.nv_editor.specs.Doing.{AnswersRow, row_among}
 use Rattle.nv_api_mark.specs.Rows.{mark_rows}
 use Rattle.nv_api_win.specs.Rows.{window_rows}
+use Rattle.nv_api_ui.specs.Rows.{ui_rows}
 use Rattle.nv_dispatch.proofs.RowLemmas.{among_first, among_others}
 use Rattle.nv_dispatch.proofs.calling.later_row_of.Goals as goal
 
 pub returns-in-Some-clause-row : goal.returns-in-Some-clause-row
 returns-in-Some-clause-row c =
-    among_first mark_rows window_rows (method_name c.args.method) (seen_now c.args.editor.now) c.args.session (typed_arguments c.args.args.now) c.in-Some.given
+    among_first mark_rows (window_rows ++ ui_rows) (method_name c.args.method) (seen_now c.args.editor.now) c.args.session (typed_arguments c.args.args.now) c.in-Some.given
     c.args.editor.now c.call_method.new.editor c.args.happened.now c.call_method.new.happened c.in-Some.ensures.row
 
 pub returns-in-None-clause-row : goal.returns-in-None-clause-row
 returns-in-None-clause-row c =
-    among_others mark_rows window_rows (method_name c.args.method) c.args.session (typed_arguments c.args.args.now) c.call_method-in-None.result
-    c.args.editor.now c.call_method.new.editor c.call_method-in-None.new.editor c.args.happened.now c.call_method.new.happened c.call_method-in-None.new.happened
+    among_others mark_rows (window_rows ++ ui_rows) (method_name c.args.method) c.args.session (typed_arguments c.args.args.now) c.last_row_of.result
+    c.args.editor.now c.call_method.new.editor c.last_row_of.new.editor c.args.happened.now c.call_method.new.happened c.last_row_of.new.happened
     c.in-None.ensures.row
     (subst
     (λ (args : Args).
-    AnswersRow (row_among window_rows (method_name c.args.method)) (seen_now c.call_method.new.editor) c.args.session (typed_arguments args) c.call_method-in-None.result
-    c.call_method.new.editor c.call_method-in-None.new.editor c.call_method.new.happened c.call_method-in-None.new.happened)
-    c.in-None.ensures.kept c.call_method-in-None.ensures.row)
+    AnswersRow (row_among (window_rows ++ ui_rows) (method_name c.args.method)) (seen_now c.call_method.new.editor) c.args.session (typed_arguments args) c.last_row_of.result
+    c.call_method.new.editor c.last_row_of.new.editor c.call_method.new.happened c.last_row_of.new.happened)
+    c.in-None.ensures.kept c.last_row_of.ensures.row)

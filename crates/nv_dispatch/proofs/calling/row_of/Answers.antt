@@ -7,6 +7,7 @@ use Rattle.nv_editor.specs.Doing.{AnswersRow, row_among}
 use Rattle.nv_api_buf.specs.Rows.{buffer_rows}
 use Rattle.nv_api_mark.specs.Rows.{mark_rows}
 use Rattle.nv_api_win.specs.Rows.{window_rows}
+use Rattle.nv_api_ui.specs.Rows.{ui_rows}
 use Rattle.nv_dispatch.specs.Calls.{row_named}
 use Rattle.nv_dispatch.proofs.RowLemmas.{among_first, among_others}
 use Rattle.nv_dispatch.proofs.calling.row_of.Goals as goal
@@ -14,17 +15,17 @@ use Rattle.nv_dispatch.proofs.calling.row_of.Goals as goal
 pub returns-in-Some-clause-row : goal.returns-in-Some-clause-row
 unfolding row_named
 returns-in-Some-clause-row c =
-    among_first buffer_rows (mark_rows ++ window_rows) (method_name c.args.method) (seen_now c.args.editor.now) c.args.session (typed_arguments c.args.args.now) c.in-Some.given
+    among_first buffer_rows (mark_rows ++ (window_rows ++ ui_rows)) (method_name c.args.method) (seen_now c.args.editor.now) c.args.session (typed_arguments c.args.args.now) c.in-Some.given
     c.args.editor.now c.call_method.new.editor c.args.happened.now c.call_method.new.happened c.in-Some.ensures.row
 
 pub returns-in-None-clause-row : goal.returns-in-None-clause-row
 unfolding row_named
 returns-in-None-clause-row c =
-    among_others buffer_rows (mark_rows ++ window_rows) (method_name c.args.method) c.args.session (typed_arguments c.args.args.now) c.later_row_of.result
+    among_others buffer_rows (mark_rows ++ (window_rows ++ ui_rows)) (method_name c.args.method) c.args.session (typed_arguments c.args.args.now) c.later_row_of.result
     c.args.editor.now c.call_method.new.editor c.later_row_of.new.editor c.args.happened.now c.call_method.new.happened c.later_row_of.new.happened
     c.in-None.ensures.row
     (subst
     (λ (args : Args).
-    AnswersRow (row_among (mark_rows ++ window_rows) (method_name c.args.method)) (seen_now c.call_method.new.editor) c.args.session (typed_arguments args) c.later_row_of.result
+    AnswersRow (row_among (mark_rows ++ (window_rows ++ ui_rows)) (method_name c.args.method)) (seen_now c.call_method.new.editor) c.args.session (typed_arguments args) c.later_row_of.result
     c.call_method.new.editor c.later_row_of.new.editor c.call_method.new.happened c.later_row_of.new.happened)
     c.in-None.ensures.kept c.later_row_of.ensures.row)

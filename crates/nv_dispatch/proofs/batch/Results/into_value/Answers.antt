@@ -1,5 +1,5 @@
 use Rattle.std.proofs.Common.{◌≡◌, sym, ap, ◌∙◌, subst, List, arith}
-use Rattle.nv_value.specs.Content.{Tree, list, one, no_more, count}
+use Rattle.nv_value.specs.Content.{Tree, list, one, no_more}
 use Rattle.nv_value.specs.View.{content, contents}
 use Rattle.nv_value.specs.declared.value.Value.{Value}
 use Rattle.nv_value.proofs.Contents.{content-List, count-contents}
