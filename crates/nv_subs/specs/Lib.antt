@@ -1,0 +1,5 @@
+pub mod Attachments
+pub mod Laws
+pub mod Mirrors
+pub mod Worked
+pub mod inside
