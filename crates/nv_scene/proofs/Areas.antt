@@ -1,6 +1,6 @@
 -- The cells of a window.
-use Rattle.std.proofs.Common.{◌≡◌, ℕ, ℤ, ◌+◌, ◌-◌, ◌<◌, ◌≤◌, ◌^◌, Bool, true, false, cond, List, [], ◌∷◌, length, map, All, Option, Some, None, refl, sym, ap, subst, ◌∙◌, arith}
-use Rattle.std.specs.Prelude.{find, IfSome, option_map, option_and_then}
+use Rattle.std.proofs.Common.{◌≡◌, ℤ, ◌≤◌, Bool, true, false, cond, List, [], ◌∷◌, All, Option, Some, None, refl, subst, arith}
+use Rattle.std.specs.Prelude.{find, option_map, option_and_then}
 use Rattle.std.specs.Ordering.{int_eq}
 use Rattle.std.proofs.lemmas.List.Elements.{All-head, All-tail}
 use Rattle.nv_layout.specs.Places.{rects, rect_among}
@@ -8,7 +8,7 @@ use Rattle.nv_layout.specs.Tiling.{LiesIn, areas}
 use Rattle.nv_layout.specs.declared.nodes.Placed.{Placed}
 use Rattle.nv_layout.specs.declared.nodes.Rect.{Rect}
 use Rattle.nv_layout.proofs.Apart.{rects_have_least_size, rects_lie_in_area}
-use Rattle.nv_windows.specs.Rooms.{rect_in, screen_area, text_area, windows_area, without_status}
+use Rattle.nv_windows.specs.Rooms.{rect_in, text_area, windows_area, without_status}
 use Rattle.nv_windows.specs.Sound.{IsSoundPage, IsSoundWorkspace}
 use Rattle.nv_windows.specs.Workspace.{Page, Workspace, tabpage_of}
 use Rattle.nv_scene.specs.inside.Settled.{IsTextArea}

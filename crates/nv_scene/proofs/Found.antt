@@ -1,5 +1,5 @@
 -- A window at a place is found by its handle.
-use Rattle.std.proofs.Common.{◌≡◌, ◌≢◌, ℕ, zero, suc, ℤ, pos, ◌+◌, ◌+ℤ◌, ◌<◌, ◌≤◌, ◌≤ℤ◌, ◌==◌, Bool, true, false, cond, List, [], ◌∷◌, get_or, length, All, Option, Some, None, Result, Ok, Err, refl, sym, ap, subst, ◌∙◌, arith}
+use Rattle.std.proofs.Common.{◌≡◌, ℕ, zero, suc, ℤ, pos, ◌+ℤ◌, ◌<◌, ◌≤ℤ◌, ◌==◌, Bool, true, false, cond, List, [], ◌∷◌, get_or, length, All, Option, Some, None, Result, Ok, Err, sym, ap, subst, ◌∙◌, arith}
 use Rattle.std.specs.Prelude.{IfOk, IfSome, find, slice_get}
 use Rattle.std.specs.Option.{option_map_or}
 use Rattle.std.specs.Ordering.{int_eq}
@@ -13,7 +13,7 @@ use Rattle.nv_windows.specs.declared.window.Window.{Window}
 use Rattle.nv_buffer.specs.Content.{Content}
 use Rattle.nv_model.specs.Operations.{Operation}
 use Rattle.nv_model.specs.Seen.{Seen}
-use Rattle.nv_editor.specs.Sound.{ShowsBuffer, ShowsText, content_of}
+use Rattle.nv_editor.specs.Sound.{ShowsBuffer, content_of}
 use Rattle.nv_scene.specs.Settling.{settled_top, top_of, window_settling}
 use Rattle.nv_scene.specs.inside.Settled.{IsTextArea, settling_at}
 use Rattle.nv_scene.proofs.Areas.{area_sound}

@@ -9,3 +9,12 @@ pub mod Found
 pub mod Lined
 pub mod Shown
 pub mod SettlingLaws
+pub mod Corners
+pub mod Bars
+pub mod Parted
+pub mod Living
+pub mod SceneSound
+pub mod PanesStep
+pub mod WorkedScenes
+pub mod OneOrder
+pub mod DrawnAlike

@@ -1,21 +1,19 @@
 -- Windows settled one after another.
-use Rattle.std.proofs.Common.{◌≡◌, ◌≢◌, ℕ, zero, suc, ℤ, pos, ◌+◌, ◌-◌, ◌+ℤ◌, ◌<◌, ◌≤◌, ◌≤ℤ◌, ◌==◌, Bool, true, false, cond, List, [], ◌∷◌, ◌++◌, length, map, take, drop, get_or, slice_get, All, Option, Some, None, refl, sym, ap, subst, ◌∙◌, append_assoc, arith}
+use Rattle.std.proofs.Common.{◌≡◌, ℕ, zero, suc, ℤ, pos, ◌+◌, ◌+ℤ◌, ◌<◌, ◌≤◌, ◌≤ℤ◌, ◌==◌, Bool, true, false, cond, List, [], ◌∷◌, ◌++◌, length, map, take, drop, slice_get, Option, refl, sym, ap, subst, ◌∙◌, append_assoc, arith}
 use Rattle.std.specs.Prelude.{flat_map}
 use Rattle.std.specs.Option.{option_map_or}
 use Rattle.std.specs.Ordering.{int_eq}
 use Rattle.std.proofs.lemmas.Bool.Decides.{nat_tests}
 use Rattle.std.proofs.lemmas.Int.{ints}
 use Rattle.std.proofs.lemmas.List.{append-nil, take-append-drop}
-use Rattle.nv_layout.specs.declared.nodes.Rect.{Rect}
 use Rattle.nv_windows.specs.Operations.{windows_with}
-use Rattle.nv_windows.specs.Rooms.{text_area}
 use Rattle.nv_windows.specs.Sound.{IsRisingFrom, IsSoundWorkspace}
-use Rattle.nv_windows.specs.Workspace.{Workspace, handles_of_windows}
+use Rattle.nv_windows.specs.Workspace.{handles_of_windows}
 use Rattle.nv_windows.specs.declared.window.Window.{Window}
 use Rattle.nv_model.specs.Editors.{ModelEditor}
 use Rattle.nv_model.specs.Operations.{Operation, after_operation, after_operations}
-use Rattle.nv_model.specs.Seen.{Seen, SeenBuffer, seen_of}
-use Rattle.nv_model.specs.Stage.{Stage, in_workspace}
+use Rattle.nv_model.specs.Seen.{Seen, seen_of}
+use Rattle.nv_model.specs.Stage.{in_workspace}
 use Rattle.nv_scene.specs.Settling.{settle_operations, top_of, window_settling}
 use Rattle.nv_scene.specs.inside.Settled.{settling_at}
 

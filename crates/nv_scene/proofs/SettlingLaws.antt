@@ -1,24 +1,22 @@
 -- What settling leaves.
-use Rattle.std.proofs.Common.{◌≡◌, ℕ, zero, suc, ◌+◌, ◌-◌, ◌==◌, ◌<◌, ◌≤◌, Bool, true, false, cond, nat_lt, List, [], ◌∷◌, ◌++◌, length, map, take, drop, get_or, slice_range, All, Option, Some, None, refl, sym, ap, subst, ◌∙◌, ◌⊎◌, inl, inr, arith}
+use Rattle.std.proofs.Common.{◌≡◌, ℕ, zero, suc, ◌+◌, ◌-◌, ◌==◌, ◌<◌, ◌≤◌, Bool, true, false, cond, nat_lt, List, [], ◌∷◌, ◌++◌, length, map, take, drop, get_or, slice_range, All, Option, Some, None, refl, sym, ap, ◌∙◌, ◌⊎◌, inl, inr, arith}
 use Rattle.std.specs.Prelude.{flat_map}
 use Rattle.std.proofs.lemmas.Bool.Decides.{nat_tests}
 use Rattle.std.proofs.lemmas.List.{length-drop, length-map}
 use Rattle.std.proofs.lemmas.List.Elements.{All-nil, All-cons}
-use Rattle.nv_places.specs.Flat.{line_at}
 use Rattle.nv_layout.specs.Division.{total}
 use Rattle.nv_layout.specs.declared.nodes.Rect.{Rect}
 use Rattle.nv_windows.specs.Rooms.{text_area}
-use Rattle.nv_windows.specs.Sound.{IsSoundWorkspace}
 use Rattle.nv_windows.specs.declared.window.Window.{Window}
 use Rattle.nv_linedraw.specs.LineCells.{no_looks, rows_of_line}
 use Rattle.nv_linedraw.proofs.WholeLemmas.{rows_are_whole}
 use Rattle.nv_model.specs.Editors.{ModelEditor}
-use Rattle.nv_model.specs.Operations.{Operation, after_operations}
+use Rattle.nv_model.specs.Operations.{Operation}
 use Rattle.nv_model.specs.Seen.{Seen, SeenBuffer, seen_of}
 use Rattle.nv_scene.specs.Laws.{IsWindowOn, SettledShowCursors, SettlingIsOnce, ShowsCursor}
 use Rattle.nv_scene.specs.Settling.{first_fitting, line_heights, settle_operations, settled_top, top_by, top_of, window_settling}
-use Rattle.nv_scene.proofs.Fitting.{first_fitting_is, one_more, rows_from, settled_again, top_within}
-use Rattle.nv_scene.proofs.Settled.{all_settled, settled, with_windows}
+use Rattle.nv_scene.proofs.Fitting.{first_fitting_is, rows_from, settled_again, top_within}
+use Rattle.nv_scene.proofs.Settled.{all_settled, settled}
 
 same_test : (a b : ℕ) → a ≡ b → (a == b) ≡ true
 same_test a b e = grind (arith, nat_tests)

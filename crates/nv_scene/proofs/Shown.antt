@@ -2,7 +2,7 @@
 use Rattle.std.proofs.Common.{◌≡◌, ℤ, All, Option, Some, None, subst}
 use Rattle.std.specs.Ordering.{int_eq}
 use Rattle.nv_buffer.specs.Content.{Content}
-use Rattle.nv_windows.specs.Workspace.{Workspace, window_at}
+use Rattle.nv_windows.specs.Workspace.{window_at}
 use Rattle.nv_windows.specs.declared.window.Window.{Window}
 use Rattle.nv_model.specs.Editors.{at_handle}
 use Rattle.nv_model.specs.Standing.{PresentEditor}

@@ -1,5 +1,5 @@
 -- Settling: the first row of each window follows its cursor (own rule).
-use Rattle.std.specs.Prelude.{◌≡◌, ℕ, zero, suc, ℤ, ◌+◌, ◌-◌, ◌==◌, Bool, nat_le, nat_lt, if◌then◌else◌, List, [], ◌∷◌, map, flat_map, slice_range, Option, Some, None}
+use Rattle.std.specs.Prelude.{◌≡◌, ℕ, zero, suc, ◌-◌, ◌==◌, Bool, nat_le, nat_lt, if◌then◌else◌, List, [], ◌∷◌, map, flat_map, slice_range, Option, Some}
 use Rattle.nv_layout.specs.Division.{total}
 use Rattle.nv_layout.specs.declared.nodes.Rect.{Rect}
 use Rattle.nv_windows.specs.Rooms.{text_area}

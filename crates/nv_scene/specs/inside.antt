@@ -1,3 +1,4 @@
 -- What private contracts alone cite.
 pub mod Settled
 pub mod Painting
+pub mod Parting

@@ -94,8 +94,9 @@ fn is_current(editor: &Editor, window: i64) -> bool
 fn pane_on(editor: &Editor, buffer: &Buffer, window: Window, rect: Rect) -> Result<Pane, AllocError>
     requires shows { ShowsText buffer.now.text window }
     requires painted { All (IsOfGroups editor.now.stage.groups) buffer.now.marks.marks }
-    ensures { IfOk result (λ pane.
+    ensures pane { IfOk result (λ pane.
         IsPaneOf (seen_now editor.now) window (seen_buffer_now buffer.now) rect pane) }
+    ensures stop { IfOk result (λ pane. 0 < pane.tabstop) }
 {
     buffer.known();
     let alloc = editor.alloc();
@@ -130,7 +131,8 @@ fn pane_on(editor: &Editor, buffer: &Buffer, window: Window, rect: Rect) -> Resu
 /// line. The lines' bytes are shared. No marks are looked at that start behind these lines.
 pub fn pane_of(editor: &Editor, window: i64, rect: Rect) -> Result<Pane, AllocError>
     requires live { is_live_window editor.now.stage.workspace window ≡ true }
-    ensures { IfOk result (λ pane. IsPaneIn (seen_now editor.now) window rect pane) }
+    ensures pane { IfOk result (λ pane. IsPaneIn (seen_now editor.now) window rect pane) }
+    ensures stop { IfOk result (λ pane. 0 < pane.tabstop) }
 {
     editor.known();
     let Some(found) = editor.windows().find(window) else {

@@ -1,5 +1,5 @@
 //! Settling: the first row of each window follows its cursor (own rule).
-ghost use Rattle.std.specs.Prelude.{◌≡◌, ◌^◌, ◌<◌, min, map, length, IfOk, IfSome, OnOk};
+ghost use Rattle.std.specs.Prelude.{◌≡◌, ◌^◌, ◌<◌, ◌↔◌, min, map, length, true, IfOk, IfSome, OnOk};
 ghost use Rattle.nv_places.specs.Flat.{line_at};
 ghost use Rattle.nv_windows.specs.Rooms.{text_area};
 ghost use Rattle.nv_linedraw.specs.LineCells.{rows_of_line};
@@ -7,7 +7,7 @@ ghost use Rattle.nv_model.specs.Editors.{at_handle};
 ghost use Rattle.nv_model.specs.Standing.{seen_now};
 ghost use Rattle.nv_editor.specs.Doing.{Does};
 ghost use Rattle.nv_editor.specs.Sound.{ShowsBuffer, content_at};
-ghost use Rattle.nv_scene.specs.Settling.{settle_operations, settled_top, top_of};
+ghost use Rattle.nv_scene.specs.Settling.{IsSettled, settle_operations, settled_top, top_of};
 ghost use Rattle.nv_scene.specs.inside.Settled.{IsTextArea, settling_at};
 
 use nv_buffer::Lines;
@@ -133,4 +133,18 @@ pub fn settle(editor: &mut Editor) -> Result<(), AllocError>
         settle_at(editor, place)?;
     }
     Ok(())
+}
+
+/// Whether all windows are settled: `settle` would change nothing. No more lines are looked at than
+/// a window has rows.
+pub fn is_settled(editor: &Editor) -> Result<bool, AllocError>
+    ensures { IfOk result (λ settled. (settled ≡ true) ↔ IsSettled (seen_now editor.now)) }
+{
+    editor.known();
+    for window in editor.windows().windows() {
+        if top_of(editor, *window)? != window.top {
+            return Ok(false);
+        }
+    }
+    Ok(true)
 }

@@ -1,13 +1,18 @@
 //! Windows settled, and scenes drawn, against values written by hand from Neovim's help (api-ui,
 //! windows, nvim_buf_set_extmark()).
 
-use crate::{pane_of, settle};
-use nv_buffer::{Line, LineList, is_narrow};
+ghost use Rattle.nv_screen.specs.Sound.{IsSoundScene};
+ghost use Rattle.std.specs.Prelude.{IfOk, IfSome};
+
+use crate::{is_settled, pane_of, scene_of, settle};
+use nv_buffer::{Far, Line, LineList, Mark, Paint, Pos, is_in_line, is_narrow};
 use nv_editor::{Editor, Happened};
-use nv_layout::Rect;
+use nv_hl::{Attr, Row};
+use nv_layout::{Rect, Side};
 use nv_lines::is_line;
 use nv_model::{Limits, Ui};
-use nv_screen::Pane;
+use nv_screen::{Pane, Scene, Spot, draw, sound_scene_laws};
+use nv_windows::Opened;
 use std::alloc::{AllocError, Global};
 use std::test::Fail;
 
@@ -134,6 +139,214 @@ fn a_pane_has_the_lines_from_its_first_row_on(rt: HostRuntime) -> Result<(), Fai
             }
         }
         None => assert!(rt; false),
+    }
+    Ok(())
+}
+
+// The scene of an editor, where its windows are settled.
+fn scene(editor: &Editor) -> Result<Option<Scene>, AllocError>
+    ensures sound { IfOk result (λ found. IfSome found IsSoundScene) }
+{
+    if !is_settled(editor)? {
+        return Ok(None);
+    }
+    Ok(Some(scene_of(editor)?))
+}
+
+// An attribute as a letter: of bold, of reverse, or of both.
+fn letter(attr: &Attr) -> u8 {
+    match (attr.bold, attr.reverse) {
+        (false, false) => b' ',
+        (true, false) => b'b',
+        (false, true) => b'r',
+        (true, true) => b'R',
+    }
+}
+
+// Puts rows behind others: the texts of the cells, a bar, and the letters of their attributes.
+fn push_rows(written: &mut Vec<u8>, rows: &[Row]) -> Result<(), AllocError> {
+    for row in rows {
+        for cell in row.cells() {
+            written.extend_from_slice(cell.text.as_slice())?;
+        }
+        written.push(b'|')?;
+        for cell in row.cells() {
+            written.push(letter(&cell.attr))?;
+        }
+        written.push(b'\n')?;
+    }
+    Ok(())
+}
+
+// The screen that an editor shows, with its cursor; none where it isn't settled.
+fn shown(editor: &Editor) -> Result<Option<(Vec<u8>, Spot)>, AllocError> {
+    let alloc = editor.alloc();
+    let Some(scene) = scene(editor)? else {
+        return Ok(None);
+    };
+    sound_scene_laws();
+    let grid = draw(alloc, &scene)?;
+    let mut written = Vec::new(alloc);
+    push_rows(&mut written, grid.rows())?;
+    Ok(Some((written, scene.cursor)))
+}
+
+#[test]
+fn first_paint_draws_the_empty_screen(rt: HostRuntime) -> Result<(), Fail> {
+    let editor = small_editor(rt.alloc())?;
+    match shown(&editor)? {
+        Some((written, cursor)) => {
+            assert_eq!(rt;
+                written.as_slice(),
+                concat!(
+                    "            |            \n",
+                    "~           |b           \n",
+                    "[No Name]   |RRRRRRRRRRRR\n",
+                    "            |            \n",
+                )
+                .as_bytes()
+            );
+            assert_eq!(rt; (cursor.window, cursor.row, cursor.byte), (1000, 0, 0));
+        }
+        None => assert!(rt; false, "it isn't settled"),
+    }
+    Ok(())
+}
+
+// Opens window 1001 at the right of window 1000, and enters it.
+fn open_right(editor: &mut Editor) -> Result<bool, AllocError> {
+    if editor.windows().find(1000).is_none() || editor.buffer(1).is_none() {
+        return Ok(false);
+    }
+    let opened = editor.open_window(1000, Side::Right, 1, 0, 0, true)?;
+    Ok(opened == Opened::Window(1001))
+}
+
+// Puts a text behind others, again and again.
+fn push_times(written: &mut Vec<u8>, text: &str, times: usize) -> Result<(), AllocError> {
+    for _ in 0..times {
+        written.extend_from_slice(text.as_bytes())?;
+    }
+    Ok(())
+}
+
+// Puts a row of such texts behind others.
+fn push_row(written: &mut Vec<u8>, parts: &[(&str, usize)]) -> Result<(), AllocError> {
+    for (text, times) in parts {
+        push_times(written, text, *times)?;
+    }
+    Ok(())
+}
+
+// The screen of two windows over an empty text on 80 by 24 cells, the second of which is current.
+fn two_windows(alloc: Global) -> Result<Vec<u8>, AllocError> {
+    let mut wanted = Vec::new(alloc);
+    push_row(
+        &mut wanted,
+        &[
+            (" ", 40),
+            ("│", 1),
+            (" ", 39),
+            ("|", 1),
+            (" ", 80),
+            ("\n", 1),
+        ],
+    )?;
+    for _ in 0..21 {
+        push_row(
+            &mut wanted,
+            &[("~", 1), (" ", 39), ("│", 1), ("~", 1), (" ", 38)],
+        )?;
+        push_row(
+            &mut wanted,
+            &[("|b", 1), (" ", 40), ("b", 1), (" ", 38), ("\n", 1)],
+        )?;
+    }
+    push_row(
+        &mut wanted,
+        &[("[No Name]", 1), (" ", 31), ("│[No Name]", 1), (" ", 30)],
+    )?;
+    push_row(
+        &mut wanted,
+        &[("|", 1), ("r", 40), (" ", 1), ("R", 39), ("\n", 1)],
+    )?;
+    push_row(&mut wanted, &[(" ", 80), ("|", 1), (" ", 80), ("\n", 1)])?;
+    Ok(wanted)
+}
+
+#[test]
+fn split_right_shows_two_windows_and_a_separator(rt: HostRuntime) -> Result<(), Fail> {
+    let alloc = rt.alloc();
+    let mut editor = Editor::new(alloc, limits())?;
+    assert_eq!(rt; open_right(&mut editor)?, true);
+    let wanted = two_windows(alloc)?;
+    match shown(&editor)? {
+        Some((written, cursor)) => {
+            assert_eq!(rt; written.as_slice(), wanted.as_slice());
+            assert_eq!(rt; (cursor.window, cursor.row, cursor.byte), (1001, 0, 0));
+        }
+        None => assert!(rt; false, "it isn't settled"),
+    }
+    Ok(())
+}
+
+// Sets a mark in buffer 1, where its places are in lines of the text and its group is there.
+fn set_mark(editor: &mut Editor, mark: Mark) -> Result<bool, AllocError> {
+    let (Some(far), Some(paint)) = (mark.stop, mark.paint) else {
+        return Ok(false);
+    };
+    let Some(buffer) = editor.buffer(1) else {
+        return Ok(false);
+    };
+    if !is_in_line(buffer.text(), mark.start) || !is_in_line(buffer.text(), far.pos) {
+        return Ok(false);
+    }
+    if editor.groups().group(paint.group).is_none() {
+        return Ok(false);
+    }
+    editor.set_mark(1, mark)?;
+    Ok(true)
+}
+
+// A mark of group `NonText` from a place up to before another.
+fn bold_mark(start: Pos, stop: Pos) -> Mark {
+    Mark {
+        ns: 1,
+        id: 1,
+        start,
+        right: true,
+        stop: Some(Far {
+            pos: stop,
+            right: false,
+        }),
+        paint: Some(Paint {
+            group: 2,
+            eol: false,
+        }),
+        priority: 4096,
+    }
+}
+
+#[test]
+fn a_mark_shows_on_the_rows_that_it_holds(rt: HostRuntime) -> Result<(), Fail> {
+    let alloc = rt.alloc();
+    let mut editor = small_editor(alloc)?;
+    let three = lines(alloc, b"ab", 3)?;
+    assert_eq!(rt; put_first(&mut editor, three)?, true);
+    let mark = bold_mark(Pos { row: 0, col: 1 }, Pos { row: 1, col: 1 });
+    assert_eq!(rt; set_mark(&mut editor, mark)?, true);
+    match shown(&editor)? {
+        Some((written, _)) => assert_eq!(rt;
+            written.as_slice(),
+            concat!(
+                "ab          | b          \n",
+                "ab          |b           \n",
+                "[No Name] [+|RRRRRRRRRRRR\n",
+                "            |            \n",
+            )
+            .as_bytes()
+        ),
+        None => assert!(rt; false, "it isn't settled"),
     }
     Ok(())
 }

@@ -1,5 +1,5 @@
 -- inside: the marks that may show on some rows. Only private contracts cite this.
-use Rattle.std.specs.Prelude.{ℕ, Bool, false, nat_le, if◌then◌else◌, List, [], ◌∷◌, filter, Option, Some, None, IsPermutation, IsSorted}
+use Rattle.std.specs.Prelude.{ℕ, Bool, false, nat_le, if◌then◌else◌, List, [], ◌∷◌, filter, Option, Some, IsPermutation, IsSorted}
 use Rattle.nv_marks.specs.Order.{starts_within}
 use Rattle.nv_marks.specs.declared.extmark.Far.{Far}
 use Rattle.nv_marks.specs.declared.extmark.Mark.{Mark}

@@ -1,4 +1,4 @@
-use Rattle.std.proofs.Common.{◌≡◌, ℤ, Some, All, ap, sym, subst, ◌∙◌, rules, to_z, of_z, w64}
+use Rattle.std.proofs.Common.{◌≡◌, Some, ap, sym, subst, ◌∙◌, rules, to_z, of_z, w64}
 use Rattle.nv_windows.specs.Workspace.{Workspace, window_at}
 use Rattle.nv_model.specs.Editors.{at_handle}
 use Rattle.nv_scene.proofs.Shown.{never_dead, shows_text, text_painted}

@@ -1,4 +1,4 @@
-use Rattle.std.proofs.Common.{◌≡◌, ℕ, ℤ, ◌+◌, ◌^◌, ◌<◌, List, length, min, All, refl, ap, sym, subst, ◌∙◌, rules, to_z, of_z, w64}
+use Rattle.std.proofs.Common.{◌≡◌, ℕ, ◌+◌, ◌^◌, ◌<◌, List, length, min, All, refl, ap, sym, subst, ◌∙◌, rules, to_z, of_z, w64}
 use Rattle.std.specs.Ordering.{int_eq}
 use Rattle.nv_windows.specs.Workspace.{current_window}
 use Rattle.nv_model.specs.Standing.{seen_buffer_now}
@@ -20,8 +20,8 @@ scene_lines-requires-clause-groups c =
     (subst (λ (gs : List NamedGroup). All (IsOfGroups gs) c.in_ok-marks.marks.items) (sym c.groups.ensures)
     (laid_all (IsOfGroups c.args.editor.now.stage.groups) c.args.window.top c.min-behind.result c.args.buffer.now.marks.marks c.in_ok-marks.marks.items laid c.requires.painted))
 
-pub returns : goal.returns
-returns c =
+pub returns-clause-pane : goal.returns-clause-pane
+returns-clause-pane c =
     let narrow : length c.args.buffer.now.text < 2 ^ 32 = subst (λ (t : List (List ℕ)). length t < 2 ^ 32) c.text.ensures.value c.text.ensures.narrow.count in
     let counted : c.count-count.result ≡ length c.args.buffer.now.text = c.count-count.ensures.value ∙ ap (λ (t : List (List ℕ)). length t) c.text.ensures.value in
     let most : c.min-behind.result ≡ min (min (c.args.window.top + c.args.rect.height) 4294967295) c.count-count.result = search rules in

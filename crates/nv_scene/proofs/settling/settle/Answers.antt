@@ -1,4 +1,4 @@
-use Rattle.std.proofs.Common.{◌≡◌, ◌<◌, ◌≤◌, List, length, ap, ◌∙◌, arith}
+use Rattle.std.proofs.Common.{◌≡◌, List, length, ap, ◌∙◌, arith}
 use Rattle.nv_windows.specs.Workspace.{Workspace}
 use Rattle.nv_windows.specs.declared.window.Window.{Window}
 use Rattle.nv_scene.proofs.SettleSteps.{settle_end, settle_step}

@@ -4,7 +4,7 @@ use Rattle.std.proofs.lemmas.Bool.Decides.{nat_tests}
 use Rattle.nv_windows.specs.Workspace.{Workspace, is_live_window, window_at}
 use Rattle.nv_windows.specs.declared.window.Window.{Window}
 use Rattle.nv_model.specs.Operations.{Operation}
-use Rattle.nv_model.specs.Standing.{PresentEditor, seen_now}
+use Rattle.nv_model.specs.Standing.{seen_now}
 use Rattle.nv_editor.specs.Doing.{Does}
 use Rattle.nv_editor.specs.Sound.{content_at}
 use Rattle.nv_scene.proofs.Found.{settled_by, settled_none, there_at, window_found}

@@ -1,4 +1,4 @@
-use Rattle.std.proofs.Common.{◌≡◌, ℕ, ◌+◌, ◌-◌, ◌<◌, ◌≤◌, List, ◌∙◌, arith}
+use Rattle.std.proofs.Common.{◌∙◌, arith}
 use Rattle.nv_linedraw.specs.LineCells.{rows_of_line}
 use Rattle.nv_scene.proofs.SettledTop.{top_end, top_start, top_step, top_stop}
 use Rattle.nv_scene.proofs.settling.settled_top.Goals as goal

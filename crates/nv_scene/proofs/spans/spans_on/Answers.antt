@@ -1,7 +1,6 @@
-use Rattle.std.proofs.Common.{◌≡◌, List, take, ap, ◌∙◌, arith}
+use Rattle.std.proofs.Common.{◌≡◌, take, ap, ◌∙◌, arith}
 use Rattle.std.specs.Prelude.{flat_map}
 use Rattle.std.proofs.lemmas.List.{take_all}
-use Rattle.nv_marks.specs.declared.extmark.Mark.{Mark}
 use Rattle.nv_scene.specs.inside.Painting.{spans_of_mark}
 use Rattle.nv_scene.proofs.Painted.{all_shown}
 use Rattle.nv_scene.proofs.spans.spans_on.Goals as goal
