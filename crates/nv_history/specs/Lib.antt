@@ -1,0 +1,13 @@
+pub mod Events
+pub mod Sessions
+pub mod Worlds
+pub mod Runs
+pub mod Spoken
+pub mod Asking
+pub mod Solo
+pub mod Texts
+pub mod MarkPlaces
+pub mod Laws
+pub mod UiLaws
+pub mod Examples
+pub mod UiExamples
