@@ -1,0 +1,5 @@
+pub mod Contents
+pub mod Laws
+pub mod Ledgers
+pub mod Worlds
+pub mod inside

@@ -1,0 +1,25 @@
+//! The world: one editor, the sessions that call it, and one history of all events.
+#![tactic(auto)]
+
+mod answering;
+mod effect;
+mod entry;
+mod finishing;
+mod history;
+mod laws;
+mod session;
+mod shared;
+mod showing;
+mod state;
+mod telling;
+mod world;
+
+pub use effect::{Batch, Cause, Effect, Stop};
+pub use entry::{Entry, Event};
+pub use history::History;
+pub use laws::world_laws;
+pub use shared::{LinesEvent, SharedMessage};
+pub use world::World;
+
+#[cfg(test)]
+mod tests;

@@ -1,0 +1,362 @@
+//! The state of a world, and what each event makes of it.
+ghost use Rattle.std.specs.Prelude.{◌≡◌, suc, ◌++◌, ◌∷◌, [], ◌<◌, ◌≤◌, ℕ, length, map, slice_get, false, None, Some, IsTrue, IfErr, IfOk, IfNone, IfSome, IsSome, OnOk, option_map};
+ghost use Rattle.std.specs.List.{AllZip};
+ghost use Rattle.std.specs.Vec.{vec_len};
+ghost use Rattle.nv_rpc.specs.Calls.{Call};
+ghost use Rattle.nv_rpc.specs.Frames.{call_of_frame};
+ghost use Rattle.nv_model.specs.Standing.{seen_now};
+ghost use Rattle.nv_editor.specs.Facts.{fact_of, facts_of};
+ghost use Rattle.nv_editor.specs.Sound.{AllSealed};
+ghost use Rattle.nv_scene.specs.Settling.{IsSettled};
+ghost use Rattle.nv_history.specs.Events.{close_of, closed_at};
+ghost use Rattle.nv_history.specs.Sessions.{Session as ModelSession, has_quit, is_quit, session_closed_by, session_emptied, shown_after};
+ghost use Rattle.nv_history.specs.Spoken.{ShowsIfGiven};
+ghost use Rattle.nv_history.specs.Worlds.{World, close_outcome, editor_due, empty_take_outcome, fresh_world, idles, live_request_outcome, opening_outcome, outcome_of_frame, request_outcome, session_of, some_take_outcome, step, take_outcome, with_session_at, world_after_call};
+ghost use Rattle.nv_world.specs.Contents.{plain_cause, plain_effect, plain_event, plain_stop, scene_given, sent_of_shared};
+ghost use Rattle.nv_world.specs.Worlds.{GivesFewCells, GivesSendable, IsLightCall, IsLightEvent};
+ghost use Rattle.nv_world.specs.declared.effect.Effect.TheVariants.{Items};
+ghost use Rattle.nv_world.specs.inside.Sessions.{IsSession};
+ghost use Rattle.nv_world.specs.inside.Showings.{HasFewCells};
+ghost use Rattle.nv_world.specs.inside.States.{Changes, ClosesNoUi, IsAt, IsStopOf, StandsForWorld, StepsState, called_outcome};
+
+use crate::answering::answer;
+use crate::effect::{Batch, Cause, Effect, Stop};
+use crate::entry::Event;
+use crate::finishing::{end_if, finish, finish_settled};
+use crate::session::{Session, close, new_session, taken, waiting};
+use crate::showing::{is_any_due, is_scene_due, scene_if, shown_after};
+use crate::telling::{place_of, tell_call};
+use nv_editor::{Editor, Fact};
+use nv_model::Limits;
+use nv_rpc::Frame;
+use nv_subs::Subs;
+use std::alloc::{AllocError, Global};
+
+/// The state of a world: its editor, who is told of what, its sessions by their numbers, the entry
+/// that ended it, and its stamp, which rises with each entry that may have changed what UIs show.
+#[derive(Drop)]
+pub struct State {
+    pub editor: Editor,
+    pub subs: Subs,
+    pub sessions: Vec<Session>,
+    pub ended: Option<u64>,
+    pub stamp: u64,
+}
+
+/// The numbers beside a state: how many messages an outbox holds, the number of the last entry that
+/// the limits allow, and that of the present one.
+#[derive(Clone, Copy)]
+pub struct Numbers {
+    pub capacity: u32,
+    pub last: u64,
+    pub at: u64,
+}
+
+impl State {
+    /// A fresh editor and nobody.
+    pub fn new(alloc: Global, limits: Limits) -> Result<State, AllocError>
+        ensures stands { IfOk result (λ state. (capacity : ℕ)
+            → StandsForWorld state (fresh_world capacity limits)) }
+        ensures settled { IfOk result (λ state. IsSettled (seen_now state.editor)) }
+    {
+        let editor = Editor::new(alloc, limits)?;
+        Ok(State {
+            editor,
+            subs: Subs::new(alloc),
+            sessions: Vec::new(alloc),
+            ended: None,
+            stamp: 1,
+        })
+    }
+}
+
+// Puts a session behind the others. `false` where memory was wanting.
+fn was_added(sessions: &mut Vec<Session>, session: Session) -> bool
+    ensures { IsTrue result → sessions.new.items ≡ sessions.old.items ++ session ∷ [] }
+{
+    sessions.push(session).is_ok()
+}
+
+fn open(alloc: Global, state: &mut State, numbers: Numbers) -> Result<Effect, Stop>
+    ensures steps { StepsState state.old state.new numbers result (λ w. opening_outcome w.ended w) }
+    ensures sendable { IfOk result GivesSendable }
+    ensures cells { IfOk result GivesFewCells }
+{
+    if let Some(entry) = state.ended {
+        return Err(Stop::Gone(entry));
+    }
+    let Ok(session) = new_session(alloc, numbers.capacity) else {
+        return Err(Stop::NoMemory);
+    };
+    if !was_added(&mut state.sessions, session) {
+        return Err(Stop::NoMemory);
+    }
+    let number = state.sessions.len() as u64;
+    let Ok(()) = finish(alloc, state, numbers) else {
+        return Err(Stop::NoMemory);
+    };
+    Ok(Effect::Opened(number))
+}
+
+// Whether a fact tells that the editor ends.
+fn is_quit(fact: &Fact) -> bool
+    ensures { result ≡ is_quit (fact_of fact.now) }
+{
+    matches!(fact, Fact::Quit)
+}
+
+// Whether facts tell that the editor ends.
+fn has_quit(facts: &[Fact]) -> bool
+    ensures { result ≡ has_quit (facts_of facts.now) }
+{
+    for fact in facts {
+        if is_quit(fact) {
+            return true;
+        }
+    }
+    false
+}
+
+// A session that isn't held makes its call. Tells whether it may have changed what is seen.
+fn make_call(
+    alloc: Global,
+    state: &mut State,
+    at: u64,
+    session: u64,
+    frame: &Frame,
+) -> Result<bool, AllocError>
+    requires session { (0 < session) × (session ≤ vec_len state.old.sessions) }
+    requires light { IsLightCall (call_of_frame frame.now) }
+    requires sealed { AllSealed state.old.editor }
+    ensures stands { OnOk result ((w : World) → StandsForWorld state.old w → w.entries ≡ at
+        → StandsForWorld state.new (world_after_call w session (call_of_frame frame.now)
+        (outcome_of_frame w.editor session (call_of_frame frame.now)))) }
+    ensures seen { IfOk result (λ is_seen. (w : World) → StandsForWorld state.old w
+        → is_seen ≡ (outcome_of_frame w.editor session (call_of_frame frame.now)).is_seen) }
+{
+    let answered = answer(alloc, &mut state.editor, session, frame)?;
+    let quits = has_quit(&answered.facts);
+    let is_seen = answered.is_seen;
+    tell_call(
+        alloc,
+        &mut state.subs,
+        &mut state.sessions,
+        session,
+        at,
+        answered,
+    )?;
+    end_if(alloc, state, at, quits);
+    Ok(is_seen)
+}
+
+// Why a session that is there can't make a call now, if it can't.
+fn live_stop(session: &Session, capacity: u32) -> Option<Stop>
+    ensures stop { (w : World) (s : ℕ) (call : Call) (y : ModelSession) → w.capacity ≡ capacity
+        → IsSession capacity session.now y
+        → IsStopOf result (called_outcome w s call)
+        (live_request_outcome y.closed w s y call) }
+    ensures memory { IfSome result (λ stop. IsSome (plain_stop stop)) }
+{
+    if let Some(cause) = session.closed {
+        return Some(Stop::Gone(cause.entry()));
+    }
+    let waiting = waiting(session);
+    if 2 * waiting >= capacity as usize {
+        return Some(Stop::Held(waiting.min(capacity as usize) as u32));
+    }
+    None
+}
+
+// Why a session can't make a call now, if it can't.
+fn request_stop(sessions: &[Session], capacity: u32, session: u64) -> Option<Stop>
+    ensures stop { (w : World) (call : Call) → w.capacity ≡ capacity
+        → AllZip (IsSession capacity) sessions.now w.sessions
+        → IsStopOf result (called_outcome w session call)
+        (request_outcome (session_of w session) w session call) }
+    ensures found { IfNone result ((0 < session) × (session ≤ length sessions.now)) }
+    ensures memory { IfSome result (λ stop. IsSome (plain_stop stop)) }
+{
+    match place_of(session, sessions.len()) {
+        Some(place) => live_stop(&sessions[place], capacity),
+        None => Some(Stop::Stranger(session)),
+    }
+}
+
+fn request(
+    alloc: Global,
+    state: &mut State,
+    numbers: Numbers,
+    session: u64,
+    frame: &Frame,
+) -> Result<Effect, Stop>
+    requires light { IsLightCall (call_of_frame frame.now) }
+    requires sealed { AllSealed state.old.editor }
+    ensures steps { StepsState state.old state.new numbers result
+        (λ w. request_outcome (session_of w session) w session (call_of_frame frame.now)) }
+    ensures sendable { IfOk result GivesSendable }
+    ensures cells { IfOk result GivesFewCells }
+{
+    if let Some(stop) = request_stop(&state.sessions, numbers.capacity, session) {
+        return Err(stop);
+    }
+    let Ok(is_seen) = make_call(alloc, state, numbers.at, session, frame) else {
+        return Err(Stop::NoMemory);
+    };
+    let Ok(()) = finish_settled(alloc, state, numbers, is_seen, true) else {
+        return Err(Stop::NoMemory);
+    };
+    Ok(Effect::Done)
+}
+
+// What a take of a session to which nothing is due comes to.
+fn empty_take(session: &Session) -> Effect
+    ensures effect { idles (plain_effect None result)
+        ≡ empty_take_outcome (option_map plain_cause session.now.closed) }
+    ensures scene { scene_given result ≡ None }
+    ensures sendable { GivesSendable result }
+{
+    match session.closed {
+        Some(cause) => Effect::Over(cause),
+        None => Effect::Nothing,
+    }
+}
+
+// What is due to a session: all that waits, and the scene, where it is due.
+fn batch_of(
+    alloc: Global,
+    state: &mut State,
+    place: usize,
+    is_due: bool,
+) -> Result<Batch, AllocError>
+    requires place { place < vec_len state.old.sessions }
+    requires settled { IsSettled (seen_now state.old.editor) }
+    ensures world { OnOk result ((w : World) (y : ModelSession) → StandsForWorld state.old w
+        → slice_get w.sessions place ≡ Some y
+        → StandsForWorld state.new (with_session_at w (suc place)
+        (session_emptied (shown_after is_due w.stamp y.shown) y))) }
+    ensures editor { state.new.editor ≡ state.old.editor }
+    ensures messages { IfOk result (λ batch. (w : World) (y : ModelSession)
+        → StandsForWorld state.old w → slice_get w.sessions place ≡ Some y
+        → map sent_of_shared batch.messages.items ≡ y.waiting) }
+    ensures sendable { IfOk result (λ batch. (w : World) → StandsForWorld state.old w
+        → GivesSendable (Items batch)) }
+    ensures shows { IfOk result (λ batch. (w : World) → StandsForWorld state.old w
+        → ShowsIfGiven (editor_due is_due w.editor) batch.scene) }
+    ensures cells { IfOk result (λ batch. HasFewCells batch.scene) }
+{
+    let scene = scene_if(&state.editor, is_due)?;
+    let shown = shown_after(is_due, state.stamp, state.sessions[place].shown);
+    let messages = taken(alloc, &mut state.sessions[place], shown)?;
+    Ok(Batch { messages, scene })
+}
+
+// Takes what is due to a session, where something is.
+fn take_some(
+    alloc: Global,
+    state: &mut State,
+    numbers: Numbers,
+    place: usize,
+    is_due: bool,
+) -> Result<Effect, Stop>
+    requires place { place < vec_len state.old.sessions }
+    requires settled { IsSettled (seen_now state.old.editor) }
+    ensures steps { (w : World) (y : ModelSession) → IsAt state.old numbers w
+        → slice_get w.sessions place ≡ Some y → Changes state.old state.new numbers result
+        (some_take_outcome false is_due w (suc place) y) }
+    ensures sendable { IfOk result (λ effect. (w : World) → IsAt state.old numbers w
+        → GivesSendable effect) }
+    ensures cells { IfOk result GivesFewCells }
+{
+    let Ok(batch) = batch_of(alloc, state, place, is_due) else {
+        return Err(Stop::NoMemory);
+    };
+    let Ok(()) = finish(alloc, state, numbers) else {
+        return Err(Stop::NoMemory);
+    };
+    Ok(Effect::Items(batch))
+}
+
+fn take(alloc: Global, state: &mut State, numbers: Numbers, session: u64) -> Result<Effect, Stop>
+    requires settled { IsSettled (seen_now state.old.editor) }
+    ensures steps { StepsState state.old state.new numbers result
+        (λ w. take_outcome (session_of w session) w session) }
+    ensures sendable { IfOk result (λ effect. (w : World) → IsAt state.old numbers w
+        → GivesSendable effect) }
+    ensures cells { IfOk result GivesFewCells }
+{
+    let Some(place) = place_of(session, state.sessions.len()) else {
+        return Err(Stop::Stranger(session));
+    };
+    let found = &state.sessions[place];
+    let is_due = is_scene_due(state.editor.uis(), state.stamp, session, found.shown);
+    if !is_any_due(found, is_due) {
+        return Ok(empty_take(found));
+    }
+    take_some(alloc, state, numbers, place, is_due)
+}
+
+// A session is closed, and is told of nothing any more.
+fn close_at(state: &mut State, at: u64, place: usize)
+    requires place { place < vec_len state.old.sessions }
+    ensures world { (w : World) (y : ModelSession) → StandsForWorld state.old w
+        → w.entries ≡ at → slice_get w.sessions place ≡ Some y
+        → StandsForWorld state.new (with_session_at w (suc place)
+        (session_closed_by (closed_at w.entries) y)) }
+    ensures editor { state.new.editor ≡ state.old.editor }
+{
+    close(&mut state.sessions[place], Cause::Closed(at));
+    state.subs.leave(place as u64 + 1);
+}
+
+fn close_session(
+    alloc: Global,
+    state: &mut State,
+    numbers: Numbers,
+    session: u64,
+) -> Result<Effect, Stop>
+    requires settled { IsSettled (seen_now state.old.editor) }
+    ensures steps { StepsState state.old state.new numbers result
+        (λ w. close_outcome (session_of w session) w session) }
+    ensures sendable { IfOk result GivesSendable }
+    ensures cells { IfOk result GivesFewCells }
+    ensures memory { IfErr result (λ stop. (w : World) → IsAt state.old numbers w
+        → ClosesNoUi w (close_of session) → IsSome (plain_stop stop)) }
+{
+    let Some(place) = place_of(session, state.sessions.len()) else {
+        return Err(Stop::Stranger(session));
+    };
+    if let Some(cause) = state.sessions[place].closed {
+        return Err(Stop::Gone(cause.entry()));
+    }
+    close_at(state, numbers.at, place);
+    let Ok(()) = finish_settled(alloc, state, numbers, false, false) else {
+        return Err(Stop::NoMemory);
+    };
+    Ok(Effect::Closed)
+}
+
+/// What an event makes of a state.
+pub fn happen(
+    alloc: Global,
+    state: &mut State,
+    numbers: Numbers,
+    event: &Event,
+) -> Result<Effect, Stop>
+    requires light { IsLightEvent (plain_event event.now) }
+    requires sealed { AllSealed state.old.editor }
+    requires settled { IsSettled (seen_now state.old.editor) }
+    ensures steps { StepsState state.old state.new numbers result
+        (λ w. step w (plain_event event.now)) }
+    ensures sendable { IfOk result (λ effect. (w : World) → IsAt state.old numbers w
+        → GivesSendable effect) }
+    ensures cells { IfOk result GivesFewCells }
+    ensures memory { IfErr result (λ stop. (w : World) → IsAt state.old numbers w
+        → ClosesNoUi w (plain_event event.now) → IsSome (plain_stop stop)) }
+{
+    match event {
+        Event::Open => open(alloc, state, numbers),
+        Event::Request { session, frame } => request(alloc, state, numbers, *session, frame),
+        Event::Take { session } => take(alloc, state, numbers, *session),
+        Event::Close { session } => close_session(alloc, state, numbers, *session),
+    }
+}
