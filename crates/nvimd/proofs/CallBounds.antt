@@ -1,6 +1,6 @@
 -- A call that came in is bounded.
 use Rattle.std.proofs.Common.{◌≡◌, ℕ, zero, suc, pos, ◌≤◌, Bool, true, false, cond, List, [], ◌∷◌, length, get_or, Option, Some, None, refl, sym, ap, ◌∙◌, subst, arith, length-append}
-use Rattle.std.specs.Prelude.{nat_lt, ◌-◌, ◌-ℤ◌}
+use Rattle.std.specs.Prelude.{◌<◌, ◌^◌, nat_lt, ◌-◌, ◌-ℤ◌}
 use Rattle.nv_value.specs.Content.{Tree, Trees, nil, truth, integer, big, text, bin, list, pairs, ext, opaque, no_more, one}
 use Rattle.nv_msgpack.specs.Spelling.{fixed, Raw, of_text, of_bin, of_ext, unsigned, signed, float, Many, of_list, of_map, Form, unused, alone, raw, many, form, middle, raw_value, many_value, SpelledBy, SpelledWith, Each, SpellsIn}
 use Rattle.nv_msgpack.specs.Within.{SpellsWithin}
@@ -8,7 +8,7 @@ use Rattle.nv_rpc.specs.Steps.{◌>>=◌}
 use Rattle.nv_rpc.specs.Calls.{Call, request, notice, is_number, msgid_in, name_in, params_in, request_in, notice_in, call_in}
 use Rattle.nv_args.specs.Weight.{weight, weights, AreLight}
 use Rattle.nvimd.specs.Reading.{most_depth, most_bytes}
-use Rattle.nvimd.specs.inside.Calling.{IsCallBounded}
+use Rattle.nv_world.specs.Worlds.{IsLightCall}
 
 -- a value that is told by its first byte alone has no string in it
 abbrev pub IsPlain : Form → Type 0
@@ -122,14 +122,14 @@ params_weight (opaque x) params h = cc
 -- a call of this name and these arguments, if there is one, is bounded
 abbrev pub IsBoundedIn : Option Call → Type 0
 IsBoundedIn None = Unit {0}
-IsBoundedIn (Some call) = IsCallBounded call
+IsBoundedIn (Some call) = IsLightCall call
 
 bounded_if : (b : Bool) (o : Option Call) → IsBoundedIn o → IsBoundedIn (cond b o None)
 bounded_if true o h = h
 bounded_if false o h = tt
 
 request_bounded : (id : Option ℕ) (method : Option (List ℕ)) (params : Option Trees)
-    → ((m : List ℕ) → method ≡ Some m → length m ≤ most_bytes) → ((ts : Trees) → params ≡ Some ts → AreLight ts)
+    → ((m : List ℕ) → method ≡ Some m → length m < 2 ^ 31) → ((ts : Trees) → params ≡ Some ts → AreLight ts)
     → IsBoundedIn (id >>= (λ i. method >>= (λ m. params >>= (λ ts. Some (request i m ts)))))
 request_bounded None method params p q = tt
 request_bounded (Some i) None params p q = tt
@@ -137,7 +137,7 @@ request_bounded (Some i) (Some m) None p q = tt
 request_bounded (Some i) (Some m) (Some ts) p q = (p m refl, q ts refl)
 
 notice_bounded : (method : Option (List ℕ)) (params : Option Trees)
-    → ((m : List ℕ) → method ≡ Some m → length m ≤ most_bytes) → ((ts : Trees) → params ≡ Some ts → AreLight ts)
+    → ((m : List ℕ) → method ≡ Some m → length m < 2 ^ 31) → ((ts : Trees) → params ≡ Some ts → AreLight ts)
     → IsBoundedIn (method >>= (λ m. params >>= (λ ts. Some (notice m ts))))
 notice_bounded None params p q = tt
 notice_bounded (Some m) None p q = tt
@@ -156,7 +156,7 @@ in_bounded (list (one kind (one name (one params no_more)))) w =
 in_bounded _ w = tt
 
 -- a call that came in is bounded
-pub call_bounded : (value : Tree) (front : List ℕ) (call : Call) → SpellsWithin most_depth most_bytes value front → call_in value ≡ Some call → IsCallBounded call
+pub call_bounded : (value : Tree) (front : List ℕ) (call : Call) → SpellsWithin most_depth most_bytes value front → call_in value ≡ Some call → IsLightCall call
 call_bounded value front call h e =
     let light : weight value ≤ length front = in_weight most_depth value front h.0 in
     subst IsBoundedIn e (in_bounded value (omega (arith, h.1)))

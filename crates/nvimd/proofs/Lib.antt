@@ -1,6 +1,13 @@
+pub mod Alone
 pub mod CallBounds
+pub mod Following
+pub mod Histories
+pub mod Leaving
 pub mod Lines
-pub mod Outcomes
+pub mod Played
 pub mod ReadsOnce
+pub mod Sending
 pub mod Serving
+pub mod Spelling
 pub mod Steps
+pub mod Taking

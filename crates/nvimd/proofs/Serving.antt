@@ -9,17 +9,20 @@ use Rattle.nv_io.specs.declared.ending.Flaw.TheVariants.{Bad, TooDeep, TooLong, 
 use Rattle.nv_io.specs.declared.ending.Ended.{Ended}
 use Rattle.nv_io.specs.declared.ending.Ended.TheVariants.{Closed, Malformed, Overflowed, ReadFault, WriteFault, Quit, NoMemory}
 use Rattle.nv_rpc.specs.Calls.{Call}
-use Rattle.nv_model.specs.Editors.{ModelEditor, fresh_editor}
-use Rattle.nv_model.specs.Keeping.{fresh_kept}
-use Rattle.nv_model.specs.Standing.{PresentEditor, Stands}
-use Rattle.nv_model.proofs.Changing.{fresh_editor_is_kept}
-use Rattle.nv_dispatch.specs.Calls.{editor_after}
-use Rattle.nv_dispatch.specs.Runs.{usual_limits}
-use Rattle.nvimd.specs.Answers.{first_editor, outcome_of, answer_to, answers_to, editor_after_calls}
+use Rattle.nv_history.specs.Events.{Entry, Cause, overflowed_at, quit_at}
+use Rattle.nv_history.specs.Asking.{calls_of}
+use Rattle.nv_world.specs.Worlds.{WorldRecord}
+use Rattle.nv_linegrid.specs.Told.{Told, nothing_told}
+use Rattle.nv_painter.specs.Painters.{Painting}
+use Rattle.nvimd.specs.Sending.{AreBytesTaken, history_of}
 use Rattle.nvimd.specs.Reading.{Calls, EndsAt, ReadsFrom}
-use Rattle.nvimd.specs.Ends.{WasRead, AnswersAll, AnswersSome, HasEarlier, IfInside, IsUnfinished, SessionEnds}
-use Rattle.nvimd.specs.inside.Serving.{IsNew, AreAnswered, ServesCalls, FinishesCalls, StopsShort, EndsIn, ended_by, Serves, Turns}
+use Rattle.nvimd.specs.Ends.{WasRead, AnswersUpTo, AnswersSome, HasEarlier, IfInside, IsUnfinished, IsFront}
+use Rattle.nvimd.specs.inside.Alone.{IsAlone, IsClosing, IsSent, WentOn, WentPart, WentUpTo}
+use Rattle.nvimd.specs.inside.Leaving.{LeavesAll, LeavesWith}
+use Rattle.nvimd.specs.inside.Worlds.{entries_in}
+use Rattle.nvimd.specs.inside.Serving.{session_entries, client_told, IsNew, ServesCalls, FinishesCalls, StopsShort, StopsClosed, EndsIn, end_by_flaw, Serves, Turns}
 use Rattle.nvimd.specs.declared.session.Session.{Session}
+use Rattle.nvimd.proofs.Sending.{sent_bytes}
 
 -- nothing more went out
 pub known_none : (known : Option (List ℕ)) → known ≡ append_known known []
@@ -37,29 +40,57 @@ calls_then [] more a b p q = subst (λ (l : List ℕ). Calls more (l ++ b)) (sym
 calls_then (call ∷ calls) more a b p q =
     (p.0, p.1 ++ b, p.2, ap (λ (l : List ℕ). l ++ b) p.3 ∙ append_assoc p.0 p.1 b, calls_then calls more p.1 b p.4 q)
 
-pub editor_then : (calls more : List Call) (m : ModelEditor) → editor_after_calls (calls ++ more) m ≡ editor_after_calls more (editor_after_calls calls m)
-editor_then [] more m = refl
-editor_then (call ∷ calls) more m = editor_then calls more (editor_after m (outcome_of call m))
+-- ---- a history that goes on
 
-pub answers_then : (calls more : List Call) (m : ModelEditor) → answers_to (calls ++ more) m ≡ answers_to calls m ++ answers_to more (editor_after_calls calls m)
-answers_then [] more m = refl
-answers_then (call ∷ calls) more m =
-    let later = editor_after m (outcome_of call m) in
-    ap (λ (l : List ℕ). answer_to call m ++ l) (answers_then calls more later)
-    ∙ sym (append_assoc (answer_to call m) (answers_to calls later) (answers_to more (editor_after_calls calls later)))
-
--- calls were answered, and then more
-pub answered_then :
-    (calls more : List Call) (m : ModelEditor) (middle last : PresentEditor) (a b c : Option (List ℕ))
-    → AreAnswered calls m middle a b → AreAnswered more (editor_after_calls calls m) last b c → AreAnswered (calls ++ more) m last a c
-answered_then calls more m middle last a b c p q = record {
-  stands = subst (λ (k : ModelEditor). Stands last k) (sym (editor_then calls more m)) q.stands;
-  written = q.written ∙ ap (λ (o : Option (List ℕ)). append_known o (answers_to more (editor_after_calls calls m))) p.written
-      ∙ known_then a (answers_to calls m) (answers_to more (editor_after_calls calls m))
-      ∙ ap (λ (l : List ℕ). append_known a l) (sym (answers_then calls more m));
+-- nothing was done
+pub went_none : (h : List Entry) (told : Told) (out : Option (List ℕ)) → WentOn [] h h told told out out
+went_none h told out = record {
+  gave = [];
+  asked = sym (append-nil (calls_of 1 h));
+  sent = λ bytes s. subst (λ (l : List ℕ). IsSent h told l) (sym (append-nil bytes)) s;
+  written = known_none out;
 }
 
-reads_at : (number other place spot : ℕ) (calls : List Call) (bytes : List ℕ) (flaw : Option Flaw) → number ≡ other → place ≡ spot → ReadsFrom number place calls bytes flaw → ReadsFrom other spot calls bytes flaw
+-- calls were answered, and then more
+pub went_then : (calls more : List Call) (a b c : List Entry) (t u v : Told) (x y z : Option (List ℕ)) → WentOn calls a b t u x y → WentOn more b c u v y z → WentOn (calls ++ more) a c t v x z
+went_then calls more a b c t u v x y z p q = record {
+  gave = p.gave ++ q.gave;
+  asked = q.asked ∙ ap (λ (l : List Call). l ++ more) p.asked ∙ append_assoc (calls_of 1 a) calls more;
+  sent = λ bytes s. subst (λ (l : List ℕ). IsSent c v l) (append_assoc bytes p.gave q.gave) (q.sent (bytes ++ p.gave) (p.sent bytes s));
+  written = q.written ∙ ap (λ (o : Option (List ℕ)). append_known o q.gave) p.written ∙ known_then x p.gave q.gave;
+}
+
+pub part_then : (Is : List Call → List Entry → Type 0) (calls more next : List Call) (a b c : List Entry) (t u : Told) (x y z : Option (List ℕ)) → WentOn calls a b t u x y → WentPart Is more next b c u y z → WentPart Is (calls ++ more) next a c t x z
+part_then Is calls more next a b c t u x y z p q =
+    let asked : calls_of 1 b ++ more ≡ calls_of 1 a ++ (calls ++ more) =
+    ap (λ (l : List Call). l ++ more) p.asked ∙ append_assoc (calls_of 1 a) calls more in
+    record {
+      has = q.has;
+      gave = p.gave ++ q.gave;
+      last = q.last;
+      count = q.count;
+      answered = λ bytes s.
+          subst (λ (l : List ℕ). AreBytesTaken (history_of (calls_of 1 a ++ (calls ++ more))) l) (append_assoc bytes p.gave q.gave)
+          (subst (λ (l : List Call). AreBytesTaken (history_of l) (bytes ++ p.gave ++ q.gave)) asked (q.answered (bytes ++ p.gave) (p.sent bytes s)));
+      sent = λ bytes s.
+          subst (λ (l : List ℕ). AreBytesTaken c (l ++ q.last)) (append_assoc bytes p.gave q.gave) (q.sent (bytes ++ p.gave) (p.sent bytes s));
+      written = q.written ∙ ap (λ (o : Option (List ℕ)). append_known o (q.gave ++ take q.count q.last)) p.written
+          ∙ known_then x p.gave (q.gave ++ take q.count q.last)
+          ∙ ap (λ (l : List ℕ). append_known x l) (sym (append_assoc p.gave q.gave (take q.count q.last)));
+      is = subst (λ (l : List Call). Is (l ++ next) c) asked q.is;
+    }
+
+pub up_to_then : (cause : Cause) (calls more : List Call) (a b c : List Entry) (t u : Told) (x y z : Option (List ℕ)) → WentOn calls a b t u x y → WentUpTo cause more b c u y z → WentUpTo cause (calls ++ more) a c t x z
+up_to_then cause calls more a b c t u x y z p q = record {
+  later = q.later;
+  went = went_then calls more a b c t u q.later x y z p q.went;
+  whatever = q.whatever;
+  cause_is = q.cause_is;
+}
+
+-- ---- calls in bytes
+
+pub reads_at : (number other place spot : ℕ) (calls : List Call) (bytes : List ℕ) (flaw : Option Flaw) → number ≡ other → place ≡ spot → ReadsFrom number place calls bytes flaw → ReadsFrom other spot calls bytes flaw
 reads_at number other place spot calls bytes flaw e d h =
     subst (λ (n : ℕ). ReadsFrom n spot calls bytes flaw) e (subst (λ (p : ℕ). ReadsFrom number p calls bytes flaw) d h)
 
@@ -79,6 +110,19 @@ reads_then number place (call ∷ calls) more whole bytes flaw p q =
           (reads_at _ (number + 1 + length calls) _ (place + length p.0 + length p.1) more bytes flaw (omega arith) (omega arith) q),
     )
 
+-- the calls that bytes hold stand at their front
+pub calls_read : (number place : ℕ) (calls : List Call) (bytes : List ℕ) (flaw : Option Flaw) → ReadsFrom number place calls bytes flaw → (whole rest : List ℕ) × (bytes ≡ whole ++ rest) × Calls calls whole
+calls_read number place [] bytes flaw h = ([], bytes, refl, refl)
+calls_read number place (call ∷ calls) bytes flaw h =
+    let r = calls_read (number + 1) (place + length h.0) calls h.1 flaw h.4 in (
+      h.0 ++ r.0,
+      r.1,
+      h.3 ∙ ap (λ (l : List ℕ). h.0 ++ l) r.2 ∙ sym (append_assoc h.0 r.0 r.1),
+      (h.0, r.0, h.2, refl, r.3),
+    )
+
+-- ---- a session in steps
+
 -- a session that did nothing
 pub served_none : (s : Session) (out : Option (List ℕ)) → ServesCalls s.stream.held s s out out
 served_none s out = record {
@@ -88,7 +132,7 @@ served_none s out = record {
   parts = refl;
   place = omega arith;
   number = omega arith;
-  answered = λ m is. record { stands = is; written = known_none out };
+  went = went_none (session_entries s) (client_told s) out;
 }
 
 -- one step and the next
@@ -104,7 +148,7 @@ served_then bytes piece first second third a b c p q =
           ∙ ap (λ (l : List ℕ). p.whole ++ l) q.parts ∙ sym (append_assoc p.whole q.whole third.stream.held);
       place = omega (arith, p.place, q.place);
       number = omega (arith, p.number, q.number);
-      answered = λ m is. answered_then p.calls q.calls m second.editor third.editor a b c (p.answered m is) (q.answered (editor_after_calls p.calls m) (p.answered m is).stands);
+      went = went_then p.calls q.calls (session_entries first) (session_entries second) (session_entries third) (client_told first) (client_told second) (client_told third) a b c p.went q.went;
     }
 
 -- one step over what is held and the next
@@ -122,8 +166,8 @@ pub held_more : (piece : List ℕ) (old new : Session) (before after : Option (L
 held_more piece old new before after h =
     omega (arith, h.place, ap (length {A = ℕ}) h.parts, length-append h.whole new.stream.held, length-append old.stream.held piece)
 
-finished_then : (flaw : Option Flaw) (bytes piece : List ℕ) (first second : Session) (a b c : Option (List ℕ)) → ServesCalls bytes first second a b → FinishesCalls flaw (second.stream.held ++ piece) second b c → FinishesCalls flaw (bytes ++ piece) first a c
-finished_then flaw bytes piece first second a b c p q =
+abbrev pub finished_then : (flaw : Option Flaw) (bytes piece : List ℕ) (first second last : Session) (a b c : Option (List ℕ)) → ServesCalls bytes first second a b → FinishesCalls flaw (second.stream.held ++ piece) second last b c → FinishesCalls flaw (bytes ++ piece) first last a c
+finished_then flaw bytes piece first second last a b c p q =
     let split : bytes ++ piece ≡ p.whole ++ (second.stream.held ++ piece) =
     ap (λ (l : List ℕ). l ++ piece) p.parts ∙ append_assoc p.whole second.stream.held piece in
     record {
@@ -131,12 +175,10 @@ finished_then flaw bytes piece first second a b c p q =
       reads = subst (λ (l : List ℕ). ReadsFrom first.number first.stream.start (p.calls ++ q.calls) l flaw) (sym split)
           (reads_then first.number first.stream.start p.calls q.calls p.whole (second.stream.held ++ piece) flaw p.spelled
           (reads_at second.number (first.number + length p.calls) second.stream.start (first.stream.start + length p.whole) q.calls (second.stream.held ++ piece) flaw p.number p.place q.reads));
-      written = λ m is.
-          let later = editor_after_calls p.calls m in
-          q.written later (p.answered m is).stands
-          ∙ ap (λ (o : Option (List ℕ)). append_known o (answers_to q.calls later)) (p.answered m is).written
-          ∙ known_then a (answers_to p.calls m) (answers_to q.calls later)
-          ∙ ap (λ (l : List ℕ). append_known a l) (sym (answers_then p.calls q.calls m));
+      later = q.later;
+      went = went_then p.calls q.calls (session_entries first) (session_entries second) (session_entries last) (client_told first) (client_told second) q.later a b c p.went q.went;
+      own = q.own;
+      alone = q.alone;
     }
 
 -- the first bytes, up to some in the second part
@@ -146,54 +188,49 @@ take_past (x ∷ a) b n =
     let e : length (x ∷ a) + n ≡ suc (length a + n) = omega arith in
     ap (λ (k : ℕ). take k (x ∷ (a ++ b))) e ∙ ap (λ (l : List ℕ). x ∷ l) (take_past a b n)
 
--- what went out for calls, and then for more and a part of what follows
-cut_written : (calls more next : List Call) (count : ℕ) (m : ModelEditor) (a b c : Option (List ℕ))
-    → b ≡ append_known a (answers_to calls m)
-    → c ≡ append_known b (answers_to more (editor_after_calls calls m) ++ take count (answers_to next (editor_after_calls more (editor_after_calls calls m))))
-    → c ≡ append_known a (answers_to (calls ++ more) m ++ take count (answers_to next (editor_after_calls (calls ++ more) m)))
-cut_written calls more next count m a b c p q =
-    let later = editor_after_calls calls m in
-    let front = answers_to calls m in
-    let middle = answers_to more later in
-    let part : ModelEditor → List ℕ = λ k. take count (answers_to next k) in
-    q ∙ ap (λ (o : Option (List ℕ)). append_known o (middle ++ part (editor_after_calls more later))) p
-    ∙ known_then a front (middle ++ part (editor_after_calls more later))
-    ∙ ap (λ (l : List ℕ). append_known a l) (
-    sym (append_assoc front middle (part (editor_after_calls more later)))
-    ∙ ap (λ (l : List ℕ). l ++ part (editor_after_calls more later)) (sym (answers_then calls more m))
-    ∙ ap (λ (k : ModelEditor). answers_to (calls ++ more) m ++ part k) (sym (editor_then calls more m))
-    )
+-- the bytes of steps, and of what follows
+pub parts_then : (bytes piece whole held more rest : List ℕ) → bytes ≡ whole ++ held → held ++ piece ≡ more ++ rest → bytes ++ piece ≡ (whole ++ more) ++ rest
+parts_then bytes piece whole held more rest p q =
+    ap (λ (l : List ℕ). l ++ piece) p ∙ append_assoc whole held piece ∙ ap (λ (l : List ℕ). whole ++ l) q ∙ sym (append_assoc whole more rest)
 
-cut_then : (bytes piece : List ℕ) (first second : Session) (a b c : Option (List ℕ)) → ServesCalls bytes first second a b → StopsShort (second.stream.held ++ piece) second b c → StopsShort (bytes ++ piece) first a c
-cut_then bytes piece first second a b c p q = record {
+abbrev pub cut_then : (Is : List Call → List Entry → Type 0) (bytes piece : List ℕ) (first second last : Session) (a b c : Option (List ℕ)) → ServesCalls bytes first second a b → StopsShort Is (second.stream.held ++ piece) second last b c → StopsShort Is (bytes ++ piece) first last a c
+cut_then Is bytes piece first second last a b c p q = record {
   calls = p.calls ++ q.calls;
   next = q.next;
   at_most_one = q.at_most_one;
   whole = p.whole ++ q.whole;
   rest = q.rest;
-  parts = ap (λ (l : List ℕ). l ++ piece) p.parts ∙ append_assoc p.whole second.stream.held piece
-      ∙ ap (λ (l : List ℕ). p.whole ++ l) q.parts ∙ sym (append_assoc p.whole q.whole q.rest);
+  parts = parts_then bytes piece p.whole second.stream.held q.whole q.rest p.parts q.parts;
   spelled = subst (λ (cs : List Call). Calls cs (p.whole ++ q.whole)) (sym (append_assoc p.calls q.calls q.next))
       (calls_then p.calls (q.calls ++ q.next) p.whole q.whole p.spelled q.spelled);
-  count = q.count;
-  written = λ m is. cut_written p.calls q.calls q.next q.count m a b c (p.answered m is).written (q.written (editor_after_calls p.calls m) (p.answered m is).stands);
+  went = part_then Is p.calls q.calls q.next (session_entries first) (session_entries second) (session_entries last) (client_told first) (client_told second) a b c p.went q.went;
+}
+
+abbrev pub closed_then : (cause : Cause) (bytes piece : List ℕ) (first second last : Session) (a b c : Option (List ℕ)) → ServesCalls bytes first second a b → StopsClosed cause (second.stream.held ++ piece) second last b c → StopsClosed cause (bytes ++ piece) first last a c
+closed_then cause bytes piece first second last a b c p q = record {
+  calls = p.calls ++ q.calls;
+  whole = p.whole ++ q.whole;
+  rest = q.rest;
+  parts = parts_then bytes piece p.whole second.stream.held q.whole q.rest p.parts q.parts;
+  spelled = calls_then p.calls q.calls p.whole q.whole p.spelled q.spelled;
+  went = up_to_then cause p.calls q.calls (session_entries first) (session_entries second) (session_entries last) (client_told first) (client_told second) a b c p.went q.went;
 }
 
 -- steps, and then an end
-pub ends_then : (over : Type 0) (ended : Ended) (bytes piece : List ℕ) (first second : Session) (a b c : Option (List ℕ)) → ServesCalls bytes first second a b → EndsIn over ended (second.stream.held ++ piece) second b c → EndsIn over ended (bytes ++ piece) first a c
-ends_then over Closed bytes piece first second a b c p q = (finished_then None bytes piece first second a b c p q.0, q.1)
-ends_then over (Malformed flaw) bytes piece first second a b c p q = (finished_then (Some flaw) bytes piece first second a b c p q.0, q.1)
-ends_then over ReadFault bytes piece first second a b c p q = (q.0, q.1, finished_then q.0 bytes piece first second a b c p q.2)
-ends_then over WriteFault bytes piece first second a b c p q = cut_then bytes piece first second a b c p q
-ends_then over NoMemory bytes piece first second a b c p q = cut_then bytes piece first second a b c p q
-ends_then over (Overflowed entry) bytes piece first second a b c p q = absurd q
-ends_then over (Quit entry) bytes piece first second a b c p q = absurd q
+pub ends_then : (over : Type 0) (ended : Ended) (bytes piece : List ℕ) (first second last : Session) (a b c : Option (List ℕ)) → ServesCalls bytes first second a b → EndsIn over ended (second.stream.held ++ piece) second last b c → EndsIn over ended (bytes ++ piece) first last a c
+ends_then over Closed bytes piece first second last a b c p q = (finished_then None bytes piece first second last a b c p q.0, q.1)
+ends_then over (Malformed flaw) bytes piece first second last a b c p q = (finished_then (Some flaw) bytes piece first second last a b c p q.0, q.1)
+ends_then over ReadFault bytes piece first second last a b c p q = (q.0, q.1, finished_then q.0 bytes piece first second last a b c p q.2)
+ends_then over WriteFault bytes piece first second last a b c p q = (cut_then IsClosing bytes piece first second last a b c p q.0, q.1)
+ends_then over NoMemory bytes piece first second last a b c p q = cut_then IsFront bytes piece first second last a b c p q
+ends_then over (Overflowed entry) bytes piece first second last a b c p q = closed_then (overflowed_at entry) bytes piece first second last a b c p q
+ends_then over (Quit entry) bytes piece first second last a b c p q = closed_then (quit_at entry) bytes piece first second last a b c p q
 
 -- steps over what is held, and then an end
-pub ends_on : (over : Type 0) (ended : Ended) (bytes : List ℕ) (first second : Session) (a b c : Option (List ℕ)) → ServesCalls bytes first second a b → EndsIn over ended second.stream.held second b c → EndsIn over ended bytes first a c
-ends_on over ended bytes first second a b c p q =
-    subst (λ (l : List ℕ). EndsIn over ended l first a c) (append-nil bytes)
-    (ends_then over ended bytes [] first second a b c p (subst (λ (l : List ℕ). EndsIn over ended l second b c) (sym (append-nil second.stream.held)) q))
+pub ends_on : (over : Type 0) (ended : Ended) (bytes : List ℕ) (first second last : Session) (a b c : Option (List ℕ)) → ServesCalls bytes first second a b → EndsIn over ended second.stream.held second last b c → EndsIn over ended bytes first last a c
+ends_on over ended bytes first second last a b c p q =
+    subst (λ (l : List ℕ). EndsIn over ended l first last a c) (append-nil bytes)
+    (ends_then over ended bytes [] first second last a b c p (subst (λ (l : List ℕ). EndsIn over ended l second last b c) (sym (append-nil second.stream.held)) q))
 
 inside_by : (over other : Type 0) (flaw : Flaw) → (over → other) → IfInside flaw over → IfInside flaw other
 inside_by over other (Inside place) f h = f h
@@ -203,24 +240,35 @@ inside_by over other (TooLong place) f h = tt
 inside_by over other (NoCall place) f h = tt
 
 -- an end for another reason that no more bytes come
-pub ends_by : (over other : Type 0) (ended : Ended) (bytes : List ℕ) (s : Session) (a b : Option (List ℕ)) → (over → other) → EndsIn over ended bytes s a b → EndsIn other ended bytes s a b
-ends_by over other Closed bytes s a b f h = (h.0, f h.1)
-ends_by over other (Malformed flaw) bytes s a b f h = (h.0, inside_by over other flaw f h.1)
-ends_by over other ReadFault bytes s a b f h = h
-ends_by over other WriteFault bytes s a b f h = h
-ends_by over other NoMemory bytes s a b f h = h
-ends_by over other (Overflowed entry) bytes s a b f h = h
-ends_by over other (Quit entry) bytes s a b f h = h
+pub ends_by : (over other : Type 0) (ended : Ended) (bytes : List ℕ) (s last : Session) (a b : Option (List ℕ)) → (over → other) → EndsIn over ended bytes s last a b → EndsIn other ended bytes s last a b
+ends_by over other Closed bytes s last a b f h = (h.0, f h.1)
+ends_by over other (Malformed flaw) bytes s last a b f h = (h.0, inside_by over other flaw f h.1)
+ends_by over other ReadFault bytes s last a b f h = h
+ends_by over other WriteFault bytes s last a b f h = h
+ends_by over other NoMemory bytes s last a b f h = h
+ends_by over other (Overflowed entry) bytes s last a b f h = h
+ends_by over other (Quit entry) bytes s last a b f h = h
 
--- the editor of a session at its first byte stands for the fresh one
-pub first_stands : (s : Session) → IsNew s → Stands s.editor first_editor
-first_stands s n = subst (λ (e : PresentEditor). Stands e first_editor) (sym n.first) (fresh_editor_is_kept usual_limits)
+-- ---- a session from its first byte on
 
-all_answered : (flaw : Option Flaw) (bytes : List ℕ) (s : Session) (a b : Option (List ℕ)) → IsNew s → FinishesCalls flaw bytes s a b → AnswersAll flaw bytes a b
-all_answered flaw bytes s a b n h = record {
+-- nothing was sent of a session to which nothing came
+new_sent : (s : Session) → IsNew s → IsSent (session_entries s) (client_told s) []
+new_sent s n =
+    subst (λ (h : List Entry). IsSent h (client_told s) []) (sym n.first) ([], (refl, refl, n.untold))
+
+new_asked : (s : Session) → IsNew s → calls_of 1 (session_entries s) ≡ []
+new_asked s n = ap (calls_of 1) n.first
+
+all_answered : (flaw : Option Flaw) (bytes : List ℕ) (s last : Session) (a b : Option (List ℕ)) (n : IsNew s) (h : FinishesCalls flaw bytes s last a b) → HasEarlier h.calls bytes → LeavesAll flaw bytes (session_entries last) a b
+all_answered flaw bytes s last a b n h earlier = record {
   calls = h.calls;
   reads = reads_at s.number 0 s.stream.start 0 h.calls bytes flaw n.none n.place h.reads;
-  written = h.written first_editor (first_stands s n);
+  earlier = earlier;
+  asked = h.went.asked ∙ ap (λ (l : List Call). l ++ h.calls) (new_asked s n);
+  alone = h.alone;
+  sent = h.went.gave;
+  sent_is = sent_bytes (session_entries last) h.later h.went.gave (h.went.sent [] (new_sent s n));
+  written = h.went.written;
 }
 
 -- calls before a place that ends so, as a session at its first byte read them
@@ -233,14 +281,27 @@ earlier_reads bytes first second a b flaw n p e =
     (subst (λ (l : List ℕ). ReadsFrom first.number first.stream.start p.calls l flaw) (sym p.parts)
     (subst (λ (cs : List Call). ReadsFrom first.number first.stream.start cs (p.whole ++ second.stream.held) flaw) (append-nil p.calls) all))
 
+-- the calls that were whole before a read, of those that were answered by its end
+has_earlier : (bytes piece : List ℕ) (first second : Session) (more : List Call) (a b : Option (List ℕ)) (flaw : Option Flaw) → IsNew first → (p : ServesCalls bytes first second a b)
+    → IsUnfinished flaw → EndsAt second.number second.stream.start second.stream.held flaw → length piece ≤ 65536 → HasEarlier (p.calls ++ more) (bytes ++ piece)
+has_earlier bytes piece first second more a b flaw n p u e short = record {
+  earlier = bytes;
+  last = piece;
+  parts = refl;
+  short = short;
+  first = p.calls;
+  later = more;
+  flaw = flaw;
+  unfinished = u;
+  reads = earlier_reads bytes first second a b flaw n p e;
+  begins = refl;
+}
+
 -- the answers were cut short
-some_answered :
-    (bytes piece : List ℕ) (first second : Session) (a b c : Option (List ℕ)) (flaw : Option Flaw) → IsNew first → ServesCalls bytes first second a b
-    → IsUnfinished flaw → EndsAt second.number second.stream.start second.stream.held flaw → length piece ≤ 65536
-    → StopsShort (second.stream.held ++ piece) second b c → AnswersSome (bytes ++ piece) a c
-unfolding cut_then
-some_answered bytes piece first second a b c flaw n p u e short q =
-    let h = cut_then bytes piece first second a b c p q in
+some_answered : (Is : List Call → List Entry → Type 0) (bytes : List ℕ) (s last : Session) (a b : Option (List ℕ)) (n : IsNew s) (h : StopsShort Is bytes s last a b) → HasEarlier h.calls bytes → AnswersSome Is bytes (session_entries last) a b
+some_answered Is bytes s last a b n h earlier =
+    let w = h.went in
+    let asked : calls_of 1 (session_entries s) ≡ [] = new_asked s n in
     record {
       calls = h.calls;
       next = h.next;
@@ -249,25 +310,38 @@ some_answered bytes piece first second a b c flaw n p u e short q =
       rest = h.rest;
       parts = h.parts;
       reads = h.spelled;
-      earlier = record {
-        earlier = bytes;
-        last = piece;
-        parts = refl;
-        short = short;
-        first = p.calls;
-        later = q.calls;
-        flaw = flaw;
-        unfinished = u;
-        reads = earlier_reads bytes first second a b flaw n p e;
-        begins = refl;
-      };
-      count = h.count;
-      written = h.written first_editor (first_stands first n);
+      earlier = earlier;
+      history = subst (λ (l : List Call). Is (l ++ h.calls ++ h.next) (session_entries last)) asked w.is;
+      front = w.gave;
+      front_is = subst (λ (l : List Call). AreBytesTaken (history_of (l ++ h.calls)) w.gave) asked (w.answered [] (new_sent s n));
+      last_sent = w.last;
+      sent_is = w.sent [] (new_sent s n);
+      count = w.count;
+      written = w.written;
+    }
+
+-- the session was closed by a call
+closed_answered : (cause : Cause) (bytes : List ℕ) (s last : Session) (a b : Option (List ℕ)) → IsNew s → StopsClosed cause bytes s last a b → AnswersUpTo cause bytes (session_entries last) a b
+closed_answered cause bytes s last a b n h =
+    let w = h.went in
+    let asked : calls_of 1 (session_entries last) ≡ h.calls = w.went.asked ∙ ap (λ (l : List Call). l ++ h.calls) (new_asked s n) in
+    record {
+      calls = h.calls;
+      whole = h.whole;
+      rest = h.rest;
+      parts = h.parts;
+      reads = h.spelled;
+      history = λ more. w.whatever more ∙ ap (λ (l : List Call). history_of (l ++ more)) asked;
+      asked = asked;
+      closed = w.cause_is;
+      sent = w.went.gave;
+      sent_is = sent_bytes (session_entries last) w.later w.went.gave (w.went.sent [] (new_sent s n));
+      written = w.went.written;
     }
 
 -- a session that holds a piece more
-pub served_fed : (piece : List ℕ) (old middle : Session) (out : Option (List ℕ)) → middle.stream ≡ with_piece old.stream piece → middle.number ≡ old.number → middle.editor ≡ old.editor → ServesCalls (old.stream.held ++ piece) old middle out out
-served_fed piece old middle out s n t =
+pub served_fed : (piece : List ℕ) (old middle : Session) (out : Option (List ℕ)) → middle.stream ≡ with_piece old.stream piece → middle.number ≡ old.number → middle.world ≡ old.world → middle.painter ≡ old.painter → ServesCalls (old.stream.held ++ piece) old middle out out
+served_fed piece old middle out s n t k =
     let place : middle.stream.start ≡ old.stream.start = ap (λ (x : State). x.start) s in
     record {
       calls = [];
@@ -276,18 +350,19 @@ served_fed piece old middle out s n t =
       parts = sym (ap (λ (x : State). x.held) s);
       place = omega arith;
       number = omega arith;
-      answered = λ m is. record { stands = subst (λ (e : PresentEditor). Stands e m) (sym t) is; written = known_none out };
+      went = subst (λ (x : WorldRecord). WentOn [] (session_entries old) (entries_in x) (client_told old) (client_told middle) out out) (sym t)
+          (subst (λ (q : Painting). WentOn [] (session_entries old) (session_entries old) (client_told old) q.told out out) (sym k) (went_none (session_entries old) (client_told old) out));
     }
 
 -- a piece was held, and then its calls were served
-pub turned : {A : Type 0} (over : Type 0) (done : Result A Ended) (piece : List ℕ) (old middle new : Session) (before after : Option (List ℕ)) → middle.stream ≡ with_piece old.stream piece → middle.number ≡ old.number → middle.editor ≡ old.editor
+pub turned : {A : Type 0} (over : Type 0) (done : Result A Ended) (piece : List ℕ) (old middle new : Session) (before after : Option (List ℕ)) → middle.stream ≡ with_piece old.stream piece → middle.number ≡ old.number → middle.world ≡ old.world → middle.painter ≡ old.painter
     → 0 < length piece → length piece ≤ 65536 → Serves ⊥ done middle.stream.held middle new before after → Turns over done piece old new before after
-turned over (Ok done) piece old middle new before after s n t some few h =
-    (served_on (old.stream.held ++ piece) old middle new before before after (served_fed piece old middle before s n t) h.0, h.1, h.2, some, few)
-turned over (Err ended) piece old middle new before after s n t some few h = (
+turned over (Ok done) piece old middle new before after s n t k some few h =
+    (served_on (old.stream.held ++ piece) old middle new before before after (served_fed piece old middle before s n t k) h.0, h.1, h.2, some, few)
+turned over (Err ended) piece old middle new before after s n t k some few h = (
   few,
-  ends_by ⊥ over ended (old.stream.held ++ piece) old before after (λ e. absurd e)
-      (ends_on ⊥ ended (old.stream.held ++ piece) old middle before before after (served_fed piece old middle before s n t) h),
+  ends_by ⊥ over ended (old.stream.held ++ piece) old new before after (λ e. absurd e)
+      (ends_on ⊥ ended (old.stream.held ++ piece) old middle new before before after (served_fed piece old middle before s n t k) h),
 )
 
 prepend_then : (a b : List ℕ) (known : Option (List ℕ)) → prepend_known a (prepend_known b known) ≡ prepend_known (a ++ b) known
@@ -312,8 +387,8 @@ served_length bytes old new before after n h =
     omega (arith, n.place, h.place, ap (length {A = ℕ}) h.parts, length-append h.whole new.stream.held)
 
 -- a session that ended before anything came
-pub ends_before : (left out : Option (List ℕ)) → SessionEnds NoMemory [] left out out
-ends_before left out = record {
+pub leaves_before : (left out : Option (List ℕ)) → LeavesWith NoMemory [] left [] out out
+leaves_before left out = record {
   calls = [];
   next = [];
   at_most_one = omega arith;
@@ -322,45 +397,84 @@ ends_before left out = record {
   parts = refl;
   reads = refl;
   earlier = record { earlier = []; last = []; parts = refl; short = omega arith; first = []; later = []; flaw = None; unfinished = tt; reads = refl; begins = refl };
+  history = (history_of [], refl);
+  front = [];
+  front_is = ([], nothing_told, (refl, refl, refl));
+  last_sent = [];
+  sent_is = ([], nothing_told, (refl, refl, refl));
   count = 0;
   written = known_none out;
 }
 
 -- a turn ended a session
-pub ends_turn : (ended : Ended) (bytes piece : List ℕ) (left : Option (List ℕ)) (first second : Session) (a b c : Option (List ℕ)) (flaw : Option Flaw) → IsNew first → ServesCalls bytes first second a b
+pub leaves_turn : (ended : Ended) (bytes piece : List ℕ) (left : Option (List ℕ)) (first second last : Session) (a b c : Option (List ℕ)) (flaw : Option Flaw) → IsNew first → ServesCalls bytes first second a b
     → IsUnfinished flaw → EndsAt second.number second.stream.start second.stream.held flaw → length piece ≤ 65536
-    → EndsIn (IsAtEnd left) ended (second.stream.held ++ piece) second b c → SessionEnds ended (bytes ++ piece) left a c
-ends_turn Closed bytes piece left first second a b c flaw n p u e short q =
-    (all_answered None (bytes ++ piece) first a c n (finished_then None bytes piece first second a b c p q.0), inl q.1)
-ends_turn (Malformed found) bytes piece left first second a b c flaw n p u e short q = (
-  all_answered (Some found) (bytes ++ piece) first a c n (finished_then (Some found) bytes piece first second a b c p q.0),
+    → EndsIn (IsAtEnd left) ended (second.stream.held ++ piece) second last b c → LeavesWith ended (bytes ++ piece) left (session_entries last) a c
+leaves_turn Closed bytes piece left first second last a b c flaw n p u e short q = (
+  all_answered None (bytes ++ piece) first last a c n (finished_then None bytes piece first second last a b c p q.0)
+      (has_earlier bytes piece first second q.0.calls a b flaw n p u e short),
+  inl q.1,
+)
+leaves_turn (Malformed found) bytes piece left first second last a b c flaw n p u e short q = (
+  all_answered (Some found) (bytes ++ piece) first last a c n (finished_then (Some found) bytes piece first second last a b c p q.0)
+      (has_earlier bytes piece first second q.0.calls a b flaw n p u e short),
   inside_by (IsAtEnd left) (WasRead left (bytes ++ piece)) found (λ h. inl h) q.1,
 )
-ends_turn ReadFault bytes piece left first second a b c flaw n p u e short q =
-    (q.0, q.1, all_answered q.0 (bytes ++ piece) first a c n (finished_then q.0 bytes piece first second a b c p q.2))
-ends_turn WriteFault bytes piece left first second a b c flaw n p u e short q = some_answered bytes piece first second a b c flaw n p u e short q
-ends_turn NoMemory bytes piece left first second a b c flaw n p u e short q = some_answered bytes piece first second a b c flaw n p u e short q
-ends_turn (Overflowed entry) bytes piece left first second a b c flaw n p u e short q = absurd q
-ends_turn (Quit entry) bytes piece left first second a b c flaw n p u e short q = absurd q
+leaves_turn ReadFault bytes piece left first second last a b c flaw n p u e short q = (
+  q.0,
+  q.1,
+  all_answered q.0 (bytes ++ piece) first last a c n (finished_then q.0 bytes piece first second last a b c p q.2)
+      (has_earlier bytes piece first second q.2.calls a b flaw n p u e short),
+)
+leaves_turn WriteFault bytes piece left first second last a b c flaw n p u e short q =
+    some_answered IsClosing (bytes ++ piece) first last a c n (cut_then IsClosing bytes piece first second last a b c p q.0)
+    (has_earlier bytes piece first second q.0.calls a b flaw n p u e short)
+leaves_turn NoMemory bytes piece left first second last a b c flaw n p u e short q =
+    some_answered IsFront (bytes ++ piece) first last a c n (cut_then IsFront bytes piece first second last a b c p q)
+    (has_earlier bytes piece first second q.calls a b flaw n p u e short)
+leaves_turn (Overflowed entry) bytes piece left first second last a b c flaw n p u e short q =
+    closed_answered (overflowed_at entry) (bytes ++ piece) first last a c n (closed_then (overflowed_at entry) bytes piece first second last a b c p q)
+leaves_turn (Quit entry) bytes piece left first second last a b c flaw n p u e short q =
+    closed_answered (quit_at entry) (bytes ++ piece) first last a c n (closed_then (quit_at entry) bytes piece first second last a b c p q)
 
 -- the end of a session to which no more bytes come is no fault
-pub not_read_fault : (flaw : Option Flaw) → ended_by flaw ≡ ReadFault → ⊥
+pub not_read_fault : (flaw : Option Flaw) → end_by_flaw flaw ≡ ReadFault → ⊥
 not_read_fault None e = cc
 not_read_fault (Some flaw) e = cc
 
-pub not_write_fault : (flaw : Option Flaw) → ended_by flaw ≡ WriteFault → ⊥
+pub not_write_fault : (flaw : Option Flaw) → end_by_flaw flaw ≡ WriteFault → ⊥
 not_write_fault None e = cc
 not_write_fault (Some flaw) e = cc
 
 -- a session from whose source so many bytes came that it counts as ended
-ends_at_most : (flaw : Option Flaw) (bytes : List ℕ) (left : Option (List ℕ)) (first : Session) (a b : Option (List ℕ)) → IsNew first
-    → EndsIn (WasRead left bytes) (ended_by flaw) bytes first a b → SessionEnds (ended_by flaw) bytes left a b
-ends_at_most None bytes left first a b n h = (all_answered None bytes first a b n h.0, h.1)
-ends_at_most (Some flaw) bytes left first a b n h = (all_answered (Some flaw) bytes first a b n h.0, h.1)
+leaves_at_most : (flaw : Option Flaw) (bytes : List ℕ) (left : Option (List ℕ)) (first second : Session) (a b : Option (List ℕ)) → IsNew first → (p : ServesCalls bytes first second a b)
+    → IsUnfinished flaw → EndsAt second.number second.stream.start second.stream.held flaw → IsAlone (session_entries second) → WasRead left bytes
+    → LeavesWith (end_by_flaw flaw) bytes left (session_entries second) a b
+leaves_at_most flaw bytes left first second a b n p u e alone over =
+    let reads = earlier_reads bytes first second a b flaw n p e in
+    let asked : calls_of 1 (session_entries second) ≡ p.calls = p.went.asked ∙ ap (λ (l : List Call). l ++ p.calls) (new_asked first n) in
+    let all : LeavesAll flaw bytes (session_entries second) a b = record {
+      calls = p.calls;
+      reads = reads;
+      earlier = record { earlier = bytes; last = []; parts = sym (append-nil bytes); short = omega arith; first = p.calls; later = []; flaw = flaw; unfinished = u; reads = reads; begins = sym (append-nil p.calls) };
+      asked = asked;
+      alone = alone;
+      sent = p.went.gave;
+      sent_is = sent_bytes (session_entries second) (client_told second) p.went.gave (p.went.sent [] (new_sent first n));
+      written = p.went.written;
+    } in
+    by_flaw flaw u all
+  where
+    by_flaw : (f : Option Flaw) → IsUnfinished f → LeavesAll f bytes (session_entries second) a b → LeavesWith (end_by_flaw f) bytes left (session_entries second) a b
+    by_flaw None u all = (all, over)
+    by_flaw (Some (Inside place)) u all = (all, over)
+    by_flaw (Some (Bad place)) u all = absurd u
+    by_flaw (Some (TooDeep place)) u all = absurd u
+    by_flaw (Some (TooLong place)) u all = absurd u
+    by_flaw (Some (NoCall place)) u all = absurd u
 
-pub ends_full : (ended : Ended) (flaw : Option Flaw) (bytes : List ℕ) (left : Option (List ℕ)) (first second : Session) (a b : Option (List ℕ)) → ended ≡ ended_by flaw → IsNew first → ServesCalls bytes first second a b
-    → EndsIn (WasRead left bytes) ended second.stream.held second b b → SessionEnds ended bytes left a b
-ends_full ended flaw bytes left first second a b e n p q =
-    let h = ends_on (WasRead left bytes) ended bytes first second a b b p q in
-    subst (λ (x : Ended). SessionEnds x bytes left a b) (sym e)
-    (ends_at_most flaw bytes left first a b n (subst (λ (x : Ended). EndsIn (WasRead left bytes) x bytes first a b) e h))
+pub leaves_full : (ended : Ended) (flaw : Option Flaw) (bytes : List ℕ) (left : Option (List ℕ)) (first second : Session) (a b : Option (List ℕ)) → ended ≡ end_by_flaw flaw → IsNew first → ServesCalls bytes first second a b
+    → IsUnfinished flaw → EndsAt second.number second.stream.start second.stream.held flaw → IsAlone (session_entries second) → WasRead left bytes
+    → LeavesWith ended bytes left (session_entries second) a b
+leaves_full ended flaw bytes left first second a b e n p u at alone over =
+    subst (λ (x : Ended). LeavesWith x bytes left (session_entries second) a b) (sym e) (leaves_at_most flaw bytes left first second a b n p u at alone over)

@@ -1,3 +1,5 @@
 -- What private contracts alone cite.
-pub mod Calling
+pub mod Alone
+pub mod Leaving
 pub mod Serving
+pub mod Worlds

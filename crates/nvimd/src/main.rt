@@ -1,7 +1,7 @@
 //! A headless Neovim: an editor that programs use through Neovim's API over MessagePack-RPC.
 #![tactic(auto)]
 
-mod answering;
+mod asking;
 mod command;
 mod laws;
 mod session;
@@ -11,6 +11,7 @@ mod whole;
 
 use command::run;
 use nv_io::{Ended, StdErr, StdIn, StdOut};
+use nv_world::History;
 use std::process::ExitCode;
 use std::{env, io};
 use telling::{status_of, tell_end};
@@ -26,13 +27,22 @@ fn main(rt: HostRuntime) -> ExitCode {
     let mut input = StdIn::new(rt.stdin());
     let mut output = StdOut::new(rt.stdout());
     let mut errors = StdErr::new(rt.stderr());
+    let mut kept = History::new(alloc);
     let status = match words_of(&rt) {
         Ok(strings) => match strings
             .iter()
             .map(|word| word.as_str())
             .collect::<Vec<&str>>(alloc)
         {
-            Ok(words) => run(&rt, alloc, &words, &mut input, &mut output, &mut errors),
+            Ok(words) => run(
+                &rt,
+                alloc,
+                &words,
+                &mut input,
+                &mut output,
+                &mut errors,
+                &mut kept,
+            ),
             Err(_) => want_of_memory(&rt, &mut errors),
         },
         Err(error) if error.kind() == io::ErrorKind::OutOfMemory => want_of_memory(
@@ -40,7 +50,15 @@ fn main(rt: HostRuntime) -> ExitCode {
             &mut errors,
         ),
         // A word that isn't UTF-8 is no word of a command.
-        Err(_) => run(&rt, alloc, &[], &mut input, &mut output, &mut errors),
+        Err(_) => run(
+            &rt,
+            alloc,
+            &[],
+            &mut input,
+            &mut output,
+            &mut errors,
+            &mut kept,
+        ),
     };
     ExitCode::from(status)
 }

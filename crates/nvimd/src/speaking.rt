@@ -1,55 +1,80 @@
-//! Messages on their way out.
-ghost use Rattle.std.specs.Prelude.{◌≡◌, ◌≤◌, All, OnOk, IfErr, Err};
+//! What a session is sent on its way out.
+ghost use Rattle.std.specs.Prelude.{◌≡◌, ◌≤◌, ◌++◌, map, All, IfOk, OnOk, IfErr, Err};
 ghost use Rattle.std.specs.Io.KnownBytes.{append_known};
 ghost use Rattle.nv_io.specs.Faults.{Rose};
-ghost use Rattle.nv_msgpack.specs.Shortest.{shortest};
-ghost use Rattle.nv_rpc.specs.Messages.{message_tree, IsSendable};
+ghost use Rattle.nv_rpc.specs.Messages.{IsSendable};
 ghost use Rattle.nv_rpc.specs.MessageView.{sent_of};
-ghost use Rattle.nvimd.specs.Answers.{bytes_of_messages};
-ghost use Rattle.nvimd.specs.inside.Calling.{messages_of};
+ghost use Rattle.nv_painter.specs.Spoken.{IsSoundIfThere};
+ghost use Rattle.nv_history.specs.Spoken.{told_with};
+ghost use Rattle.nv_world.specs.Contents.{sent_of_shared};
+ghost use Rattle.nvimd.specs.inside.Alone.{bytes_of_batch};
 ghost use Rattle.nvimd.specs.inside.Serving.{WroteFront, IsCutShort};
 
 use nv_io::{Ended, Sink, put_all};
-use nv_msgpack::encode;
-use nv_rpc::{Message, into_value};
+use nv_painter::{Batch as SpokenBatch, Painter};
+use nv_rpc::Message;
+use nv_world::{Batch, SharedMessage};
 use std::alloc::{AllocError, Global};
 use std::fs::File;
 use std::net::{Net, TcpListener, TcpStream};
 use std::rt::Files;
 
-// Puts the shortest spelling of a message in place of what `room` held.
-fn spell(alloc: Global, message: Message, room: &mut Vec<u8>) -> Result<(), AllocError>
-    requires { IsSendable (sent_of message) }
-    ensures { OnOk result (room.new.items ≡ shortest (message_tree (sent_of message))) }
+// Each message by itself.
+fn own_messages(alloc: Global, shared: Vec<SharedMessage>) -> Result<Vec<Message>, AllocError>
+    ensures { IfOk result (λ messages. map sent_of messages.items
+        ≡ map sent_of_shared shared.items) }
 {
-    let value = into_value(alloc, message)?;
-    room.clear();
-    encode(&value, room)
+    let mut messages = Vec::with_capacity(alloc, shared.len())?;
+    for message in shared {
+        messages.push(message.into_message(alloc)?)?;
+    }
+    Ok(messages)
 }
 
-/// Writes a message to `output`, where there is one, in its shortest spelling. `room` is memory
-/// that is used again from message to message.
+// Puts the bytes of a batch in place of what `room` held: the shortest spellings of its messages,
+// and then the redraw notification that shows its scene, where it has one.
+fn spell(
+    alloc: Global,
+    batch: Batch,
+    painter: &mut Painter,
+    room: &mut Vec<u8>,
+) -> Result<(), AllocError>
+    requires sendable { All IsSendable (map sent_of_shared batch.messages.items) }
+    requires sound { IsSoundIfThere batch.scene }
+    ensures bytes { OnOk result (room.new.items ≡ bytes_of_batch painter.old.told
+        (map sent_of_shared batch.messages.items) batch.scene) }
+    ensures told { OnOk result (painter.new.told ≡ told_with painter.old.told batch.scene) }
+{
+    let Batch { messages, scene } = batch;
+    let messages = own_messages(alloc, messages)?;
+    room.clear();
+    painter.speak(alloc, SpokenBatch { messages, scene }, room)
+}
+
+/// Writes a batch to `output`, as one piece: its messages in order, each in its shortest spelling,
+/// and then the redraw notification that shows its scene to the client, where it has one. `room` is
+/// memory that is used again from batch to batch.
 pub fn speak<R: Files<File = File> + Net<Listener = TcpListener, Stream = TcpStream>, S: Sink>(
     rt: &R,
     alloc: Global,
-    message: Option<Message>,
+    batch: Batch,
+    painter: &mut Painter,
     room: &mut Vec<u8>,
     output: &mut S,
 ) -> Result<(), Ended>
-    requires { All IsSendable (messages_of message) }
+    requires sendable { All IsSendable (map sent_of_shared batch.messages.items) }
+    requires sound { IsSoundIfThere batch.scene }
     ensures ok { OnOk result (S.taken output.new ≡ append_known (S.taken output.old)
-        (bytes_of_messages (messages_of message))) }
+        (bytes_of_batch painter.old.told (map sent_of_shared batch.messages.items) batch.scene)) }
+    ensures told { OnOk result (painter.new.told ≡ told_with painter.old.told batch.scene) }
     ensures err { IfErr result (λ ended. IsCutShort ended
-        × WroteFront (bytes_of_messages (messages_of message)) (S.taken output.old)
-        (S.taken output.new)) }
+        × WroteFront (bytes_of_batch painter.old.told (map sent_of_shared batch.messages.items)
+        batch.scene) (S.taken output.old) (S.taken output.new)) }
     ensures later { S.faults output.old ≤ S.faults output.new }
     ensures fault { result ≡ Err Ended.WriteFault
         → Rose (S.faults output.old) (S.faults output.new) }
 {
-    let Some(message) = message else {
-        return Ok(());
-    };
-    if spell(alloc, message, room).is_err() {
+    if spell(alloc, batch, painter, room).is_err() {
         return Err(Ended::NoMemory);
     }
     if put_all(rt, output, room) {

@@ -4,6 +4,7 @@ ghost use Rattle.std.specs.Prelude.{◌<◌};
 use crate::command::run;
 use crate::whole::answer_all;
 use nv_io::{MemSink, MemSource};
+use nv_world::{Event, History};
 use std::alloc::{AllocError, Global};
 use std::test::Fail;
 
@@ -40,6 +41,23 @@ const FIRST_REPLY: usize = 5;
 
 // 16 lists of one item, one in another.
 const LISTS: &[u8] = b"\x91\x91\x91\x91\x91\x91\x91\x91\x91\x91\x91\x91\x91\x91\x91\x91";
+
+// A request that attaches a UI of 12 columns and 4 rows, and the batches that show the empty screen
+// to it, and then the lines "a" and "b" of a text that was modified.
+const ATTACH: &[u8] = b"\x94\x00\x01\xaenvim_ui_attach\x93\x0c\x04\x81\xacext_linegrid\xc3";
+
+const EMPTY_SCREEN: &[u8] = b"\x93\x02\xa6redraw\x97\x92\xabgrid_resize\x93\x01\x0c\x04\x92\
+    \xb2default_colors_set\x95\xce\x00\xff\xff\xff\x00\xce\x00\xff\x00\x00\
+    \x00\x00\x93\xaehl_attr_define\x94\x01\x81\xa4bold\xc3\x81\xa4bold\xc3\
+    \x90\x94\x02\x82\xa7reverse\xc3\xa4bold\xc3\x82\xa7reverse\xc3\xa4bold\
+    \xc3\x90\x92\xaagrid_clear\x91\x01\x93\xa9grid_line\x95\x01\x01\x00\
+    \x91\x92\xa1~\x01\xc2\x95\x01\x02\x00\x9a\x92\xa1[\x02\x91\xa1N\x91\
+    \xa1o\x91\xa1 \x91\xa1N\x91\xa1a\x91\xa1m\x91\xa1e\x91\xa1]\x93\xa1 \
+    \x02\x03\xc2\x92\xb0grid_cursor_goto\x93\x01\x00\x00\x92\xa5flush\x90";
+
+const TWO_LINES: &[u8] = b"\x93\x02\xa6redraw\x92\x94\xa9grid_line\x95\x01\x00\x00\x91\x92\xa1a\
+    \x00\xc2\x95\x01\x01\x00\x91\x92\xa1b\x00\xc2\x95\x01\x02\x0a\x92\x92\
+    \xa1[\x02\x91\xa1+\xc2\x92\xa5flush\x90";
 
 // Requests, and what they are answered.
 fn rows() -> &'static [Row] {
@@ -504,15 +522,203 @@ fn refusals() -> &'static [Row] {
             status: 0,
             line: b"",
         },
+        Row {
+            name: "the last window, no UI, and no id left",
+            input: &[
+                b"\x94\x00\x01\xaenvim_win_close\x92\x00\xc2",
+                b"\x94\x00\x02\xaenvim_ui_detach\x90",
+                b"\x94\x00\x03\xb5nvim_create_namespace\x91\xa1a",
+                b"\x94\x00\x04\xb4nvim_buf_set_extmark\x95\x00\x01\x00\x00\x81\xa2id\
+                    \xce\xff\xff\xff\xff",
+                b"\x94\x00\x05\xb4nvim_buf_set_extmark\x95\x00\x01\x00\x00\x80",
+            ],
+            output: &[
+                b"\x94\x01\x01\x92\x00\xb9Cannot close the last one\xc0",
+                b"\x94\x01\x02\x92\x00\xafUI not attached\xc0",
+                b"\x94\x01\x03\xc0\x01",
+                b"\x94\x01\x04\xc0\xce\xff\xff\xff\xff",
+                b"\x94\x01\x05\x92\x00\xaaNo id left\xc0",
+            ],
+            status: 0,
+            line: b"",
+        },
     ]
 }
 
-// What a run left: its status, what went out, and the line.
+// A row with the history that is kept: each entry by the letter of its event, Open, Request, Take
+// or Close, where its caller is 0.
+struct Story {
+    name: &'static str,
+    input: &'static [&'static [u8]],
+    output: &'static [&'static [u8]],
+    status: u8,
+    line: &'static [u8],
+    kept: &'static [u8],
+}
+
+// What a session keeps.
+fn stories() -> &'static [Story] {
+    &[
+        Story {
+            name: "lines are counted",
+            input: &[b"\x94\x00\x01\xb3nvim_buf_line_count\x91\x00"],
+            output: &[b"\x94\x01\x01\xc0\x01"],
+            status: 0,
+            line: b"",
+            kept: b"ORTC",
+        },
+        Story {
+            name: "the server ends",
+            input: &[
+                b"\x94\x00\x01\xacnvim_command\x91\xa5qall!",
+                b"\x94\x00\x02\xb3nvim_buf_line_count\x91\x00",
+            ],
+            output: &[b"\x94\x01\x01\xc0\xc0"],
+            status: 0,
+            line: b"",
+            kept: b"ORT",
+        },
+        Story {
+            name: "the server ends by a notification, and what follows is no call",
+            input: &[b"\x93\x02\xacnvim_command\x91\xa5qall!", b"\xc1"],
+            output: &[],
+            status: 0,
+            line: b"",
+            kept: b"OR",
+        },
+        Story {
+            name: "a flaw behind a notification",
+            input: &[b"\x93\x02\xb3nvim_buf_line_count\x91\x00", b"\xc1"],
+            output: &[],
+            status: 6,
+            line: b"nvimd: malformed input: bad at 24\n",
+            kept: b"ORC",
+        },
+        Story {
+            name: "events come before the reply, each splice by itself",
+            input: &[
+                b"\x94\x00\x01\xafnvim_buf_attach\x93\x00\xc3\x80",
+                b"\x94\x00\x02\xb0nvim_call_atomic\x91\x93\
+                    \x92\xb2nvim_buf_set_lines\x95\x00\x00\x00\xc3\x91\xa1a\
+                    \x92\xb2nvim_buf_set_lines\x95\x00\x01\x02\xc3\x91\xa1b\
+                    \x92\xa9nvim_nope\x90",
+                b"\x94\x00\x03\xb2nvim_buf_get_lines\x94\x00\x00\xff\xc3",
+            ],
+            output: &[
+                b"\x93\x02\xb4nvim_buf_lines_event\
+                    \x96\xd4\x00\x01\x02\x00\xff\x91\xa0\xc2",
+                b"\x94\x01\x01\xc0\xc3",
+                b"\x93\x02\xb4nvim_buf_lines_event\
+                    \x96\xd4\x00\x01\x03\x00\x00\x91\xa1a\xc2",
+                b"\x93\x02\xb4nvim_buf_lines_event\
+                    \x96\xd4\x00\x01\x04\x01\x02\x91\xa1b\xc2",
+                b"\x94\x01\x02\xc0\x92\x92\xc0\xc0\x93\x02\x00\
+                    \xb9Invalid method: nvim_nope",
+                b"\x94\x01\x03\xc0\x92\xa1a\xa1b",
+            ],
+            status: 0,
+            line: b"",
+            kept: b"ORTRTRTC",
+        },
+        Story {
+            name: "a changedtick alone, attaching twice, and the end of the events",
+            input: &[
+                b"\x94\x00\x01\xafnvim_buf_attach\x93\x00\xc2\x80",
+                b"\x94\x00\x02\xafnvim_buf_attach\x93\x00\xc2\x80",
+                b"\x94\x00\x03\xafnvim_buf_detach\x91\x00",
+                b"\x94\x00\x04\xafnvim_buf_attach\x93\x00\xc3\x80",
+            ],
+            output: &[
+                b"\x93\x02\xbanvim_buf_changedtick_event\x92\xd4\x00\x01\x02",
+                b"\x94\x01\x01\xc0\xc3",
+                b"\x94\x01\x02\xc0\xc3",
+                b"\x93\x02\xb5nvim_buf_detach_event\x91\xd4\x00\x01",
+                b"\x94\x01\x03\xc0\xc3",
+                b"\x93\x02\xb4nvim_buf_lines_event\
+                    \x96\xd4\x00\x01\x02\x00\xff\x91\xa0\xc2",
+                b"\x94\x01\x04\xc0\xc3",
+            ],
+            status: 0,
+            line: b"",
+            kept: b"ORTRTRTRTC",
+        },
+    ]
+}
+
+// What a session with a UI is shown.
+fn shows() -> &'static [Story] {
+    &[
+        Story {
+            name: "the empty screen is drawn first",
+            input: &[ATTACH],
+            output: &[b"\x94\x01\x01\xc0\xc0", EMPTY_SCREEN],
+            status: 0,
+            line: b"",
+            kept: b"ORTC",
+        },
+        Story {
+            name: "a window scrolls down, and up again",
+            input: &[
+                ATTACH,
+                b"\x94\x00\x02\xb2nvim_buf_set_lines\x95\x00\x00\xff\xc3\x94\xa1a\xa1b\
+                    \xa1c\xa1d",
+                b"\x94\x00\x03\xb3nvim_win_set_cursor\x92\x00\x92\x03\x00",
+                b"\x94\x00\x04\xb3nvim_win_set_cursor\x92\x00\x92\x01\x00",
+            ],
+            output: &[
+                b"\x94\x01\x01\xc0\xc0",
+                EMPTY_SCREEN,
+                b"\x94\x01\x02\xc0\xc0",
+                TWO_LINES,
+                b"\x94\x01\x03\xc0\xc0",
+                b"\x93\x02\xa6redraw\x94\x92\xabgrid_scroll\x97\x01\x00\x02\x00\x0c\x01\
+                    \x00\x92\xa9grid_line\x95\x01\x01\x00\x92\x92\xa1c\x00\x93\xa1 \x00\
+                    \x0b\xc2\x92\xb0grid_cursor_goto\x93\x01\x01\x00\x92\xa5flush\x90",
+                b"\x94\x01\x04\xc0\xc0",
+                b"\x93\x02\xa6redraw\x94\x92\xabgrid_scroll\x97\x01\x00\x02\x00\x0c\xff\
+                    \x00\x92\xa9grid_line\x95\x01\x00\x00\x92\x92\xa1a\x00\x93\xa1 \x00\
+                    \x0b\xc2\x92\xb0grid_cursor_goto\x93\x01\x00\x00\x92\xa5flush\x90",
+            ],
+            status: 0,
+            line: b"",
+            kept: b"ORTRTRTRTC",
+        },
+        Story {
+            name: "what isn't seen has no batch, and a UI that comes again is told the difference",
+            input: &[
+                ATTACH,
+                b"\x94\x00\x02\xadnvim_strwidth\x91\xa2ab",
+                b"\x94\x00\x03\xaenvim_ui_detach\x90",
+                b"\x94\x00\x04\xb2nvim_buf_set_lines\x95\x00\x00\xff\xc3\x94\xa1a\xa1b\
+                    \xa1c\xa1d",
+                b"\x94\x00\x05\xaenvim_ui_attach\x93\x0c\x04\x81\xacext_linegrid\xc3",
+                b"\x93\x02\xb3nvim_win_set_cursor\x92\x00\x92\x02\x00",
+            ],
+            output: &[
+                b"\x94\x01\x01\xc0\xc0",
+                EMPTY_SCREEN,
+                b"\x94\x01\x02\xc0\x02",
+                b"\x94\x01\x03\xc0\xc0",
+                b"\x94\x01\x04\xc0\xc0",
+                b"\x94\x01\x05\xc0\xc0",
+                TWO_LINES,
+                b"\x93\x02\xa6redraw\x92\x92\xb0grid_cursor_goto\x93\x01\x01\x00\x92\
+                    \xa5flush\x90",
+            ],
+            status: 0,
+            line: b"",
+            kept: b"ORTRTRTRTRTRTC",
+        },
+    ]
+}
+
+// What a run left: its status, what went out, the line, and the history.
 #[derive(Drop)]
 struct Left {
     status: u8,
     output: MemSink,
     errors: MemSink,
+    kept: History,
 }
 
 fn source(alloc: Global, bytes: &[u8], cut: usize, fails: Vec<u64>) -> Result<MemSource, AllocError>
@@ -530,11 +736,21 @@ fn ample(alloc: Global) -> MemSink {
 fn play(rt: &HostRuntime, words: &[&str], mut input: MemSource, mut output: MemSink) -> Left {
     let alloc = rt.alloc();
     let mut errors = ample(alloc);
-    let status = run(rt, alloc, words, &mut input, &mut output, &mut errors);
+    let mut kept = History::new(alloc);
+    let status = run(
+        rt,
+        alloc,
+        words,
+        &mut input,
+        &mut output,
+        &mut errors,
+        &mut kept,
+    );
     Left {
         status,
         output,
         errors,
+        kept,
     }
 }
 
@@ -554,6 +770,26 @@ fn joined(alloc: Global, parts: &[&[u8]]) -> Result<Vec<u8>, AllocError> {
     Ok(all)
 }
 
+// The letters of what was kept.
+fn letters(alloc: Global, kept: &History) -> Result<Vec<u8>, AllocError> {
+    let mut letters = Vec::new(alloc);
+    for entry in kept.entries() {
+        let letter = match &entry.event {
+            Event::Open => b'O',
+            Event::Request { .. } => b'R',
+            Event::Take { .. } => b'T',
+            Event::Close { .. } => b'C',
+        };
+        letters.push(if entry.caller == 0 { letter } else { b'?' })?;
+    }
+    Ok(letters)
+}
+
+// Whether a run left this.
+fn is_left(left: &Left, output: &[u8], status: u8, line: &[u8]) -> bool {
+    left.status == status && left.output.bytes() == output && left.errors.bytes() == line
+}
+
 // The first row that gives something else, in one piece or byte by byte.
 fn first_wrong(rt: &HostRuntime, rows: &[Row]) -> Result<Option<&'static str>, AllocError> {
     let alloc = rt.alloc();
@@ -562,15 +798,121 @@ fn first_wrong(rt: &HostRuntime, rows: &[Row]) -> Result<Option<&'static str>, A
         let output = joined(alloc, row.output)?;
         for whole in [true, false] {
             let left = embedded(rt, &input, if whole { 4_096 } else { 1 })?;
-            if left.status != row.status
-                || left.output.bytes() != output.as_slice()
-                || left.errors.bytes() != row.line
-            {
+            if !is_left(&left, &output, row.status, row.line) {
                 return Ok(Some(row.name));
             }
         }
     }
     Ok(None)
+}
+
+// The first story that goes on in another way, in one piece or byte by byte.
+fn first_told_wrong(
+    rt: &HostRuntime,
+    stories: &[Story],
+) -> Result<Option<&'static str>, AllocError> {
+    let alloc = rt.alloc();
+    for story in stories {
+        let input = joined(alloc, story.input)?;
+        let output = joined(alloc, story.output)?;
+        for whole in [true, false] {
+            let left = embedded(rt, &input, if whole { 4_096 } else { 1 })?;
+            let kept = letters(alloc, &left.kept)?;
+            let is_left = is_left(&left, &output, story.status, story.line);
+            if !is_left || kept.as_slice() != story.kept {
+                return Ok(Some(story.name));
+            }
+        }
+    }
+    Ok(None)
+}
+
+#[test]
+fn what_is_kept(rt: HostRuntime) -> Result<(), Fail> {
+    assert_eq!(rt; first_told_wrong(&rt, stories())?, None);
+    Ok(())
+}
+
+#[test]
+fn screens_are_drawn(rt: HostRuntime) -> Result<(), Fail> {
+    assert_eq!(rt; first_told_wrong(&rt, shows())?, None);
+    Ok(())
+}
+
+// The calls with which a client begins: what the server is, what the client is, a UI, a namespace,
+// a text of 200 lines, and 50 marks in it.
+fn opening(alloc: Global) -> Result<Vec<u8>, AllocError> {
+    let calls = b"\x94\x00\x01\xb1nvim_get_api_info\x90\
+        \x94\x00\x02\xb4nvim_set_client_info\x95\xa3gui\x80\xa2ui\x80\x80\
+        \x94\x00\x03\xaenvim_ui_attach\x93\x78\x28\x83\xa3rgb\xc3\
+        \xacext_linegrid\xc3\xadext_popupmenu\xc3\
+        \x94\x00\x04\xb5nvim_create_namespace\x91\xa3gui\
+        \x94\x00\x05\xb2nvim_buf_set_lines\x95\x00\x00\xff\xc3\xdc\x00\xc8";
+    let mut input = Vec::from_slice(alloc, calls)?;
+    for _ in 0..200 {
+        input.extend_from_slice(b"\xa4line")?;
+    }
+    for row in 0..50 {
+        input.extend_from_slice(&[0x94, 0x00, 6 + row])?;
+        input.extend_from_slice(b"\xb4nvim_buf_set_extmark\x95\x00\x01")?;
+        input.extend_from_slice(&[row, 0x00])?;
+        input.extend_from_slice(b"\x82\xa7end_col\x04\xa8hl_group\xaaSpecialKey")?;
+    }
+    Ok(input)
+}
+
+// How often a piece of text stands in another.
+fn count_of(text: &[u8], piece: &[u8]) -> usize {
+    let mut count: usize = 0;
+    for at in 0..text.len() {
+        if text[at..].starts_with(piece) {
+            count = count.saturating_add(1);
+        }
+    }
+    count
+}
+
+// Each of them is answered without an error, and each that is seen with a batch behind its reply.
+#[test]
+fn a_client_begins(rt: HostRuntime) -> Result<(), Fail> {
+    let alloc = rt.alloc();
+    let left = embedded(&rt, &opening(alloc)?, 4_096)?;
+    let output = left.output.bytes();
+    let between = b"\x92\xa5flush\x90\x94\x01\x04\xc0\x01\x94\x01\x05\xc0\xc0\x93\x02\xa6redraw";
+    assert_eq!(rt; left.status, 0);
+    assert_eq!(rt; count_of(output, b"\x92\xa5flush\x90"), 52);
+    assert_eq!(rt; count_of(output, between), 1);
+    assert_eq!(rt; count_of(output, b"\x92\xa5flush\x90\x94\x01"), 51);
+    assert!(rt; output.ends_with(b"\x92\xa5flush\x90"));
+    Ok(())
+}
+
+// A request that attaches to the buffer, and one with so many edits of it.
+fn many_edits(alloc: Global, count: u16) -> Result<Vec<u8>, AllocError> {
+    let attach = b"\x94\x00\x01\xafnvim_buf_attach\x93\x00\xc2\x80\
+        \x94\x00\x02\xb0nvim_call_atomic\x91\xdc";
+    let mut input = Vec::from_slice(alloc, attach)?;
+    input.extend_from_slice(&count.to_be_bytes())?;
+    for _ in 0..count {
+        input.extend_from_slice(b"\x92\xb2nvim_buf_set_lines\x95\x00\x00\x00\xc3\x91\xa1a")?;
+    }
+    Ok(input)
+}
+
+// One request makes 4,096 messages due, and one makes one more.
+#[test]
+fn an_outbox_overflows(rt: HostRuntime) -> Result<(), Fail> {
+    let alloc = rt.alloc();
+    let left = embedded(&rt, &many_edits(alloc, 4_095)?, 4_096)?;
+    assert_eq!(rt; left.status, 0);
+    let left = embedded(&rt, &many_edits(alloc, 4_096)?, 4_096)?;
+    assert_eq!(rt; left.status, 7);
+    assert_eq!(rt;
+        left.errors.bytes(),
+        b"nvimd: outbox overflow at entry 3\n".as_slice()
+    );
+    assert_eq!(rt; letters(alloc, &left.kept)?.as_slice(), b"ORTRT".as_slice());
+    Ok(())
 }
 
 #[test]
@@ -680,6 +1022,24 @@ fn a_reply_goes_out_before_the_next_write_fails(rt: HostRuntime) -> Result<(), F
     let left = play(&rt, &["embed"], input, MemSink::new(alloc, 4_096, fails));
     assert_eq!(rt; left.status, 4);
     assert_eq!(rt; left.output.bytes(), b"\x94\x01\x01\xc0\x01".as_slice());
+    assert_eq!(rt;
+        letters(alloc, &left.kept)?.as_slice(),
+        b"ORTRTC".as_slice()
+    );
+    Ok(())
+}
+
+// The server was to end, and its reply couldn't be written.
+#[test]
+fn a_write_fault_goes_before_the_end_of_the_server(rt: HostRuntime) -> Result<(), Fail> {
+    let alloc = rt.alloc();
+    let request = b"\x94\x00\x01\xacnvim_command\x91\xa5qall!";
+    let input = source(alloc, request.as_slice(), 4_096, Vec::new(alloc))?;
+    let fails = vec![in alloc; 0]?;
+    let left = play(&rt, &["embed"], input, MemSink::new(alloc, 4_096, fails));
+    assert_eq!(rt; left.status, 4);
+    assert_eq!(rt; left.output.bytes(), b"".as_slice());
+    assert_eq!(rt; letters(alloc, &left.kept)?.as_slice(), b"ORT".as_slice());
     Ok(())
 }
 
@@ -704,8 +1064,9 @@ fn other_words_are_refused(rt: HostRuntime) -> Result<(), Fail> {
 fn all_is_answered_over_sure_devices(rt: HostRuntime) -> Result<(), Fail> {
     let alloc = rt.alloc();
     let bytes = Vec::from_slice(alloc, SET_GET)?;
-    let (status, output) = answer_all(&rt, alloc, bytes, vec![in alloc; 7]?);
+    let (status, output, kept) = answer_all(&rt, alloc, bytes, vec![in alloc; 7]?);
     assert_eq!(rt; status, 0);
     assert_eq!(rt; output.bytes(), REPLIES);
+    assert_eq!(rt; kept.len(), 6);
     Ok(())
 }

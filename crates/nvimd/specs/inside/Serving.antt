@@ -9,15 +9,23 @@ use Rattle.nv_io.specs.declared.ending.Ended.TheVariants.{Closed, Malformed, Ove
 use Rattle.nv_stream.specs.State.{with_piece}
 use Rattle.nv_stream.specs.Answers.{NeedsMore}
 use Rattle.nv_rpc.specs.Calls.{Call, call_in}
-use Rattle.nv_model.specs.Editors.{ModelEditor}
-use Rattle.nv_model.specs.Keeping.{fresh_kept}
-use Rattle.nv_model.specs.Standing.{PresentEditor, Stands}
-use Rattle.nv_editor.specs.Sound.{AllSealed}
-use Rattle.nv_dispatch.specs.Runs.{usual_limits}
-use Rattle.nvimd.specs.Answers.{answer_to, answers_to, editor_after_calls}
+use Rattle.nv_history.specs.Events.{open_session, Entry, Cause, overflowed_at, quit_at}
+use Rattle.nv_history.specs.Solo.{entry_alone}
+use Rattle.nv_linegrid.specs.Told.{Told, nothing_told}
+use Rattle.nv_world.specs.Worlds.{WorldRecord}
 use Rattle.nvimd.specs.Reading.{most_depth, most_bytes, Calls, ReadsFrom}
-use Rattle.nvimd.specs.Ends.{IfInside, IsUnfinished}
+use Rattle.nvimd.specs.Ends.{IfInside, IsUnfinished, IsFront}
+use Rattle.nvimd.specs.inside.Worlds.{IsOwn, entries_in}
+use Rattle.nvimd.specs.inside.Alone.{IsAlone, IsClosing, WentOn, WentPart, WentUpTo}
 use Rattle.nvimd.specs.declared.session.Session.{Session}
+
+-- the history of a session
+abbrev pub session_entries : Session → List Entry
+session_entries s = entries_in s.world
+
+-- what the client of a session was told
+abbrev pub client_told : Session → Told
+client_told s = s.painter.told
 
 -- the state of a session that can go on
 pub record IsReady (s : Session) : Type 0 where
@@ -25,40 +33,30 @@ pub record IsReady (s : Session) : Type 0 where
   pub most : s.stream.most ≡ most_bytes
   pub no_flaw : s.stream.flaw ≡ None
   pub counted : s.number ≤ s.stream.start
-  pub sealed : AllSealed s.editor
+  pub own : IsOwn s.world
+  pub alone : IsAlone (session_entries s)
 
 -- the state of a session to which no byte has come
 pub record IsNew (s : Session) : Type 0 where
   pub place : s.stream.start ≡ 0
   pub nothing : s.stream.held ≡ []
   pub none : s.number ≡ 0
-  pub first : s.editor ≡ fresh_kept usual_limits
+  pub first : session_entries s ≡ entry_alone open_session ∷ []
+  pub untold : client_told s ≡ nothing_told
 
 -- a part of these bytes went out, from their front
 abbrev pub WroteFront : List ℕ → Option (List ℕ) → Option (List ℕ) → Type 0
 WroteFront bytes before after = (count : ℕ) × (after ≡ append_known before (take count bytes))
-
--- calls were answered one after another in a model editor: what is kept stands for the editor that
--- they leave, and what went out grew by their answers
-pub record AreAnswered (calls : List Call) (m : ModelEditor) (kept : PresentEditor)
-    (before after : Option (List ℕ)) : Type 0 where
-  pub stands : Stands kept (editor_after_calls calls m)
-  pub written : after ≡ append_known before (answers_to calls m)
 
 -- a call was answered
 pub record AnswersCall (call : Call) (old new : Session)
     (before after : Option (List ℕ)) : Type 0 where
   pub stream : new.stream ≡ old.stream
   pub number : new.number ≡ old.number + 1
-  pub sealed : AllSealed new.editor
-  pub answered : (m : ModelEditor) → Stands old.editor m
-      → AreAnswered (call ∷ []) m new.editor before after
-
--- a part of the answer to a call went out, from its front
-pub record CutsAnswer (call : Call) (s : Session) (before after : Option (List ℕ)) : Type 0 where
-  pub count : ℕ
-  pub written : (m : ModelEditor) → Stands s.editor m
-      → after ≡ append_known before (take count (answer_to call m))
+  pub own : IsOwn new.world
+  pub alone : IsAlone (session_entries new)
+  pub went : WentOn (call ∷ []) (session_entries old) (session_entries new) (client_told old)
+      (client_told new) before after
 
 -- an end on the way out: writing failed, or memory was wanting
 abbrev pub IsCutShort : Ended → Type 0
@@ -66,12 +64,28 @@ IsCutShort WriteFault = Unit {0}
 IsCutShort NoMemory = Unit {0}
 IsCutShort _ = ⊥
 
--- how a session ends that was to answer a value: the value is no call, or its answer was cut short
-abbrev pub StopsAtValue : Ended → Tree → Session → Option (List ℕ) → Option (List ℕ) → Type 0
-StopsAtValue (Malformed flaw) value s before after =
-    (flaw ≡ NoCall s.number) × (call_in value ≡ None) × (after ≡ before)
-StopsAtValue ended value s before after = IsCutShort ended × (call : Call)
-    × (call_in value ≡ Some call) × CutsAnswer call s before after
+-- how a session ends by a call: its answer was cut short, or the call ended the session
+abbrev pub StopsAtCall : Ended → Call → WorldRecord → WorldRecord → Told → Option (List ℕ)
+    → Option (List ℕ) → Type 0
+StopsAtCall WriteFault call old new told before after =
+    WentPart IsClosing [] (call ∷ []) (entries_in old) (entries_in new) told before after
+    × IsOwn new
+StopsAtCall NoMemory call old new told before after =
+    WentPart IsFront [] (call ∷ []) (entries_in old) (entries_in new) told before after
+StopsAtCall (Overflowed entry) call old new told before after =
+    WentUpTo (overflowed_at entry) (call ∷ []) (entries_in old) (entries_in new) told before after
+StopsAtCall (Quit entry) call old new told before after =
+    WentUpTo (quit_at entry) (call ∷ []) (entries_in old) (entries_in new) told before after
+StopsAtCall _ call old new told before after = ⊥
+
+-- how a session ends that was to answer a value: the value is no call, or it ends by the call
+abbrev pub StopsAtValue : Ended → Tree → Session → Session → Option (List ℕ) → Option (List ℕ)
+    → Type 0
+StopsAtValue (Malformed flaw) value old new before after =
+    (flaw ≡ NoCall old.number) × (call_in value ≡ None) × (after ≡ before)
+    × (new.world ≡ old.world)
+StopsAtValue ended value old new before after = (call : Call) × (call_in value ≡ Some call)
+    × StopsAtCall ended call old.world new.world (client_told old) before after
 
 -- Of bytes that begin where a session stood, the calls at their front were answered, and the others
 -- are held.
@@ -83,21 +97,25 @@ pub record ServesCalls (bytes : List ℕ) (old new : Session)
   pub parts : bytes ≡ whole ++ new.stream.held
   pub place : new.stream.start ≡ old.stream.start + length whole
   pub number : new.number ≡ old.number + length calls
-  pub answered : (m : ModelEditor) → Stands old.editor m
-      → AreAnswered calls m new.editor before after
+  pub went : WentOn calls (session_entries old) (session_entries new) (client_told old)
+      (client_told new) before after
 
 -- the bytes that begin where a session stood hold calls and then this flaw or none, and all of the
 -- calls were answered
-pub record FinishesCalls (flaw : Option Flaw) (bytes : List ℕ) (s : Session)
+pub record FinishesCalls (flaw : Option Flaw) (bytes : List ℕ) (old new : Session)
     (before after : Option (List ℕ)) : Type 0 where
   pub calls : List Call
-  pub reads : ReadsFrom s.number s.stream.start calls bytes flaw
-  pub written : (m : ModelEditor) → Stands s.editor m
-      → after ≡ append_known before (answers_to calls m)
+  pub reads : ReadsFrom old.number old.stream.start calls bytes flaw
+  pub later : Told
+  pub went : WentOn calls (session_entries old) (session_entries new) (client_told old) later
+      before after
+  pub own : IsOwn new.world
+  pub alone : IsAlone (session_entries new)
 
 -- the bytes that begin where a session stood begin with calls that were answered whole, and a part
 -- of the answer to the next one went out, if there is one
-pub record StopsShort (bytes : List ℕ) (s : Session) (before after : Option (List ℕ)) : Type 0 where
+pub record StopsShort (Is : List Call → List Entry → Type 0) (bytes : List ℕ) (old new : Session)
+    (before after : Option (List ℕ)) : Type 0 where
   pub calls : List Call
   pub next : List Call
   pub at_most_one : length next ≤ 1
@@ -105,54 +123,71 @@ pub record StopsShort (bytes : List ℕ) (s : Session) (before after : Option (L
   pub rest : List ℕ
   pub parts : bytes ≡ whole ++ rest
   pub spelled : Calls (calls ++ next) whole
-  pub count : ℕ
-  pub written : (m : ModelEditor) → Stands s.editor m → after ≡ append_known before
-      (answers_to calls m ++ take count (answers_to next (editor_after_calls calls m)))
+  pub went : WentPart Is calls next (session_entries old) (session_entries new) (client_told old)
+      before after
 
--- How a session ends within bytes that begin where it stood, where `over` says that no more bytes
--- come.
-abbrev pub EndsIn : Type 0 → Ended → List ℕ → Session → Option (List ℕ) → Option (List ℕ) → Type 0
-EndsIn over Closed bytes s before after = FinishesCalls None bytes s before after × over
-EndsIn over (Malformed flaw) bytes s before after =
-    FinishesCalls (Some flaw) bytes s before after × IfInside flaw over
-EndsIn over ReadFault bytes s before after =
-    (flaw : Option Flaw) × IsUnfinished flaw × FinishesCalls flaw bytes s before after
-EndsIn over WriteFault bytes s before after = StopsShort bytes s before after
-EndsIn over NoMemory bytes s before after = StopsShort bytes s before after
-EndsIn over (Overflowed entry) bytes s before after = ⊥
-EndsIn over (Quit entry) bytes s before after = ⊥
+-- the bytes that begin where a session stood begin with calls that were answered whole, the last of
+-- which closed the session for this cause
+pub record StopsClosed (cause : Cause) (bytes : List ℕ) (old new : Session)
+    (before after : Option (List ℕ)) : Type 0 where
+  pub calls : List Call
+  pub whole : List ℕ
+  pub rest : List ℕ
+  pub parts : bytes ≡ whole ++ rest
+  pub spelled : Calls calls whole
+  pub went : WentUpTo cause calls (session_entries old) (session_entries new) (client_told old)
+      before after
+
+-- How a session ends within bytes that begin where it stood, before it is closed, where `over` says
+-- that no more bytes come.
+abbrev pub EndsIn : Type 0 → Ended → List ℕ → Session → Session → Option (List ℕ)
+    → Option (List ℕ) → Type 0
+EndsIn over Closed bytes old new before after =
+    FinishesCalls None bytes old new before after × over
+EndsIn over (Malformed flaw) bytes old new before after =
+    FinishesCalls (Some flaw) bytes old new before after × IfInside flaw over
+EndsIn over ReadFault bytes old new before after =
+    (flaw : Option Flaw) × IsUnfinished flaw × FinishesCalls flaw bytes old new before after
+EndsIn over WriteFault bytes old new before after =
+    StopsShort IsClosing bytes old new before after × IsOwn new.world
+EndsIn over NoMemory bytes old new before after = StopsShort IsFront bytes old new before after
+EndsIn over (Overflowed entry) bytes old new before after =
+    StopsClosed (overflowed_at entry) bytes old new before after
+EndsIn over (Quit entry) bytes old new before after =
+    StopsClosed (quit_at entry) bytes old new before after
 
 -- the end of a session to which no more bytes come
-abbrev pub ended_by : Option Flaw → Ended
-ended_by None = Closed
-ended_by (Some flaw) = Malformed flaw
+abbrev pub end_by_flaw : Option Flaw → Ended
+end_by_flaw None = Closed
+end_by_flaw (Some flaw) = Malformed flaw
 
 -- what a step over what a session holds did: a call was answered, or more bytes are needed, or the
 -- session ended
-abbrev pub Steps : Result Bool Ended → Session → Session → Option (List ℕ) → Option (List ℕ)
+abbrev pub StepsOn : Result Bool Ended → Session → Session → Option (List ℕ) → Option (List ℕ)
     → Type 0
-Steps (Ok true) old new before after =
+StepsOn (Ok true) old new before after =
     ServesCalls old.stream.held old new before after × IsReady new
     × (length new.stream.held < length old.stream.held)
-Steps (Ok false) old new before after = (new ≡ old) × NeedsMore old.stream × (after ≡ before)
-Steps (Err ended) old new before after = EndsIn ⊥ ended old.stream.held old before after
+StepsOn (Ok false) old new before after = (new ≡ old) × NeedsMore old.stream × (after ≡ before)
+StepsOn (Err ended) old new before after = EndsIn ⊥ ended old.stream.held old new before after
 
 -- what a session did with these bytes: it answered the calls and needs more bytes, or it ended
 abbrev pub Serves : {A : Type 0} → Type 0 → Result A Ended → List ℕ → Session → Session
     → Option (List ℕ) → Option (List ℕ) → Type 0
 Serves over (Ok done) bytes old new before after =
     ServesCalls bytes old new before after × IsReady new × NeedsMore new.stream
-Serves over (Err ended) bytes old new before after = EndsIn over ended bytes old before after
+Serves over (Err ended) bytes old new before after = EndsIn over ended bytes old new before after
 
 -- what one read gave to a session: a piece that it holds, or its end, where `over` says that no
 -- more bytes come
 abbrev pub TakesPiece : {A : Type 0} → Type 0 → Result A Ended → List ℕ → Session → Session → Type 0
 TakesPiece over (Ok done) piece old new =
     (new.stream ≡ with_piece old.stream piece) × (new.number ≡ old.number)
-    × (new.editor ≡ old.editor) × (0 < length piece) × (length piece ≤ 65536)
+    × (new.world ≡ old.world) × (new.painter ≡ old.painter) × (0 < length piece)
+    × (length piece ≤ 65536)
 TakesPiece over (Err ended) piece old new =
     (length piece ≤ 65536)
-    × ((out : Option (List ℕ)) → EndsIn over ended (old.stream.held ++ piece) old out out)
+    × ((out : Option (List ℕ)) → EndsIn over ended (old.stream.held ++ piece) old new out out)
 
 -- what a session did with a piece: it answered the calls that are whole by it and needs more bytes,
 -- or it ended
@@ -162,4 +197,4 @@ Turns over (Ok done) piece old new before after =
     ServesCalls (old.stream.held ++ piece) old new before after × IsReady new × NeedsMore new.stream
     × (0 < length piece) × (length piece ≤ 65536)
 Turns over (Err ended) piece old new before after =
-    (length piece ≤ 65536) × EndsIn over ended (old.stream.held ++ piece) old before after
+    (length piece ≤ 65536) × EndsIn over ended (old.stream.held ++ piece) old new before after

@@ -2,6 +2,6 @@ use Rattle.nv_value.specs.View.{content}
 use Rattle.nvimd.proofs.CallBounds.{call_bounded}
 use Rattle.nvimd.proofs.session.Session.serve.Goals as goal
 
-pub answer_call-requires-clause-call : goal.answer_call-requires-clause-call
-answer_call-requires-clause-call g c =
+pub answer_call-requires-clause-light : goal.answer_call-requires-clause-light
+answer_call-requires-clause-light g c =
     call_bounded (content c.args.value) c.requires.spelled.0 _ c.requires.spelled.1 c.in-Ok.ensures.ok

@@ -29,4 +29,4 @@ loop-smaller g c =
 pub returns-in_err-step-clause-serves : goal.returns-in_err-step-clause-serves
 returns-in_err-step-clause-serves g c =
     let p = err_from_is_err_and c.from_residual.result c.from_residual.ensures.1 in
-    rw (p.1, p.2) (ends_on _ c.in_err-step.field-0.0 _ c.args.self.now c.loop.self _ _ _ c.loop.invariant.served c.in_err-step.ensures.steps)
+    rw (p.1, p.2) (ends_on _ c.in_err-step.field-0.0 _ c.args.self.now c.loop.self c.step.new.self _ _ _ c.loop.invariant.served c.in_err-step.ensures.steps)

@@ -1,4 +1,4 @@
-use Rattle.std.proofs.Common.{[], ◌≤◌, length, take, refl, arith, rules}
+use Rattle.std.proofs.Common.{[], take, refl, arith, rules}
 use Rattle.std.proofs.lemmas.List.{length-take}
 use Rattle.nvimd.proofs.Steps.{cut_none, ends_held, ends_last, fails_held}
 use Rattle.nvimd.proofs.session.Session.take_piece.Goals as goal
@@ -7,7 +7,7 @@ pub returns-in-Err-clause-takes : goal.returns-in-Err-clause-takes
 returns-in-Err-clause-takes g c = (
   take c.in-Bytes.count c.read.new.into,
   record { taken = c.in-Bytes.ensures.taken; left = c.in-Bytes.ensures.left },
-  (search (rules, arith, length-take), λ out. cut_none _ c.args.self.now out),
+  (search (rules, arith, length-take), λ out. cut_none _ c.args.self.now _ out c.requires.ready refl),
 )
 
 pub returns-in-End-clause-takes : goal.returns-in-End-clause-takes

@@ -1,0 +1,39 @@
+-- What a run over known bytes says of its end.
+use Rattle.std.proofs.Common.{◌≡◌, ◌⊎◌, ℕ, ◌<◌, List, ◌++◌, length, Option, Some, None, sym, ap, ◌∙◌, subst, arith, length-append, inl, inr}
+use Rattle.std.specs.Prelude.{◌^◌}
+use Rattle.std.proofs.lemmas.List.{append-nil}
+use Rattle.std.specs.Io.KnownBytes.{prepend_known}
+use Rattle.nv_io.specs.declared.ending.Ended.{Ended}
+use Rattle.nv_io.specs.declared.ending.Ended.TheVariants.{Closed, Malformed, Overflowed, ReadFault, WriteFault, Quit, NoMemory}
+use Rattle.nv_history.specs.Events.{Entry, quit_at}
+use Rattle.nvimd.specs.Ends.{WasRead, AnswersAll, AnswersUpTo, SessionEnds, status_of}
+
+-- a source of few bytes that was read to its end gave all of them
+all_read : (all read : List ℕ) (left : Option (List ℕ)) → Some all ≡ prepend_known read left → WasRead left read → length all < 2 ^ 62 → read ≡ all
+all_read all read None e w few = cc
+all_read all read (Some rest) e w few =
+    let whole : all ≡ read ++ rest = cc in
+    by whole w
+  where
+    by : all ≡ read ++ rest → WasRead (Some rest) read → read ≡ all
+    by whole (inl end) = sym (append-nil read) ∙ ap (λ (l : List ℕ). read ++ l) (sym end) ∙ sym whole
+    by whole (inr many) = absurd (omega (arith, ap (length {A = ℕ}) whole, length-append read rest, few, many))
+
+front_read : (all read : List ℕ) (left : Option (List ℕ)) → Some all ≡ prepend_known read left → (rest : List ℕ) × (all ≡ read ++ rest)
+front_read all read None e = cc
+front_read all read (Some rest) e = (rest, cc)
+
+-- what status 0 says
+pub ended_well : (ended : Ended) (all read : List ℕ) (left : Option (List ℕ)) (kept : List Entry) (before after : Option (List ℕ)) → Some all ≡ prepend_known read left → length all < 2 ^ 62 → SessionEnds ended read left kept before after
+    → status_of ended ≡ 0
+    → AnswersAll None all kept before after ⊎ ((entry : ℕ) × (front rest : List ℕ) × (all ≡ front ++ rest) × AnswersUpTo (quit_at entry) front kept before after)
+ended_well Closed all read left kept before after e few h z =
+    inl (subst (λ (l : List ℕ). AnswersAll None l kept before after) (all_read all read left e h.1 few) h.0)
+ended_well (Quit entry) all read left kept before after e few h z =
+    let f = front_read all read left e in
+    inr (entry, read, f.0, f.1, h)
+ended_well (Malformed flaw) all read left kept before after e few h z = cc
+ended_well (Overflowed entry) all read left kept before after e few h z = cc
+ended_well ReadFault all read left kept before after e few h z = cc
+ended_well WriteFault all read left kept before after e few h z = cc
+ended_well NoMemory all read left kept before after e few h z = cc
