@@ -1,0 +1,89 @@
+#!/usr/bin/env python3
+"""redraw.py [PROGRAM]: what a change costs from its request to the flush of its batch, beside Neovim (`nvim` on the path), for a
+UI of 120 by 40 over a text of 10,000 lines. Prints medians in microseconds and the bytes of a batch. One request at a time: the
+next is sent when the flush of the one before has come, so both figures hold the same reading and writing of this script."""
+import os, shutil, statistics, subprocess, sys, time
+import msgpack
+
+ROUNDS = 400
+FLUSH = b"\xa5flush"
+
+
+class Server:
+    def __init__(self, words):
+        self.child = subprocess.Popen(words, stdin=subprocess.PIPE, stdout=subprocess.PIPE, bufsize=0)
+        self.msgid = 0
+
+    def send(self, method, *params):
+        self.msgid += 1
+        os.write(self.child.stdin.fileno(), msgpack.packb([0, self.msgid, method, list(params)]))
+
+    def until_flush(self):
+        """Reads up to a flush, and gives how many bytes came."""
+        count, tail = 0, b""
+        while True:
+            piece = os.read(self.child.stdout.fileno(), 1 << 20)
+            if not piece:
+                raise SystemExit("the server ended")
+            count += len(piece)
+            tail = (tail + piece)[-4096:]
+            # (an empty list of arguments ends the flush, and the batch)
+            if FLUSH in tail[-16:]:
+                return count
+
+    def asks(self, method, *params):
+        began = time.perf_counter()
+        self.send(method, *params)
+        count = self.until_flush()
+        return (time.perf_counter() - began) * 1e6, count
+
+    def drain(self, seconds):
+        """Lets all that is still to come pass by."""
+        end = time.perf_counter() + seconds
+        os.set_blocking(self.child.stdout.fileno(), False)
+        while time.perf_counter() < end:
+            try:
+                os.read(self.child.stdout.fileno(), 1 << 20)
+            except BlockingIOError:
+                time.sleep(0.01)
+        os.set_blocking(self.child.stdout.fileno(), True)
+
+
+def measure(words):
+    server = Server(words)
+    lines = [f"line {k} of a text that is long enough to fill some columns" for k in range(10000)]
+    server.send("nvim_buf_set_lines", 0, 0, -1, True, lines)
+    server.drain(0.5)
+    server.send("nvim_ui_attach", 120, 40, {"ext_linegrid": True, "rgb": True})
+    server.drain(0.5)
+    figures = {}
+
+    def rounds(name, call):
+        took = [call(k) for k in range(ROUNDS)]
+        figures[name] = (statistics.median(t for t, _ in took), statistics.median(n for _, n in took))
+
+    rounds("a character", lambda k: server.asks("nvim_buf_set_text", 0, 5, 3, 5, 3, ["x"]) if k % 2 == 0
+           else server.asks("nvim_buf_set_text", 0, 5, 3, 5, 4, [""]))
+    rounds("a line put in, or taken out", lambda k: server.asks("nvim_buf_set_lines", 0, 5, 5, True, ["a line that was put in"])
+           if k % 2 == 0 else server.asks("nvim_buf_set_lines", 0, 5, 6, True, []))
+    server.asks("nvim_win_set_cursor", 0, [100, 0])
+    rounds("a scroll by one", lambda k: server.asks("nvim_win_set_cursor", 0, [101 + k, 0]))
+    rounds("a far jump", lambda k: server.asks("nvim_win_set_cursor", 0, [1000 + 4000 * (k % 2) + k, 0]))
+    server.child.kill()
+    return figures
+
+
+def main():
+    program = sys.argv[1] if len(sys.argv) > 1 else "crates/nvimd/out/nvimd"
+    ours = measure([program, "embed"])
+    theirs = measure(["nvim", "--clean", "--embed"]) if shutil.which("nvim") else None
+    print(f"    {'a figure':<30}{'Neovim':>9}{'nvimd':>9}  ratio{'bytes there':>13}{'here':>7}")
+    for name, (took, count) in ours.items():
+        if theirs:
+            other, size = theirs[name]
+            print(f"    {name + ', us':<30}{other:9.1f}{took:9.1f}  {took / other:5.2f}{size:13.0f}{count:7.0f}")
+        else:
+            print(f"    {name + ', us':<30}{'':9}{took:9.1f}       {'':13}{count:7.0f}")
+
+
+main()
