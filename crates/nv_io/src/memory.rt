@@ -12,10 +12,8 @@ use crate::pieces::Pieces;
 use crate::reading::{Got, Source};
 use crate::writing::{Put, Sink};
 use std::alloc::Global;
-use std::fs::File;
 use std::marker::Model;
 use std::net::{Net, TcpListener, TcpStream};
-use std::rt::Files;
 
 /// A source of given bytes. It gives them in pieces of given sizes, over and over, and chosen reads
 /// fail.
@@ -56,7 +54,7 @@ impl Source for MemSource {
 
     ghost faults = { λ s. s.failures.faults };
 
-    fn read<R: Files<File = File> + Net<Listener = TcpListener, Stream = TcpStream>>(
+    fn read<R: Net<Listener = TcpListener, Stream = TcpStream>>(
         &mut self,
         _rt: &R,
         into: &mut [u8],
@@ -138,7 +136,7 @@ impl Sink for MemSink {
 
     ghost faults = { λ s. s.failures.faults };
 
-    fn write<R: Files<File = File> + Net<Listener = TcpListener, Stream = TcpStream>>(
+    fn write<R: Net<Listener = TcpListener, Stream = TcpStream>>(
         &mut self,
         _rt: &R,
         piece: &[u8],
@@ -167,8 +165,5 @@ impl Sink for MemSink {
         Put::Took(count)
     }
 
-    fn finish<R: Files<File = File> + Net<Listener = TcpListener, Stream = TcpStream>>(
-        &mut self,
-        _rt: &R,
-    ) {}
+    fn finish<R: Net<Listener = TcpListener, Stream = TcpStream>>(&mut self, _rt: &R) {}
 }

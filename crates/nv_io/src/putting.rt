@@ -5,13 +5,11 @@ ghost use Rattle.std.specs.Io.KnownBytes.{append_known};
 ghost use Rattle.nv_io.specs.Faults.{Rose};
 
 use crate::writing::{Put, Sink};
-use std::fs::File;
 use std::net::{Net, TcpListener, TcpStream};
-use std::rt::Files;
 
 /// Writes to `sink` until all of `bytes` was taken. `false` says that a write failed: then a part
 /// of them from the front was taken, maybe none.
-pub fn put_all<R: Files<File = File> + Net<Listener = TcpListener, Stream = TcpStream>, S: Sink>(
+pub fn put_all<R: Net<Listener = TcpListener, Stream = TcpStream>, S: Sink>(
     rt: &R,
     sink: &mut S,
     bytes: &[u8],

@@ -5,9 +5,7 @@ ghost use Rattle.std.specs.Io.KnownBytes.{append_known, prepend_known, IsAtEnd};
 ghost use Rattle.nv_io.specs.Faults.{Rose};
 ghost use Rattle.nv_io.specs.Reading.{bytes_got, IfBytes};
 
-use std::fs::File;
 use std::net::{Net, TcpListener, TcpStream};
-use std::rt::Files;
 
 /// What one read gave.
 #[derive(Debug, Clone, Copy, PartialEq, Eq)]
@@ -30,7 +28,7 @@ pub trait Source {
     ghost faults: { Self → ℕ };
 
     /// Puts the next bytes at the front of `into`, as many as there are just now and fit.
-    fn read<R: Files<File = File> + Net<Listener = TcpListener, Stream = TcpStream>>(
+    fn read<R: Net<Listener = TcpListener, Stream = TcpStream>>(
         &mut self,
         rt: &R,
         into: &mut [u8],

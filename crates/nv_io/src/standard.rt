@@ -5,10 +5,8 @@ ghost use Rattle.std.specs.declared.option.Option.{Option};
 use crate::reading::{Got, Source};
 use crate::streams::{read_from, write_to};
 use crate::writing::{Put, Sink};
-use std::fs::File;
 use std::io::{Stderr, Stdin, Stdout};
 use std::net::{Net, TcpListener, TcpStream};
-use std::rt::Files;
 
 /// Standard input. What it gives is not told.
 #[derive(Drop)]
@@ -32,7 +30,7 @@ impl Source for StdIn {
 
     ghost faults = { λ s. s.faults };
 
-    fn read<R: Files<File = File> + Net<Listener = TcpListener, Stream = TcpStream>>(
+    fn read<R: Net<Listener = TcpListener, Stream = TcpStream>>(
         &mut self,
         _rt: &R,
         into: &mut [u8],
@@ -61,7 +59,7 @@ impl Sink for StdOut {
 
     ghost faults = { λ s. s.faults };
 
-    fn write<R: Files<File = File> + Net<Listener = TcpListener, Stream = TcpStream>>(
+    fn write<R: Net<Listener = TcpListener, Stream = TcpStream>>(
         &mut self,
         _rt: &R,
         piece: &[u8],
@@ -69,10 +67,7 @@ impl Sink for StdOut {
         write_to(&mut self.stream, &mut self.faults, piece)
     }
 
-    fn finish<R: Files<File = File> + Net<Listener = TcpListener, Stream = TcpStream>>(
-        &mut self,
-        _rt: &R,
-    ) {}
+    fn finish<R: Net<Listener = TcpListener, Stream = TcpStream>>(&mut self, _rt: &R) {}
 }
 
 /// Standard error. What it takes is not told.
@@ -95,7 +90,7 @@ impl Sink for StdErr {
 
     ghost faults = { λ s. s.faults };
 
-    fn write<R: Files<File = File> + Net<Listener = TcpListener, Stream = TcpStream>>(
+    fn write<R: Net<Listener = TcpListener, Stream = TcpStream>>(
         &mut self,
         _rt: &R,
         piece: &[u8],
@@ -103,8 +98,5 @@ impl Sink for StdErr {
         write_to(&mut self.stream, &mut self.faults, piece)
     }
 
-    fn finish<R: Files<File = File> + Net<Listener = TcpListener, Stream = TcpStream>>(
-        &mut self,
-        _rt: &R,
-    ) {}
+    fn finish<R: Net<Listener = TcpListener, Stream = TcpStream>>(&mut self, _rt: &R) {}
 }

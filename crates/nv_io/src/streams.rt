@@ -4,6 +4,7 @@ ghost use Rattle.nv_io.specs.Faults.{Rose};
 ghost use Rattle.nv_io.specs.Reading.{IfBytes};
 ghost use Rattle.nv_io.specs.Writing.{IfTook};
 
+use crate::counting::count_fault;
 use crate::reading::Got;
 use crate::writing::Put;
 use std::io::{ErrorKind, Read, Write};
@@ -56,7 +57,7 @@ pub fn read_from<T: Read>(stream: &mut T, faults: &mut u64, into: &mut [u8]) -> 
         Some(0) => Got::End,
         Some(count) => Got::Bytes(count),
         None => {
-            *faults = faults.saturating_add(1);
+            count_fault(faults);
             Got::Failed
         }
     }
@@ -71,7 +72,7 @@ pub fn write_to<T: Write>(stream: &mut T, faults: &mut u64, piece: &[u8]) -> Put
 {
     match try_write(stream, piece) {
         None | Some(0) => {
-            *faults = faults.saturating_add(1);
+            count_fault(faults);
             Put::Failed
         }
         Some(count) => Put::Took(count),

@@ -9,10 +9,8 @@ ghost use Rattle.nv_io.specs.Memory.{AreSizes, piece_len, after_read};
 use crate::pieces::Pieces;
 use crate::reading::{Got, Source};
 use crate::writing::{Put, Sink};
-use std::fs::File;
 use std::marker::Model;
 use std::net::{Net, TcpListener, TcpStream};
-use std::rt::Files;
 
 /// A source of given bytes that never fails. It gives them in pieces of given sizes, over and over.
 #[derive(Drop)]
@@ -47,7 +45,7 @@ impl Source for SureSource {
 
     ghost faults = { λ _. 0 };
 
-    fn read<R: Files<File = File> + Net<Listener = TcpListener, Stream = TcpStream>>(
+    fn read<R: Net<Listener = TcpListener, Stream = TcpStream>>(
         &mut self,
         _rt: &R,
         into: &mut [u8],
@@ -102,7 +100,7 @@ impl Sink for SureSink {
 
     ghost faults = { λ _. 0 };
 
-    fn write<R: Files<File = File> + Net<Listener = TcpListener, Stream = TcpStream>>(
+    fn write<R: Net<Listener = TcpListener, Stream = TcpStream>>(
         &mut self,
         _rt: &R,
         piece: &[u8],
@@ -117,8 +115,5 @@ impl Sink for SureSink {
         Put::Took(piece.len().min(self.most))
     }
 
-    fn finish<R: Files<File = File> + Net<Listener = TcpListener, Stream = TcpStream>>(
-        &mut self,
-        _rt: &R,
-    ) {}
+    fn finish<R: Net<Listener = TcpListener, Stream = TcpStream>>(&mut self, _rt: &R) {}
 }

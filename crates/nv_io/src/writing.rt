@@ -5,9 +5,7 @@ ghost use Rattle.std.specs.Io.KnownBytes.{append_known};
 ghost use Rattle.nv_io.specs.Faults.{Rose};
 ghost use Rattle.nv_io.specs.Writing.{bytes_put, IfTook};
 
-use std::fs::File;
 use std::net::{Net, TcpListener, TcpStream};
-use std::rt::Files;
 
 /// What one write took.
 #[derive(Debug, Clone, Copy, PartialEq, Eq)]
@@ -26,7 +24,7 @@ pub trait Sink {
     ghost faults: { Self → ℕ };
 
     /// Takes bytes from the front of `piece`, as many as there is room for just now.
-    fn write<R: Files<File = File> + Net<Listener = TcpListener, Stream = TcpStream>>(
+    fn write<R: Net<Listener = TcpListener, Stream = TcpStream>>(
         &mut self,
         rt: &R,
         piece: &[u8],
@@ -39,10 +37,7 @@ pub trait Sink {
         ensures failed { result ≡ Put.Failed → Rose (faults self.old) (faults self.new) };
 
     /// Closes the connection both ways. What was taken stays taken.
-    fn finish<R: Files<File = File> + Net<Listener = TcpListener, Stream = TcpStream>>(
-        &mut self,
-        rt: &R,
-    )
+    fn finish<R: Net<Listener = TcpListener, Stream = TcpStream>>(&mut self, rt: &R)
         ensures taken { taken self.new ≡ taken self.old }
         ensures later { faults self.old ≤ faults self.new };
 }

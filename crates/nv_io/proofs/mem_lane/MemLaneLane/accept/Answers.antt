@@ -1,0 +1,15 @@
+use Rattle.std.proofs.Common.{subst, IfSome}
+use Rattle.nv_io.specs.Known.{IsUnused}
+use Rattle.nv_io.proofs.ShelfLemmas.{given_holds, rest_holds}
+use Rattle.nv_io.proofs.mem_lane.MemLaneLane.accept.Goals as goal
+
+pub invariant_of-self-2 : goal.invariant_of-self-2
+invariant_of-self-2 g c =
+    rest_holds (λ d. IsUnused (g.I.Source.taken d.0) (g.I.Source.faults d.0) × IsUnused (g.S.Sink.taken d.1) (g.S.Sink.faults d.1))
+    c.give.result c.give.new.self.coming c.self.inside.shelf.coming c.give.ensures.coming c.self.invariant
+
+pub returns-clause-fresh : goal.returns-clause-fresh
+returns-clause-fresh g c =
+    subst (λ o. IfSome o (λ d. IsUnused (g.I.Source.taken d.0) (g.I.Source.faults d.0) × IsUnused (g.S.Sink.taken d.1) (g.S.Sink.faults d.1))) c.in-Some.is
+    (given_holds (λ d. IsUnused (g.I.Source.taken d.0) (g.I.Source.faults d.0) × IsUnused (g.S.Sink.taken d.1) (g.S.Sink.faults d.1))
+    c.give.result c.give.new.self.coming c.self.inside.shelf.coming c.give.ensures.coming c.self.invariant)
