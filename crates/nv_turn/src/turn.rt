@@ -1,6 +1,6 @@
 // The lock: how a thread comes in and leaves, waits, and how passes are joined.
-ghost use Rattle.std.specs.Prelude.{◌≡◌, ℕ, true, false, List, [], ◌∷◌, ◌++◌, length, Some, None};
-ghost use Rattle.nv_turn.specs.Story.{Has, HasEachUpTo, AddsOneAtMost, longer_of};
+ghost use Rattle.std.specs.Prelude.{◌≡◌, ◌<◌, ◌⊎◌, ℕ, true, false, List, [], ◌∷◌, ◌++◌, length, Some, None};
+ghost use Rattle.nv_turn.specs.Story.{Has, HasEachUpTo, AddsOneAtMost, entries_by, longer_of};
 ghost use Rattle.nv_turn.specs.Passes.{IsSamePass, SeesMore};
 ghost use Rattle.nv_turn.specs.inside.Rule.{first_seen, numbers_carried, longest_seen, EachKnows};
 ghost use Rattle.nv_turn.specs.inside.Steps.{looking_view, joined_view};
@@ -224,12 +224,15 @@ impl<T: Story> Turn<T> {
         self.table.shared.load::<Merge<T>>(seat, 0);
     }
 
-    /// Gives the value back once all passes were joined into the last one.
+    /// Gives the value back once all passes were joined into the last one. Each entry of the story
+    /// then has the number of one of them.
     pub fn close(self, last: Pass<T>) -> T
         requires turn { last.turn ≡ self.turn }
         requires all { HasEachUpTo self.passes last.numbers }
         ensures seen { T.stands result last.seen }
         ensures start { last.start ≡ Some (T.start result) }
+        ensures callers { (c : ℕ) → (c ≡ 0) ⊎ (self.passes < c)
+            → entries_by T.caller c last.seen ≡ [] }
     {
         let Turn {
             table,
