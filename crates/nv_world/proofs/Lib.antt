@@ -17,3 +17,7 @@ pub mod Steppings
 pub mod Entries
 pub mod Applying
 pub mod Refusing
+pub mod RowsSplice
+pub mod CallsSplice
+pub mod Splicings
+pub mod Crossing

@@ -1,5 +1,6 @@
 pub mod Contents
 pub mod Laws
 pub mod Ledgers
+pub mod Steps
 pub mod Worlds
 pub mod inside

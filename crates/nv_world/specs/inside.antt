@@ -5,5 +5,6 @@ pub mod Notices
 pub mod Sessions
 pub mod Tellings
 pub mod Showings
+pub mod Splicing
 pub mod States
 pub mod Worlds

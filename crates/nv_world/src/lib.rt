@@ -10,7 +10,10 @@ mod laws;
 mod session;
 mod shared;
 mod showing;
+mod splicing;
 mod state;
+mod step;
+mod story;
 mod telling;
 mod world;
 
@@ -19,6 +22,8 @@ pub use entry::{Entry, Event};
 pub use history::History;
 pub use laws::world_laws;
 pub use shared::{LinesEvent, SharedMessage};
+pub use step::{BufferSplice, Step};
+pub use story::Start;
 pub use world::World;
 
 #[cfg(test)]

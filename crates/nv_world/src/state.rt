@@ -12,6 +12,7 @@ ghost use Rattle.nv_history.specs.Events.{close_of, closed_at};
 ghost use Rattle.nv_history.specs.Sessions.{Session as ModelSession, has_quit, is_quit, session_closed_by, session_emptied, shown_after};
 ghost use Rattle.nv_history.specs.Spoken.{ShowsIfGiven};
 ghost use Rattle.nv_history.specs.Worlds.{World, close_outcome, editor_due, empty_take_outcome, fresh_world, idles, live_request_outcome, opening_outcome, outcome_of_frame, request_outcome, session_of, some_take_outcome, step, take_outcome, with_session_at, world_after_call};
+ghost use Rattle.nv_world.specs.Steps.{splices_by, splices_of_event};
 ghost use Rattle.nv_world.specs.Contents.{plain_cause, plain_effect, plain_event, plain_stop, scene_given, sent_of_shared};
 ghost use Rattle.nv_world.specs.Worlds.{GivesFewCells, GivesSendable, IsLightCall, IsLightEvent};
 ghost use Rattle.nv_world.specs.declared.effect.Effect.TheVariants.{Items};
@@ -25,6 +26,8 @@ use crate::entry::Event;
 use crate::finishing::{end_if, finish, finish_settled};
 use crate::session::{Session, close, new_session, taken, waiting};
 use crate::showing::{is_any_due, is_scene_due, scene_if, shown_after};
+use crate::splicing::put_splices;
+use crate::step::BufferSplice;
 use crate::telling::{place_of, tell_call};
 use nv_editor::{Editor, Fact};
 use nv_model::Limits;
@@ -117,13 +120,15 @@ fn has_quit(facts: &[Fact]) -> bool
     false
 }
 
-// A session that isn't held makes its call. Tells whether it may have changed what is seen.
+// A session that isn't held makes its call, whose splices are put behind others. Tells whether it
+// may have changed what is seen.
 fn make_call(
     alloc: Global,
     state: &mut State,
     at: u64,
     session: u64,
     frame: &Frame,
+    splices: &mut Vec<BufferSplice>,
 ) -> Result<bool, AllocError>
     requires session { (0 < session) × (session ≤ vec_len state.old.sessions) }
     requires light { IsLightCall (call_of_frame frame.now) }
@@ -133,9 +138,13 @@ fn make_call(
         (outcome_of_frame w.editor session (call_of_frame frame.now)))) }
     ensures seen { IfOk result (λ is_seen. (w : World) → StandsForWorld state.old w
         → is_seen ≡ (outcome_of_frame w.editor session (call_of_frame frame.now)).is_seen) }
+    ensures splices { OnOk result ((w : World) → StandsForWorld state.old w → splices.new.items
+        ≡ splices.old.items ++ splices_by
+        (outcome_of_frame w.editor session (call_of_frame frame.now)).operations) }
 {
     let answered = answer(alloc, &mut state.editor, session, frame)?;
     let quits = has_quit(&answered.facts);
+    put_splices(&answered.facts, splices)?;
     let is_seen = answered.is_seen;
     tell_call(
         alloc,
@@ -188,6 +197,7 @@ fn request(
     numbers: Numbers,
     session: u64,
     frame: &Frame,
+    splices: &mut Vec<BufferSplice>,
 ) -> Result<Effect, Stop>
     requires light { IsLightCall (call_of_frame frame.now) }
     requires sealed { AllSealed state.old.editor }
@@ -195,11 +205,14 @@ fn request(
         (λ w. request_outcome (session_of w session) w session (call_of_frame frame.now)) }
     ensures sendable { IfOk result GivesSendable }
     ensures cells { IfOk result GivesFewCells }
+    ensures splices { OnOk result ((w : World) → IsAt state.old numbers w → splices.new.items
+        ≡ splices.old.items ++ splices_by
+        (outcome_of_frame w.editor session (call_of_frame frame.now)).operations) }
 {
     if let Some(stop) = request_stop(&state.sessions, numbers.capacity, session) {
         return Err(stop);
     }
-    let Ok(is_seen) = make_call(alloc, state, numbers.at, session, frame) else {
+    let Ok(is_seen) = make_call(alloc, state, numbers.at, session, frame, splices) else {
         return Err(Stop::NoMemory);
     };
     let Ok(()) = finish_settled(alloc, state, numbers, is_seen, true) else {
@@ -335,12 +348,13 @@ fn close_session(
     Ok(Effect::Closed)
 }
 
-/// What an event makes of a state.
+/// What an event makes of a state. The splices that it makes are put behind others.
 pub fn happen(
     alloc: Global,
     state: &mut State,
     numbers: Numbers,
     event: &Event,
+    splices: &mut Vec<BufferSplice>,
 ) -> Result<Effect, Stop>
     requires light { IsLightEvent (plain_event event.now) }
     requires sealed { AllSealed state.old.editor }
@@ -352,10 +366,14 @@ pub fn happen(
     ensures cells { IfOk result GivesFewCells }
     ensures memory { IfErr result (λ stop. (w : World) → IsAt state.old numbers w
         → ClosesNoUi w (plain_event event.now) → IsSome (plain_stop stop)) }
+    ensures splices { OnOk result ((w : World) → IsAt state.old numbers w → splices.new.items
+        ≡ splices.old.items ++ splices_of_event w (plain_event event.now)) }
 {
     match event {
         Event::Open => open(alloc, state, numbers),
-        Event::Request { session, frame } => request(alloc, state, numbers, *session, frame),
+        Event::Request { session, frame } => {
+            request(alloc, state, numbers, *session, frame, splices)
+        }
         Event::Take { session } => take(alloc, state, numbers, *session),
         Event::Close { session } => close_session(alloc, state, numbers, *session),
     }

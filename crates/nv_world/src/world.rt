@@ -4,6 +4,7 @@ ghost use Rattle.nv_model.specs.Editors.{ModelEditor};
 ghost use Rattle.nv_model.specs.Standing.{Stands};
 ghost use Rattle.nv_history.specs.Worlds.{World as ModelWorld, session_of};
 ghost use Rattle.nv_world.specs.Contents.{plain_cause, plain_effect, plain_event, plain_stop};
+ghost use Rattle.nv_world.specs.Steps.{AreLastSplices};
 ghost use Rattle.nv_world.specs.Worlds.{AppliesErr, AppliesOk, GivesFewCells, GivesSendable, IsLightEvent, cause_of, is_any_due, model_of, outcome_of_event};
 ghost use Rattle.nv_world.specs.inside.Entering.{is_entry};
 
@@ -12,6 +13,7 @@ use crate::entry::{Entry, Event};
 use crate::history::History;
 use crate::showing::{is_any_due, is_scene_due};
 use crate::state::{Numbers, State, happen};
+use crate::step::BufferSplice;
 use crate::telling::place_of;
 use nv_editor::Editor;
 use nv_model::Limits;
@@ -28,6 +30,8 @@ pub struct World {
     limits: Limits,
     state: State,
     history: History,
+    // The splices of the last entry.
+    last: Vec<BufferSplice>,
     // Whether memory was wanting.
     spent: bool,
 }
@@ -88,6 +92,7 @@ impl World {
             limits,
             state,
             history: History::new(alloc),
+            last: Vec::new(alloc),
             spent: false,
         })
     }
@@ -114,13 +119,17 @@ impl World {
             last: self.limits.entries - 1,
             at: self.history.len() as u64,
         };
-        match happen(self.alloc, &mut self.state, numbers, &event) {
+        let mut splices = Vec::new(self.alloc);
+        match happen(self.alloc, &mut self.state, numbers, &event, &mut splices) {
             Ok(effect) => {
                 if !enters(&effect) {
                     return Ok(effect);
                 }
                 match self.history.push(Entry { caller, event }) {
-                    Ok(()) => Ok(effect),
+                    Ok(()) => {
+                        self.last = splices;
+                        Ok(effect)
+                    }
                     Err(failed) => {
                         self.spent = true;
                         let Entry { event, .. } = failed.value;
@@ -156,6 +165,16 @@ impl World {
         ensures runs { IsSome (model_of self) }
     {
         self.history
+    }
+
+    /// The splices that the last entry made in buffers, in their order.
+    pub fn last_splices(&self) -> Result<Vec<BufferSplice>, AllocError>
+        ensures { IfOk result (λ splices. AreLastSplices self.now.capacity self.now.limits
+            self.now.history splices.items) }
+    {
+        let mut splices = Vec::with_capacity(self.alloc, self.last.len())?;
+        splices.extend_from_slice(self.last.as_slice())?;
+        Ok(splices)
     }
 
     /// The editor, lent: it stands for the one that the history makes, unless the world is spent.

@@ -1,4 +1,4 @@
-use Rattle.std.proofs.Common.{◌≡◌, option_map, List, sym, ap, ◌∙◌, subst, refl, arith}
+use Rattle.std.proofs.Common.{◌≡◌, ◌++◌, option_map, List, sym, ap, ◌∙◌, subst, refl, arith}
 use Rattle.nv_editor.specs.Facts.{facts_of}
 use Rattle.nv_editor.specs.declared.happened.Fact.{Fact}
 use Rattle.nv_rpc.specs.Frames.{call_of_frame}
@@ -8,6 +8,8 @@ use Rattle.nv_world.specs.declared.session.Session.{Session as Kept}
 use Rattle.nv_world.specs.inside.Sessions.{AreSessions}
 use Rattle.nv_rpc.specs.MessageView.{sent_of}
 use Rattle.nv_world.specs.inside.Tellings.{sessions_hear_all, sessions_replied}
+use Rattle.nv_world.specs.inside.Splicing.{splices_told}
+use Rattle.nv_world.proofs.Splicings.{call_splices}
 use Rattle.nv_world.proofs.Steppings.{made_call, whole}
 use Rattle.nv_world.proofs.state.make_call.Goals as goal
 
@@ -22,3 +24,9 @@ returns-clause-stands c = λ w stands at.
     (subst (λ (l : List Kept). AreSessions w.capacity c.args.state.now.subs l w.sessions) (sym c.deref_mut.ensures.value) stands.sessions)))
     (c.has_quit-quits.ensures ∙ ap (λ (l : List Fact). has_quit (facts_of l)) c.deref.ensures.value)
     (λ v middle e. c.end_if.ensures.world v middle e)
+
+pub returns-clause-splices : goal.returns-clause-splices
+returns-clause-splices c = λ w stands.
+    call_splices w.editor c.args.session (call_of_frame c.args.frame.now) (facts_of c.in_ok-answered.answered.facts.items) c.args.splices.now.items c.put_splices.new.splices.items
+    (c.in_ok-answered.ensures.answer w.editor stands.editor).told
+    (c.in_ok-put_splices.ensures ∙ ap (λ (l : List Fact). c.args.splices.now.items ++ splices_told (facts_of l)) c.deref-2.ensures.value)

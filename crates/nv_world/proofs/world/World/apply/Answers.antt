@@ -3,13 +3,16 @@ use Rattle.std.specs.Prelude.{IsSome}
 use Rattle.nv_history.specs.Runs.{run}
 use Rattle.nv_history.specs.Worlds.{World, Outcome, step, becomes, idles, refuses}
 use Rattle.nv_world.specs.Contents.{plain_entries, plain_event}
+use Rattle.nv_world.specs.Steps.{splices_of_event}
 use Rattle.nv_world.specs.Worlds.{WorldRecord, model_of, outcome_of_event, with_entry}
+use Rattle.nv_world.specs.declared.step.BufferSplice.{BufferSplice}
 use Rattle.nv_world.specs.declared.entry.Entry.{Entry}
 use Rattle.nv_world.specs.declared.state.State.{State}
 use Rattle.nv_world.specs.inside.States.{StandsNumbered}
 use Rattle.nv_world.proofs.Entries.{some_of, step_fits, it_idles, it_enters, applies_idle, applies_entry, run_push, one_world}
 use Rattle.nv_world.proofs.Refusing.{kept_state, refusal_applies}
 use Rattle.nv_world.proofs.Applying.{at_entry, named_outcome, other_none, other_some, went_on, with_entry_is}
+use Rattle.nv_world.proofs.Splicings.{last_pushed}
 use Rattle.nv_world.proofs.world.World.apply.Goals as goal
 
 pub happen-requires-clause-sealed : goal.happen-requires-clause-sealed
@@ -32,6 +35,7 @@ invariant_of-self c =
       entries = c.self.invariant.entries;
       runs = c.self.invariant.runs;
       stands = λ w live runs. subst (λ (s : State). StandsNumbered s (record { capacity = c.self.inside.capacity; last = c.self.inside.limits.entries - 1; at = length c.self.inside.history.entries }) w) (sym idle.same) (c.self.invariant.stands w live runs);
+      last = c.self.invariant.last;
     }
 
 pub returns-then-not-enters-clause-ok : goal.returns-then-not-enters-clause-ok
@@ -59,6 +63,8 @@ invariant_of-self-in-Ok-push c =
       runs = subst (λ (o : Option World). IsSome o) (sym later) refl;
       stands = λ w live runs. went_on c.happen.new.state _ _ _ _ _ enters.after w
           (ap (length {A = Entry}) c.in-Ok-push.ensures.ok ∙ length-append c.self.inside.history.entries (entry ∷ [])) c.len.ensures.count (one_world _ enters.after w later runs) enters.stands;
+      last = last_pushed c.self.inside.capacity c.self.inside.limits c.self.inside.history.entries c.push.new.self.entries entry p.0 c.happen.new.splices.items c.in-Ok-push.ensures.ok p.1
+          (c.in-Ok.ensures.splices p.0 at ∙ ap (λ (l : List BufferSplice). l ++ splices_of_event p.0 (plain_event c.args.event)) c.new-splices.ensures.items);
     }
 
 pub returns-in-Ok-push-clause-ok : goal.returns-in-Ok-push-clause-ok
@@ -86,8 +92,8 @@ returns-then-not-enters-clause-sendable c =
     let at = at_entry c.self.inside.state c.self.inside.capacity c.self.inside.limits c.self.inside.history.entries (c.self.inside.limits.entries - 1) c.len.result p.0 c.len.ensures.count c.len.ensures.small p.1 (c.self.invariant.stands p.0 c.if-self.false p.1) in
     c.in-Ok.ensures.sendable p.0 at
 
-pub invariant_of-self-in-Err : goal.invariant_of-self-in-Err
-invariant_of-self-in-Err c =
+pub invariant_of-self-in-Err-happen : goal.invariant_of-self-in-Err-happen
+invariant_of-self-in-Err-happen c =
     let p = some_of (run c.self.inside.capacity c.self.inside.limits (plain_entries c.self.inside.history.entries)) c.self.invariant.runs in
     let at = at_entry c.self.inside.state c.self.inside.capacity c.self.inside.limits c.self.inside.history.entries (c.self.inside.limits.entries - 1) c.len.result p.0 c.len.ensures.count c.len.ensures.small p.1 (c.self.invariant.stands p.0 c.if-self.false p.1) in
     record {
@@ -97,6 +103,7 @@ invariant_of-self-in-Err c =
           (sym (kept_state c.self.inside.state c.happen.new.state (record { capacity = c.self.inside.capacity; last = c.self.inside.limits.entries - 1; at = c.len.result }) c.in-Err.stop (step p.0 (plain_event c.args.event)) c.is_want-self-inside.result c.is_want-self-inside.ensures live
           (c.in-Err.ensures.steps p.0 at)))
           (c.self.invariant.stands w c.if-self.false runs);
+      last = c.self.invariant.last;
     }
 
 pub returns-in-Err : goal.returns-in-Err

@@ -1,0 +1,38 @@
+//! The splices that a call makes in buffers, by what it tells.
+ghost use Rattle.std.specs.Prelude.{◌≡◌, ◌++◌, OnOk};
+ghost use Rattle.nv_editor.specs.Facts.{fact_of, facts_of};
+ghost use Rattle.nv_world.specs.inside.Splicing.{splice_told, splices_told};
+
+use crate::step::BufferSplice;
+use nv_editor::Fact;
+use std::alloc::AllocError;
+
+// Puts the splice that a fact tells of behind others, where it tells of one.
+fn put_splice(fact: &Fact, splices: &mut Vec<BufferSplice>) -> Result<(), AllocError>
+    ensures { OnOk result (splices.new.items
+        ≡ splices.old.items ++ splice_told (fact_of fact.now)) }
+{
+    match fact {
+        Fact::Edited { buffer, spliced } => {
+            splices.push(BufferSplice {
+                buffer: *buffer,
+                at: spliced.edit.at,
+                old: spliced.edit.old,
+                new: spliced.edit.new,
+            })?;
+            Ok(())
+        }
+        Fact::Attached { .. } | Fact::Detached { .. } | Fact::Deleted { .. } | Fact::Quit => Ok(()),
+    }
+}
+
+/// Puts the splices that facts tell of behind others, in their order.
+pub fn put_splices(facts: &[Fact], splices: &mut Vec<BufferSplice>) -> Result<(), AllocError>
+    ensures { OnOk result (splices.new.items
+        ≡ splices.old.items ++ splices_told (facts_of facts.now)) }
+{
+    for fact in facts {
+        put_splice(fact, splices)?;
+    }
+    Ok(())
+}
