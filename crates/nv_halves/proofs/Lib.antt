@@ -1,0 +1,13 @@
+pub mod CallBounds
+pub mod ReadsOnce
+pub mod Plains
+pub mod Refusing
+pub mod Onces
+pub mod Staying
+pub mod Exactness
+pub mod Answering
+pub mod Speaking
+pub mod WritingOn
+pub mod Intaking
+pub mod Closings
+pub mod AskedOrder

@@ -1,0 +1,6 @@
+pub mod Reading
+pub mod Passes
+pub mod Halves
+pub mod Applying
+pub mod Laws
+pub mod inside

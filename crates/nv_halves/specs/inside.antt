@@ -1,0 +1,6 @@
+-- What private contracts alone cite.
+pub mod Applied
+pub mod Insisting
+pub mod Taking
+pub mod Intakes
+pub mod Dealing

@@ -1,0 +1,139 @@
+-- inside: what a writer takes, and what it has written on its way.
+use Rattle.std.specs.Prelude.{◌≡◌, ℕ, List, [], ◌∷◌, ◌++◌, take, map, All, Option, Some, None}
+use Rattle.std.specs.Io.KnownBytes.{append_known}
+use Rattle.nv_turn.specs.Passes.{IsSamePass}
+use Rattle.nv_rpc.specs.Messages.{Sent, IsSendable}
+use Rattle.nv_screen.specs.declared.scene.Scene.{Scene}
+use Rattle.nv_linegrid.specs.declared.event.Redraw.{Redraw}
+use Rattle.nv_linegrid.specs.Told.{Told, nothing_told}
+use Rattle.nv_model.specs.Editors.{ModelEditor}
+use Rattle.nv_painter.specs.Spoken.{IsSoundIfThere}
+use Rattle.nv_history.specs.Events.{take_of, Entry, gives}
+use Rattle.nv_history.specs.Worlds.{World, becomes, step}
+use Rattle.nv_history.specs.Runs.{TakenBatch}
+use Rattle.nv_history.specs.Asking.{takes_by}
+use Rattle.nv_history.specs.Spoken.{bytes_of_messages, bytes_of_scene, ShowsIfGiven, AreSpoken, AreBytesOf}
+use Rattle.nv_world.specs.Contents.{plain_cause, sent_of_shared}
+use Rattle.nv_world.specs.declared.effect.Batch.{Batch}
+use Rattle.nv_world.specs.declared.effect.Cause.{Cause as WorldCause}
+use Rattle.nv_world.specs.declared.effect.Effect.{Effect as WorldEffect}
+use Rattle.nv_world.specs.declared.effect.Effect.TheVariants as effect
+use Rattle.nv_world.specs.declared.story.Start.{Start}
+use Rattle.nv_halves.specs.Passes.{WorldPass, world_of_run, out_of, IsFromWriter, GainedEach, IsOver}
+use Rattle.nv_halves.specs.Applying.{AppliesOnce}
+use Rattle.nv_halves.specs.Halves.{WritesHalf}
+use Rattle.nv_halves.specs.inside.Insisting.{Stays}
+use Rattle.nv_halves.specs.declared.ends.WriterEnd.{WriterEnd}
+use Rattle.nv_halves.specs.declared.ends.WriterEnd.TheVariants as w
+use Rattle.nv_halves.specs.declared.insisting.Answer.{Answer}
+use Rattle.nv_halves.specs.declared.insisting.Answer.TheVariants as answer
+use Rattle.nv_halves.specs.declared.writer.Took.{Took}
+use Rattle.nv_halves.specs.declared.writer.Took.TheVariants as took
+use Rattle.nv_halves.specs.declared.writer.Written.{Written}
+use Rattle.nv_halves.specs.declared.writer.Written.TheVariants as written
+
+-- ---- what was taken
+
+-- what an effect is to a writer; a take has no others
+abbrev pub taken_of_effect : WorldEffect → Took
+taken_of_effect (effect.Items batch) = took.Batch batch
+taken_of_effect effect.Nothing = took.Nothing
+taken_of_effect (effect.Over cause) = took.Over cause
+taken_of_effect (effect.Opened s) = took.NoMemory
+taken_of_effect effect.Done = took.NoMemory
+taken_of_effect effect.Closed = took.NoMemory
+
+abbrev pub what_was_taken : Answer → Took
+what_was_taken (answer.Done effect) = taken_of_effect effect
+what_was_taken (answer.Gone cause) = took.NoMemory
+what_was_taken answer.NoMemory = took.NoMemory
+
+-- the messages of a batch
+abbrev pub sent_in : Batch → List Sent
+sent_in batch = map sent_of_shared batch.messages.items
+
+-- a pass took these messages for a session, and a scene where its UI is to show the editor
+pub record IsTaken (start : Option Start) (number s : ℕ) (messages : List Sent)
+    (scene : Option Scene) (found after : List Entry) : Type 0 where
+  pub world : World
+  pub later : World
+  pub editor : Option ModelEditor
+  pub runs : world_of_run start found ≡ Some world
+  pub shows : ShowsIfGiven editor scene
+  pub gave : step world (take_of s) ≡ becomes later (gives messages editor)
+  pub entered : after ≡ found ++ record { caller = number; event = take_of s } ∷ []
+
+-- a batch that can be spoken was taken
+pub record TakesBatch (p q : WorldPass) (s : ℕ) (batch : Batch) : Type 0 where
+  pub once : AppliesOnce p q
+      (λ found. IsTaken p.start p.number s (sent_in batch) batch.scene found q.seen)
+  pub sendable : All IsSendable (sent_in batch)
+  pub sound : IsSoundIfThere batch.scene
+
+-- nothing is due to a session any more: it is closed for this cause
+pub record IsOverNow (q : WorldPass) (s : ℕ) (cause : WorldCause) : Type 0 where
+  pub world : World
+  pub runs : world_of_run q.start q.seen ≡ Some world
+  pub over : IsOver world s (plain_cause cause)
+
+-- what a take of a session gave
+abbrev pub TakesOnce : Took → WorldPass → WorldPass → ℕ → Type 0
+TakesOnce (took.Batch batch) p q s = TakesBatch p q s batch
+TakesOnce took.Nothing p q s = Stays p q
+TakesOnce (took.Over cause) p q s = Stays p q × IsOverNow q s cause
+TakesOnce took.NoMemory p q s = Stays p q
+
+-- ---- a writer on its way
+
+-- these are the batches that the takes of a session gave in a history, where those are the gained
+-- ones
+abbrev pub IsExact : Option Start → ℕ → List Entry → List Entry → List TakenBatch → Type 0
+IsExact start s now gained got =
+    (w : World) → world_of_run start now ≡ Some w → takes_by s now ≡ takes_by s gained
+    → out_of start s now ≡ got
+
+-- what a pass gained that takes for a session, and the batches that it took
+pub record GainsTakes (p q : WorldPass) (s : ℕ) (got : List TakenBatch) : Type 0 where
+  pub same : IsSamePass p q
+  pub gained : List Entry
+  pub gains : GainedEach (IsFromWriter s) p.number p.seen q.seen gained
+  pub exact : IsExact p.start s q.seen gained got
+
+-- all of it went out, and the client was told so much
+pub record WritesSoFar (p q : WorldPass) (s : ℕ) (told : Told) (before now : Option (List ℕ))
+    : Type 0 where
+  pub got : List TakenBatch
+  pub takes : GainsTakes p q s got
+  pub bytes : List ℕ
+  pub events : List Redraw
+  pub spoken : AreSpoken nothing_told got bytes events told
+  pub written : now ≡ append_known before bytes
+
+-- a front of it went out
+pub record WritesPart (p q : WorldPass) (s : ℕ) (before now : Option (List ℕ)) : Type 0 where
+  pub got : List TakenBatch
+  pub takes : GainsTakes p q s got
+  pub bytes : List ℕ
+  pub bytes_are : AreBytesOf got bytes
+  pub count : ℕ
+  pub written : now ≡ append_known before (take count bytes)
+
+-- the bytes of messages, and of the redraw notification of a scene, where there is one
+abbrev pub bytes_of_taken : Told → List Sent → Option Scene → List ℕ
+bytes_of_taken told messages scene = bytes_of_messages messages ++ bytes_of_scene told scene
+
+-- an end by which a batch goes out in part: writing failed, or memory was wanting
+abbrev pub IsCutOff : WriterEnd → Type 0
+IsCutOff w.WriteFault = Unit {0}
+IsCutOff w.NoMemory = Unit {0}
+IsCutOff (w.Over cause) = ⊥
+
+-- what one take of a writer did, whatever it did before
+abbrev pub WritesOnce : Written → WorldPass → WorldPass → ℕ → Told → Told → Option (List ℕ)
+    → Option (List ℕ) → Type 0
+WritesOnce (written.Ends end) p q s told told_now out now =
+    (first : WorldPass) (before : Option (List ℕ)) → WritesSoFar first p s told before out
+    → WritesHalf end first q s before now
+WritesOnce on p q s told told_now out now =
+    (first : WorldPass) (before : Option (List ℕ)) → WritesSoFar first p s told before out
+    → WritesSoFar first q s told_now before now

@@ -1,0 +1,25 @@
+//! The two halves of a session under the turn: one reads calls and makes them, one takes what is
+//! due and writes it.
+//!
+//! Each half has a pass of its own. It decodes, speaks and writes outside the turn, and comes in
+//! for one event at a time.
+#![tactic(auto)]
+
+mod applying;
+mod bells;
+mod ends;
+mod insisting;
+mod laws;
+mod reader;
+mod sending;
+mod steps;
+mod voice;
+mod writer;
+
+pub use applying::once;
+pub use bells::Bell;
+pub use ends::{ReaderEnd, Refusal, Refused, WriterEnd};
+pub use laws::{asking_law, quitting_law, reads_once};
+pub use reader::{ReaderHalf, reader_half};
+pub use voice::Voice;
+pub use writer::{WriterHalf, writer_half};

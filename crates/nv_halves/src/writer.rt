@@ -1,0 +1,201 @@
+//! The half that writes: it takes what is due to its session and writes it, until the session is
+//! over.
+ghost use Rattle.std.specs.Prelude.{◌≡◌, ◌<◌, ◌≤◌, length};
+ghost use Rattle.nv_io.specs.Faults.{Rose};
+ghost use Rattle.nv_linegrid.specs.Told.{nothing_told};
+ghost use Rattle.nv_turn.specs.Passes.{IsSamePass};
+ghost use Rattle.nv_halves.specs.Passes.{plain_pass};
+ghost use Rattle.nv_halves.specs.Halves.{WritesHalf};
+ghost use Rattle.nv_halves.specs.inside.Taking.{TakesOnce, WritesOnce, what_was_taken};
+
+use crate::bells::Bell;
+use crate::ends::WriterEnd;
+use crate::insisting::{Answer, insist, shut};
+use crate::sending::send;
+use crate::voice::Voice;
+use nv_io::Sink;
+use nv_turn::{Pass, Turn};
+use nv_world::{Batch, Cause, Effect, Event, World};
+use std::alloc::Global;
+use std::net::{Net, TcpListener, TcpStream};
+use std::sync::Wait;
+
+/// The half that writes, once it ended.
+#[derive(Drop)]
+pub struct WriterHalf<S> {
+    pub pass: Pass<World>,
+    pub output: S,
+    pub end: WriterEnd,
+}
+
+/// What a take gave.
+#[derive(Drop)]
+pub enum Took {
+    Batch(Batch),
+    Nothing,
+    /// Nothing is due any more: the session is closed for this cause.
+    Over(Cause),
+    /// Memory was wanting.
+    NoMemory,
+}
+
+/// What came of one take.
+#[derive(Clone, Copy, Debug, PartialEq, Eq)]
+pub enum Written {
+    /// What was due went out.
+    On,
+    /// Nothing was due.
+    Idle,
+    Ends(WriterEnd),
+}
+
+fn took_by(answer: Answer) -> Took
+    ensures { result ≡ what_was_taken answer }
+{
+    match answer {
+        Answer::Done(effect) => match effect {
+            Effect::Items(batch) => Took::Batch(batch),
+            Effect::Nothing => Took::Nothing,
+            Effect::Over(cause) => Took::Over(cause),
+            Effect::Opened(_) => Took::NoMemory,
+            Effect::Done => Took::NoMemory,
+            Effect::Closed => Took::NoMemory,
+        },
+        Answer::Gone(_) => Took::NoMemory,
+        Answer::NoMemory => Took::NoMemory,
+    }
+}
+
+// Takes what is due to a session.
+fn take_due<R: Wait>(
+    rt: &R,
+    turn: &Turn<World>,
+    bells: &[Bell],
+    pass: Pass<World>,
+    session: u64,
+) -> (Pass<World>, Took)
+    requires { pass.turn ≡ turn.now.turn }
+    ensures { TakesOnce result.1 (plain_pass pass) (plain_pass result.0) session }
+{
+    let (pass, answer) = insist(rt, turn, bells, pass, Event::Take { session });
+    (pass, took_by(answer))
+}
+
+// Takes what is due to a session, and writes it. Where that fails the session is closed.
+fn write_once<R: Net<Listener = TcpListener, Stream = TcpStream> + Wait, S: Sink, V: Voice>(
+    rt: &R,
+    alloc: Global,
+    turn: &Turn<World>,
+    bells: &[Bell],
+    pass: Pass<World>,
+    session: u64,
+    voice: &mut V,
+    room: &mut Vec<u8>,
+    output: &mut S,
+) -> (Pass<World>, Written)
+    requires { pass.turn ≡ turn.now.turn }
+    ensures turn { result.0.turn ≡ pass.turn }
+    ensures writes { WritesOnce result.1 (plain_pass pass) (plain_pass result.0) session
+        (V.told voice.old) (V.told voice.new) (S.taken output.old) (S.taken output.new) }
+    ensures later { S.faults output.old ≤ S.faults output.new }
+    ensures fault { result.1 ≡ Written.Ends WriterEnd.WriteFault
+        → Rose (S.faults output.old) (S.faults output.new) }
+{
+    let (pass, took) = take_due(rt, turn, bells, pass, session);
+    match took {
+        Took::Batch(batch) => match send(rt, alloc, batch, voice, room, output) {
+            Ok(()) => (pass, Written::On),
+            Err(end) => {
+                let (pass, _) = shut(rt, turn, bells, pass, session);
+                (pass, Written::Ends(end))
+            }
+        },
+        Took::Nothing => (pass, Written::Idle),
+        Took::Over(cause) => (pass, Written::Ends(WriterEnd::Over(cause))),
+        Took::NoMemory => (pass, Written::Ends(WriterEnd::NoMemory)),
+    }
+}
+
+// Takes and writes what is due to a session, and sleeps where nothing is, until the session is over
+// or writing fails.
+fn write_all<R: Net<Listener = TcpListener, Stream = TcpStream> + Wait, S: Sink, V: Voice>(
+    rt: &R,
+    alloc: Global,
+    turn: &Turn<World>,
+    bells: &[Bell],
+    lane: usize,
+    pass: Pass<World>,
+    session: u64,
+    voice: &mut V,
+    output: &mut S,
+) -> (Pass<World>, WriterEnd)
+    requires turn { pass.turn ≡ turn.now.turn }
+    requires lane { lane < length bells.now }
+    requires told { V.told voice.old ≡ nothing_told }
+    ensures wrote { WritesHalf result.1 (plain_pass pass) (plain_pass result.0) session
+        (S.taken output.old) (S.taken output.new) }
+    ensures later { S.faults output.old ≤ S.faults output.new }
+    ensures fault { result.1 ≡ WriterEnd.WriteFault
+        → Rose (S.faults output.old) (S.faults output.new) }
+{
+    let mut pass = pass;
+    let mut room = Vec::new(alloc);
+    'takes: for _ in rt.forever() {
+        let heard = bells[lane].heard();
+        let (next, written) = write_once(
+            rt, alloc, turn, bells, pass, session, voice, &mut room, output,
+        );
+        pass = next;
+        match written {
+            Written::On => {}
+            Written::Idle => bells[lane].sleep(rt, heard),
+            Written::Ends(end) => return (pass, end),
+        }
+    }
+    unreachable!()
+}
+
+/// Takes what is due to a session, one batch after another, and writes each to `output` as the
+/// voice speaks it, until the session is over. Each batch is taken under the turn; it is spoken and
+/// written outside it. Where nothing is due the half sleeps on the bell of its lane. After a fault
+/// of `output`, or want of memory, it closes the session. On every way out `output` is finished, so
+/// that the half that reads from the same connection finds its end.
+pub fn writer_half<
+    R: Net<Listener = TcpListener, Stream = TcpStream> + Wait,
+    S: Sink,
+    V: Voice + Drop,
+>(
+    rt: &R,
+    alloc: Global,
+    turn: &Turn<World>,
+    bells: &[Bell],
+    lane: usize,
+    pass: Pass<World>,
+    session: u64,
+    mut output: S,
+    mut voice: V,
+) -> WriterHalf<S>
+    requires turn { pass.turn ≡ turn.now.turn }
+    requires lane { lane < length bells.now }
+    requires told { V.told voice ≡ nothing_told }
+    ensures pass { IsSamePass (plain_pass pass) (plain_pass result.pass) }
+    ensures wrote { WritesHalf result.end (plain_pass pass) (plain_pass result.pass) session
+        (S.taken output) (S.taken result.output) }
+    ensures later { S.faults output ≤ S.faults result.output }
+    ensures fault { result.end ≡ WriterEnd.WriteFault
+        → Rose (S.faults output) (S.faults result.output) }
+{
+    let (pass, end) = write_all(
+        rt,
+        alloc,
+        turn,
+        bells,
+        lane,
+        pass,
+        session,
+        &mut voice,
+        &mut output,
+    );
+    output.finish(rt);
+    WriterHalf { pass, output, end }
+}
