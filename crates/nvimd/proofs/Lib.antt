@@ -1,13 +1,4 @@
-pub mod Alone
-pub mod CallBounds
+pub mod Asked
 pub mod Following
-pub mod Histories
-pub mod Leaving
 pub mod Lines
 pub mod Played
-pub mod ReadsOnce
-pub mod Sending
-pub mod Serving
-pub mod Spelling
-pub mod Steps
-pub mod Taking

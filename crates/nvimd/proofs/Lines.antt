@@ -5,7 +5,7 @@ use Rattle.std.proofs.lemmas.Grind.{flat_map-append}
 use Rattle.std.proofs.lemmas.List.{take-append-le, take_all}
 use Rattle.std.specs.Io.KnownBytes.{append_known}
 use Rattle.nv_io.specs.Streams.{Tells}
-use Rattle.nvimd.proofs.Serving.{known_then, take_past}
+use Rattle.nv_session.proofs.Serving.{known_then, take_past}
 
 -- the parts before one, it, and those after it
 parts_at : {X : Type 0} (f : X → List ℕ) (parts : List X) (i : ℕ) (d : X) → i < length parts
@@ -36,12 +36,3 @@ told_all f parts i faults now before after h p =
 -- a line in other words
 pub tells_as : (line other : List ℕ) (before after : Option (List ℕ)) (faults now : ℕ) → line ≡ other → Tells line before after faults now → Tells other before after faults now
 tells_as line other before after faults now e h = subst (λ (l : List ℕ). Tells l before after faults now) e h
-
--- one word alone
-pub one_word : {X : Type 0} (f : X → List ℕ) (words : List X) (d : X) → 1 ≤ length words → length words < 2 → map f words ≡ f (get_or words 0 d) ∷ []
-one_word f [] d h k = absurd (omega arith)
-one_word f (w ∷ []) d h k = refl
-one_word f (w ∷ v ∷ ws) d h k = absurd (omega arith)
-
-pub one_is : (a b : List ℕ) → a ∷ [] ≡ b ∷ [] → a ≡ b
-one_is a b e = cc

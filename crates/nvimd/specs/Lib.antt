@@ -1,6 +1,3 @@
-pub mod Command
-pub mod Ends
+pub mod Commands
 pub mod Following
-pub mod Reading
-pub mod Sending
-pub mod inside
+pub mod Statuses

@@ -1,11 +1,7 @@
 //! A headless Neovim: an editor that programs use through Neovim's API over MessagePack-RPC.
 #![tactic(auto)]
 
-mod asking;
 mod command;
-mod laws;
-mod session;
-mod speaking;
 mod telling;
 mod whole;
 

@@ -3,13 +3,11 @@
 ghost use Rattle.std.specs.Prelude.{◌≡◌, flat_map};
 ghost use Rattle.nv_io.specs.Streams.{Tells};
 ghost use Rattle.nv_io.specs.declared.ending.Ended.TheVariants.{Malformed};
-ghost use Rattle.nvimd.specs.Ends.{status_of, line_of, malformed_line};
+ghost use Rattle.nvimd.specs.Statuses.{status_of, line_of, malformed_line};
 
 use itoa::Buffer;
 use nv_io::{Ended, Flaw, Sink, put_all};
-use std::fs::File;
 use std::net::{Net, TcpListener, TcpStream};
-use std::rt::Files;
 
 /// The status of an end.
 pub fn status_of(ended: Ended) -> u8
@@ -26,7 +24,7 @@ pub fn status_of(ended: Ended) -> u8
 }
 
 /// Writes the parts of a line to `errors`, one after another, up to a fault.
-pub fn tell<R: Files<File = File> + Net<Listener = TcpListener, Stream = TcpStream>, E: Sink>(
+pub fn tell<R: Net<Listener = TcpListener, Stream = TcpStream>, E: Sink>(
     rt: &R,
     errors: &mut E,
     parts: &[&str],
@@ -55,7 +53,7 @@ fn word_of(flaw: Flaw) -> (&'static str, u64)
 }
 
 /// Writes the line of an end to `errors`, where it has one.
-pub fn tell_end<R: Files<File = File> + Net<Listener = TcpListener, Stream = TcpStream>, E: Sink>(
+pub fn tell_end<R: Net<Listener = TcpListener, Stream = TcpStream>, E: Sink>(
     rt: &R,
     errors: &mut E,
     ended: Ended,

@@ -899,7 +899,7 @@ fn many_edits(alloc: Global, count: u16) -> Result<Vec<u8>, AllocError> {
     Ok(input)
 }
 
-// One request makes 4,096 messages due, and one makes one more.
+// One request makes 4,096 messages due, and one makes one more; and so with the least outbox.
 #[test]
 fn an_outbox_overflows(rt: HostRuntime) -> Result<(), Fail> {
     let alloc = rt.alloc();
@@ -912,6 +912,11 @@ fn an_outbox_overflows(rt: HostRuntime) -> Result<(), Fail> {
         b"nvimd: outbox overflow at entry 3\n".as_slice()
     );
     assert_eq!(rt; letters(alloc, &left.kept)?.as_slice(), b"ORTRT".as_slice());
+    let least: [&str; 3] = ["embed", "--outbox", "16"];
+    let input = source(alloc, &many_edits(alloc, 15)?, 4_096, Vec::new(alloc))?;
+    assert_eq!(rt; play(&rt, &least, input, ample(alloc)).status, 0);
+    let input = source(alloc, &many_edits(alloc, 16)?, 4_096, Vec::new(alloc))?;
+    assert_eq!(rt; play(&rt, &least, input, ample(alloc)).status, 7);
     Ok(())
 }
 
@@ -1046,7 +1051,13 @@ fn a_write_fault_goes_before_the_end_of_the_server(rt: HostRuntime) -> Result<()
 #[test]
 fn other_words_are_refused(rt: HostRuntime) -> Result<(), Fail> {
     let alloc = rt.alloc();
-    let refused: [&[&str]; 4] = [&[], &["serve"], &["embed", "embed"], &["Embed"]];
+    let refused: [&[&str]; 5] = [
+        &[],
+        &["serve"],
+        &["embed", "embed"],
+        &["Embed"],
+        &["embed", "--outbox", "15"],
+    ];
     for words in refused {
         let input = source(alloc, SET_GET, 1, Vec::new(alloc))?;
         let left = play(&rt, words, input, ample(alloc));

@@ -4,15 +4,14 @@ ghost use Rattle.nv_io.specs.Memory.{AreSizes};
 ghost use Rattle.nv_io.specs.declared.ending.Flaw.{Flaw};
 ghost use Rattle.nv_history.specs.Events.{quit_at};
 ghost use Rattle.nv_world.specs.Contents.{plain_entries};
-ghost use Rattle.nvimd.specs.Ends.{AnswersAll, AnswersUpTo};
+ghost use Rattle.nv_session.specs.Ends.{AnswersAll, AnswersUpTo};
+ghost use Rattle.nvimd.specs.Commands.{start_with};
 
 use crate::command::run;
 use nv_io::{MemSink, SureSink, SureSource};
 use nv_world::History;
 use std::alloc::Global;
-use std::fs::File;
 use std::net::{Net, TcpListener, TcpStream};
-use std::rt::Files;
 
 /// Answers the calls in `bytes`, which come in pieces of the sizes in `cuts`, over and over. Gives
 /// the status, the sink that took what went out, and the history.
@@ -20,7 +19,7 @@ use std::rt::Files;
 /// Status 0 says that the bytes are calls and nothing else, and that each was answered; or that one
 /// of the calls at their front ended the server, and that those up to it were answered. Status 6
 /// says that they hold calls up to a flaw, and that each of these was answered.
-pub fn answer_all<R: Files<File = File> + Net<Listener = TcpListener, Stream = TcpStream>>(
+pub fn answer_all<R: Net<Listener = TcpListener, Stream = TcpStream>>(
     rt: &R,
     alloc: Global,
     bytes: Vec<u8>,
@@ -32,14 +31,14 @@ pub fn answer_all<R: Files<File = File> + Net<Listener = TcpListener, Stream = T
     ensures command { result.0 ≢ 2 }
     ensures sure { result.0 ≢ 3 }
     ensures whole { result.0 ≡ 0
-        → AnswersAll None bytes.items (plain_entries result.2.entries) (Some [])
+        → AnswersAll (start_with 4096) None bytes.items (plain_entries result.2.entries) (Some [])
         (Some result.1.taken)
         ⊎ ((entry : ℕ) × (read rest : List ℕ) × (bytes.items ≡ read ++ rest)
-        × AnswersUpTo (quit_at entry) read (plain_entries result.2.entries) (Some [])
-        (Some result.1.taken)) }
+        × AnswersUpTo (start_with 4096) (quit_at entry) read (plain_entries result.2.entries)
+        (Some []) (Some result.1.taken)) }
     ensures malformed { result.0 ≡ 6
         → (flaw : Flaw) × (read rest : List ℕ) × (bytes.items ≡ read ++ rest)
-        × AnswersAll (Some flaw) read (plain_entries result.2.entries) (Some [])
+        × AnswersAll (start_with 4096) (Some flaw) read (plain_entries result.2.entries) (Some [])
         (Some result.1.taken) }
 {
     let mut input = SureSource::new(bytes, cuts);

@@ -1,22 +1,75 @@
-use Rattle.std.proofs.Common.{inl}
+use Rattle.std.proofs.Common.{◌≡◌, [], ℕ, List, map, Err, ap, sym, subst, inl}
+use Rattle.std.specs.Prelude.{IsSome}
+use Rattle.nv_io.specs.Streams.{Tells}
+use Rattle.nv_io.specs.declared.ending.Ended.TheVariants.{NoMemory}
+use Rattle.nv_words.specs.declared.command.Refusal.{Refusal}
+use Rattle.nv_words.specs.declared.command.Refusal.TheVariants as refusal
 use Rattle.nv_world.specs.Contents.{plain_entries}
+use Rattle.nv_world.specs.declared.story.Start.{Start}
+use Rattle.nv_session.specs.Ends.{SessionEnds}
+use Rattle.nv_session.specs.Sending.{world_after}
+use Rattle.nv_session.proofs.Leaving.{ends_before}
+use Rattle.nv_session.proofs.Serving.{gave_none}
+use Rattle.nvimd.specs.Commands.{start_if_asked, start_of_command, start_of_words}
+use Rattle.nvimd.specs.Following.{IsFolded}
+use Rattle.nvimd.specs.Statuses.{line_of_refusal}
+use Rattle.nvimd.proofs.Asked.{is_memory}
 use Rattle.nvimd.proofs.Following.{kept_folded, marks_in_place, shown}
 use Rattle.nvimd.proofs.command.run.Goals as goal
 
-pub returns-then-not-is_embed-clause-folds : goal.returns-then-not-is_embed-clause-folds
-returns-then-not-is_embed-clause-folds g c = kept_folded c.fold_law.ensures.folds c.args.kept.now.entries (inl c.requires.empty)
+pub returns-in-Ok-clause-session : goal.returns-in-Ok-clause-session
+returns-in-Ok-clause-session g c = λ taken.
+    let begins : start_of_words (map (λ word. word.now) c.args.words.now) ≡ start_of_command c.in-Ok.command = ap start_if_asked c.in-Ok.ensures.command in
+    let s = c.perform.ensures.session in (
+      s.0,
+      s.1,
+      s.2,
+      s.3,
+      subst
+          (λ (d : Start).
+          SessionEnds d s.0 s.1 (g.I.Source.left c.perform.new.input) (plain_entries c.perform.new.kept.entries) (g.S.Sink.taken c.args.output.now) (g.S.Sink.taken c.perform.new.output))
+          (sym begins) s.4,
+      s.5,
+    )
 
-pub returns-then-not-is_embed-clause-marks : goal.returns-then-not-is_embed-clause-marks
-returns-then-not-is_embed-clause-marks g c = marks_in_place c.mark_law.ensures (plain_entries c.args.kept.now.entries)
+pub returns-in-Ok-clause-runs : goal.returns-in-Ok-clause-runs
+returns-in-Ok-clause-runs g c =
+    let begins : start_of_words (map (λ word. word.now) c.args.words.now) ≡ start_of_command c.in-Ok.command = ap start_if_asked c.in-Ok.ensures.command in
+    subst (λ (d : Start). IsSome (world_after d (plain_entries c.perform.new.kept.entries))) (sym begins) c.perform.ensures.runs
 
-pub returns-clause-folds : goal.returns-clause-folds
-returns-clause-folds g c = kept_folded c.fold_law.ensures.folds _ c.embed-ended.ensures.has
+pub returns-in-Ok-clause-folds : goal.returns-in-Ok-clause-folds
+returns-in-Ok-clause-folds g c =
+    let begins : start_of_words (map (λ word. word.now) c.args.words.now) ≡ start_of_command c.in-Ok.command = ap start_if_asked c.in-Ok.ensures.command in
+    let kept = c.perform.new.kept.entries in
+    subst (λ (d : Start). IsFolded d (plain_entries kept)) (sym begins) (kept_folded c.fold_law.ensures.folds (start_of_command c.in-Ok.command) kept c.perform.ensures.has)
 
-pub returns-clause-marks : goal.returns-clause-marks
-returns-clause-marks g c = marks_in_place c.mark_law.ensures _
+pub returns-in-Ok-clause-screens : goal.returns-in-Ok-clause-screens
+returns-in-Ok-clause-screens g c = shown c.screen_law.ensures.folds (start_of_words (map (λ word. word.now) c.args.words.now)) (plain_entries c.perform.new.kept.entries)
 
-pub returns-then-not-is_embed-clause-screens : goal.returns-then-not-is_embed-clause-screens
-returns-then-not-is_embed-clause-screens g c = shown c.screen_law.ensures.folds (plain_entries c.args.kept.now.entries)
+pub returns-in-Ok-clause-marks : goal.returns-in-Ok-clause-marks
+returns-in-Ok-clause-marks g c = marks_in_place c.mark_law.ensures (start_of_words (map (λ word. word.now) c.args.words.now)) (plain_entries c.perform.new.kept.entries)
 
-pub returns-clause-screens : goal.returns-clause-screens
-returns-clause-screens g c = shown c.screen_law.ensures.folds _
+pub returns-in-Err-clause-session : goal.returns-in-Err-clause-session
+returns-in-Err-clause-session g c = λ taken.
+    let memory : c.in-Err.refusal ≡ refusal.NoMemory = is_memory c.in-Err.refusal (λ e. c.in-Err.ensures.refused (ap (λ (r : Refusal). Err r) e) taken) in
+    let one : c.refuse.result ≡ 1 = c.refuse.ensures.memory memory in (
+      NoMemory,
+      [],
+      one,
+      gave_none _ _,
+      ends_before (start_of_words (map (λ word. word.now) c.args.words.now)) (g.I.Source.left c.args.input.now) _ c.args.kept.now.entries c.requires.empty,
+      subst
+          (λ (status : ℕ).
+          Tells (line_of_refusal status) (g.E.Sink.taken c.args.errors.now) (g.E.Sink.taken c.refuse.new.errors) (g.E.Sink.faults c.args.errors.now) (g.E.Sink.faults c.refuse.new.errors))
+          one c.refuse.ensures.line,
+    )
+
+pub returns-in-Err-clause-folds : goal.returns-in-Err-clause-folds
+returns-in-Err-clause-folds g c =
+    kept_folded c.fold_law.ensures.folds (start_of_words (map (λ word. word.now) c.args.words.now)) c.args.kept.now.entries (inl c.requires.empty)
+
+pub returns-in-Err-clause-screens : goal.returns-in-Err-clause-screens
+returns-in-Err-clause-screens g c = shown c.screen_law.ensures.folds (start_of_words (map (λ word. word.now) c.args.words.now)) (plain_entries c.args.kept.now.entries)
+
+pub returns-in-Err-clause-marks : goal.returns-in-Err-clause-marks
+returns-in-Err-clause-marks g c = marks_in_place c.mark_law.ensures (start_of_words (map (λ word. word.now) c.args.words.now)) (plain_entries c.args.kept.now.entries)

@@ -1,6 +1,6 @@
 use Rattle.std.proofs.Common.{◌≡◌, ℕ, List, ◌++◌, ap, sym, ◌∙◌}
 use Rattle.std.specs.Prelude.{codes}
-use Rattle.nvimd.specs.Ends.{line_of}
+use Rattle.nvimd.specs.Statuses.{line_of}
 use Rattle.nvimd.proofs.Lines.{tells_as}
 use Rattle.nvimd.proofs.telling.tell_end.Goals as goal
 

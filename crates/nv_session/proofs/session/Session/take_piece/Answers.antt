@@ -1,0 +1,29 @@
+use Rattle.std.proofs.Common.{[], take, refl, arith, rules}
+use Rattle.std.proofs.lemmas.List.{length-take}
+use Rattle.nv_session.specs.inside.Serving.{state_of}
+use Rattle.nv_session.proofs.Steps.{cut_none, ends_held, ends_last, fails_held}
+use Rattle.nv_session.proofs.session.Session.take_piece.Goals as goal
+
+pub returns-in-Err-clause-takes : goal.returns-in-Err-clause-takes
+returns-in-Err-clause-takes g c = (
+  take c.in-Bytes.count c.read.new.into,
+  record { taken = c.in-Bytes.ensures.taken; left = c.in-Bytes.ensures.left },
+  λ world ready. (search (rules, arith, length-take), λ out. cut_none _ (state_of c.args.self.now world) _ out ready refl),
+)
+
+pub returns-in-End-clause-takes : goal.returns-in-End-clause-takes
+returns-in-End-clause-takes g c =
+    let over = c.in-End.ensures.end refl in (
+      [],
+      record { taken = c.in-End.ensures.taken; left = c.in-End.ensures.left },
+      λ world ready.
+          let s = state_of c.args.self.now world in
+          (omega arith, λ out. ends_last _ c.end.result s out (ends_held _ c.end.result s out over ready c.requires.waits c.end.ensures)),
+    )
+
+pub returns-in-Failed-clause-takes : goal.returns-in-Failed-clause-takes
+returns-in-Failed-clause-takes g c = (
+  [],
+  record { taken = c.in-Failed.ensures.taken; left = c.in-Failed.ensures.left },
+  λ world ready. (omega arith, λ out. fails_held (Unit {0}) (state_of c.args.self.now world) out ready c.requires.waits),
+)

@@ -1,0 +1,398 @@
+//! One session alone: its bytes are read piece by piece, and each call in them is answered before
+//! the next.
+ghost use Rattle.std.specs.Prelude.{◌≡◌, ◌⊎◌, ℕ, true, ◌+◌, ◌^◌, ◌<◌, ◌≤◌, List, [], length, OnOk, IfOk, IfErr, Ok, Err, Some};
+ghost use Rattle.std.specs.Io.KnownBytes.{IsAtEnd};
+ghost use Rattle.nv_io.specs.Faults.{Rose};
+ghost use Rattle.nv_io.specs.Streams.{Gave};
+ghost use Rattle.nv_value.specs.View.{content};
+ghost use Rattle.nv_msgpack.specs.Within.{SpellsWithin};
+ghost use Rattle.nv_stream.specs.State.{stream_end};
+ghost use Rattle.nv_stream.specs.Answers.{NeedsMore};
+ghost use Rattle.nv_rpc.specs.Calls.{Call, call_in};
+ghost use Rattle.nv_rpc.specs.Frames.{call_of_frame};
+ghost use Rattle.nv_world.specs.Contents.{plain_entries};
+ghost use Rattle.nv_world.specs.Worlds.{IsLightCall, WorldRecord};
+ghost use Rattle.nv_halves.specs.Reading.{most_depth, most_bytes};
+ghost use Rattle.nv_session.specs.Ends.{SessionEnds};
+ghost use Rattle.nv_halves.specs.Passes.{start_of};
+ghost use Rattle.nv_session.specs.Sending.{HasSession};
+ghost use Rattle.nv_session.specs.inside.Alone.{IsAlone};
+ghost use Rattle.nv_session.specs.inside.Leaving.{LeavesWith, IsClosedSo, leaves_open};
+ghost use Rattle.nv_session.specs.inside.Serving.{IsUnusedSession, IsReady, IsNew, AnswersCall, StopsAtCall, StopsAtValue, StepsOn, Serves, TakesPiece, Turns, end_by_flaw, state_of};
+ghost use Rattle.nv_session.specs.inside.Worlds.{entries_in};
+
+use crate::asking::{answer, close, ended, open};
+use crate::speaking::speak;
+use nv_io::{Ended, Flaw, Got, Sink, Source};
+use nv_msgpack::Bounds;
+use nv_painter::Painter;
+use nv_rpc::{Frame, call_of};
+use nv_stream::{Next, Stream};
+use nv_value::Value;
+use nv_world::World;
+use std::alloc::{AllocError, Global};
+use std::net::{Net, TcpListener, TcpStream};
+
+/// What bounds a message: at most so many lists and maps one in another, and at most so many bytes.
+const BOUNDS: Bounds = Bounds {
+    depth: 64,
+    bytes: 67_108_864,
+};
+
+/// The bytes that are read at once.
+const PIECE: usize = 65_536;
+
+/// A source from which so many bytes were taken counts as ended.
+const MOST_TAKEN: u64 = 1 << 62;
+
+/// One session over a stream of bytes, whose world is lent to it call by call.
+#[derive(Drop)]
+pub struct Session {
+    alloc: Global,
+    stream: Stream,
+    // The calls answered so far.
+    number: u64,
+    // What its client was told of the screen.
+    painter: Painter,
+    // The bytes that go out.
+    room: Vec<u8>,
+}
+
+impl Session {
+    // A session to which no byte has come.
+    fn new(alloc: Global) -> Result<Session, AllocError>
+        ensures { IfOk result IsUnusedSession }
+    {
+        Ok(Session {
+            alloc,
+            stream: Stream::new(alloc, BOUNDS)?,
+            number: 0,
+            painter: Painter::new(alloc)?,
+            room: Vec::new(alloc),
+        })
+    }
+
+    // The bytes that came to it.
+    fn taken(&self) -> u64
+        requires { self.now.stream.start + length self.now.stream.held < 2 ^ 64 }
+        ensures { result ≡ self.now.stream.start + length self.now.stream.held }
+    {
+        self.stream.start() + self.stream.held_len() as u64
+    }
+
+    // How it ends where no more bytes come.
+    fn end(&self) -> Ended
+        ensures { result ≡ end_by_flaw (stream_end self.now.stream) }
+    {
+        match self.stream.end() {
+            None => Ended::Closed,
+            Some(flaw) => Ended::Malformed(flaw),
+        }
+    }
+
+    // Answers a call.
+    fn answer_call<R: Net<Listener = TcpListener, Stream = TcpStream>, S: Sink>(
+        &mut self,
+        rt: &R,
+        world: &mut World,
+        call: Frame,
+        output: &mut S,
+    ) -> Result<(), Ended>
+        requires light { IsLightCall (call_of_frame call) }
+        requires number { self.old.number < 2 ^ 63 }
+        requires alone { IsAlone (start_of world.old) (entries_in world.old) }
+        ensures ok { OnOk result (AnswersCall (call_of_frame call) (state_of self.old world.old)
+            (state_of self.new world.new) (S.taken output.old) (S.taken output.new)) }
+        ensures err { IfErr result (λ ended. StopsAtCall ended (call_of_frame call) world.old
+            world.new self.old.painter.told (S.taken output.old) (S.taken output.new)) }
+        ensures begins { start_of world.new ≡ start_of world.old }
+        ensures later { S.faults output.old ≤ S.faults output.new }
+        ensures fault { result ≡ Err Ended.WriteFault
+            → Rose (S.faults output.old) (S.faults output.new) }
+    {
+        let Ok(batch) = answer(self.alloc, world, call) else {
+            return Err(Ended::NoMemory);
+        };
+        speak(
+            rt,
+            self.alloc,
+            batch,
+            &mut self.painter,
+            &mut self.room,
+            output,
+        )?;
+        self.number += 1;
+        match ended(world) {
+            None => Ok(()),
+            Some(ended) => Err(ended),
+        }
+    }
+
+    // Answers the call that a value is.
+    fn serve<R: Net<Listener = TcpListener, Stream = TcpStream>, S: Sink>(
+        &mut self,
+        rt: &R,
+        world: &mut World,
+        value: Value,
+        output: &mut S,
+    ) -> Result<(), Ended>
+        requires spelled { (front : List ℕ)
+            × SpellsWithin most_depth most_bytes (content value) front }
+        requires number { self.old.number < 2 ^ 63 }
+        requires alone { IsAlone (start_of world.old) (entries_in world.old) }
+        ensures ok { OnOk result ((call : Call) × (call_in (content value) ≡ Some call)
+            × AnswersCall call (state_of self.old world.old) (state_of self.new world.new)
+            (S.taken output.old) (S.taken output.new)) }
+        ensures err { IfErr result (λ ended. StopsAtValue ended (content value)
+            (state_of self.old world.old) (state_of self.new world.new)
+            (S.taken output.old) (S.taken output.new)) }
+        ensures begins { start_of world.new ≡ start_of world.old }
+        ensures later { S.faults output.old ≤ S.faults output.new }
+        ensures fault { result ≡ Err Ended.WriteFault
+            → Rose (S.faults output.old) (S.faults output.new) }
+    {
+        match call_of(value) {
+            Ok(call) => self.answer_call(rt, world, call, output),
+            Err(_) => Err(Ended::Malformed(Flaw::NoCall(self.number))),
+        }
+    }
+
+    // Answers the next call of what it holds. `false` where that needs more bytes.
+    fn step<R: Net<Listener = TcpListener, Stream = TcpStream>, S: Sink>(
+        &mut self,
+        rt: &R,
+        world: &mut World,
+        output: &mut S,
+    ) -> Result<bool, Ended>
+        requires ready { IsReady (state_of self.old world.old) }
+        requires fits { self.old.stream.start + length self.old.stream.held < 2 ^ 63 }
+        ensures steps { StepsOn result (state_of self.old world.old) (state_of self.new world.new)
+            (S.taken output.old) (S.taken output.new) }
+        ensures begins { start_of world.new ≡ start_of world.old }
+        ensures later { S.faults output.old ≤ S.faults output.new }
+        ensures fault { result ≡ Err Ended.WriteFault
+            → Rose (S.faults output.old) (S.faults output.new) }
+        ensures no_read { result ≡ Err Ended.ReadFault → ⊥ }
+    {
+        let Ok(next) = self.stream.next() else {
+            return Err(Ended::NoMemory);
+        };
+        match next {
+            Next::Value(value) => {
+                self.serve(rt, world, value, output)?;
+                Ok(true)
+            }
+            Next::More => Ok(false),
+            Next::Flaw(flaw) => Err(Ended::Malformed(flaw)),
+        }
+    }
+
+    // Answers the calls of what it holds, one after another.
+    fn serve_held<R: Net<Listener = TcpListener, Stream = TcpStream>, S: Sink>(
+        &mut self,
+        rt: &R,
+        world: &mut World,
+        output: &mut S,
+    ) -> Result<(), Ended>
+        requires ready { IsReady (state_of self.old world.old) }
+        requires fits { self.old.stream.start + length self.old.stream.held < 2 ^ 63 }
+        ensures serves { Serves ⊥ result self.old.stream.held (state_of self.old world.old)
+            (state_of self.new world.new) (S.taken output.old) (S.taken output.new) }
+        ensures begins { start_of world.new ≡ start_of world.old }
+        ensures later { S.faults output.old ≤ S.faults output.new }
+        ensures fault { result ≡ Err Ended.WriteFault
+            → Rose (S.faults output.old) (S.faults output.new) }
+        ensures no_read { result ≡ Err Ended.ReadFault → ⊥ }
+    {
+        while self.step(rt, world, output)? {}
+        Ok(())
+    }
+
+    // Takes the next piece of its bytes from `input`, by one read; in whichever world it stands.
+    fn take_piece<R: Net<Listener = TcpListener, Stream = TcpStream>, I: Source>(
+        &mut self,
+        rt: &R,
+        input: &mut I,
+        buffer: &mut [u8],
+    ) -> Result<(), Ended>
+        requires waits { NeedsMore self.old.stream }
+        requires fits { self.old.stream.start + length self.old.stream.held < 2 ^ 62 }
+        requires room { length buffer.old ≡ 65536 }
+        ensures takes { (piece : List ℕ)
+            × Gave (I.taken input.old) (I.taken input.new) (I.left input.old)
+            (I.left input.new) piece
+            × ((world : WorldRecord) → IsReady (state_of self.old world)
+            → TakesPiece (IsAtEnd (I.left input.new)) result piece (state_of self.old world)
+            (state_of self.new world)) }
+        ensures later { I.faults input.old ≤ I.faults input.new }
+        ensures fault { result ≡ Err Ended.ReadFault
+            → Rose (I.faults input.old) (I.faults input.new) }
+        ensures no_write { result ≡ Err Ended.WriteFault → ⊥ }
+    {
+        match input.read(rt, buffer) {
+            Got::Bytes(count) => match self.stream.feed(&buffer[..count]) {
+                Ok(()) => Ok(()),
+                Err(_) => Err(Ended::NoMemory),
+            },
+            Got::End => Err(self.end()),
+            Got::Failed => Err(Ended::ReadFault),
+        }
+    }
+
+    // Takes a piece and answers the calls that are whole by it.
+    fn turn<R: Net<Listener = TcpListener, Stream = TcpStream>, I: Source, S: Sink>(
+        &mut self,
+        rt: &R,
+        world: &mut World,
+        input: &mut I,
+        buffer: &mut [u8],
+        output: &mut S,
+    ) -> Result<(), Ended>
+        requires ready { IsReady (state_of self.old world.old) }
+        requires waits { NeedsMore self.old.stream }
+        requires fits { self.old.stream.start + length self.old.stream.held < 2 ^ 62 }
+        requires room { length buffer.old ≡ 65536 }
+        ensures turns { (piece : List ℕ)
+            × Gave (I.taken input.old) (I.taken input.new) (I.left input.old)
+            (I.left input.new) piece
+            × Turns (IsAtEnd (I.left input.new)) result piece (state_of self.old world.old)
+            (state_of self.new world.new) (S.taken output.old) (S.taken output.new) }
+        ensures begins { start_of world.new ≡ start_of world.old }
+        ensures read_later { I.faults input.old ≤ I.faults input.new }
+        ensures read_fault { result ≡ Err Ended.ReadFault
+            → Rose (I.faults input.old) (I.faults input.new) }
+        ensures write_later { S.faults output.old ≤ S.faults output.new }
+        ensures write_fault { result ≡ Err Ended.WriteFault
+            → Rose (S.faults output.old) (S.faults output.new) }
+    {
+        self.take_piece(rt, input, buffer)?;
+        self.serve_held(rt, world, output)
+    }
+
+    // Takes its bytes from `input` and answers the calls in them, up to its end.
+    fn serve_all<R: Net<Listener = TcpListener, Stream = TcpStream>, I: Source, S: Sink>(
+        &mut self,
+        rt: &R,
+        world: &mut World,
+        input: &mut I,
+        buffer: &mut [u8],
+        output: &mut S,
+    ) -> Ended
+        requires new { IsNew (state_of self.old world.old) }
+        requires ready { IsReady (state_of self.old world.old) }
+        requires room { length buffer.old ≡ 65536 }
+        ensures leaves { (bytes : List ℕ)
+            × Gave (I.taken input.old) (I.taken input.new) (I.left input.old)
+            (I.left input.new) bytes
+            × LeavesWith (start_of world.old) result bytes (I.left input.new)
+            (entries_in world.new) (S.taken output.old) (S.taken output.new) }
+        ensures has { HasSession (start_of world.old) (entries_in world.new) }
+        ensures begins { start_of world.new ≡ start_of world.old }
+        ensures read_later { I.faults input.old ≤ I.faults input.new }
+        ensures read { result ≡ Ended.ReadFault → Rose (I.faults input.old) (I.faults input.new) }
+        ensures write_later { S.faults output.old ≤ S.faults output.new }
+        ensures write { result ≡ Ended.WriteFault
+            → Rose (S.faults output.old) (S.faults output.new) }
+    {
+        while self.taken() < MOST_TAKEN {
+            if let Err(ended) = self.turn(rt, world, input, buffer, output) {
+                return ended;
+            }
+        }
+        self.end()
+    }
+
+    // Opens the one session of the world, and serves it until it is closed.
+    fn run<R: Net<Listener = TcpListener, Stream = TcpStream>, I: Source, S: Sink>(
+        &mut self,
+        rt: &R,
+        world: &mut World,
+        input: &mut I,
+        buffer: &mut [u8],
+        output: &mut S,
+    ) -> Ended
+        requires unused { IsUnusedSession self.old }
+        requires fresh { world.old.history ≡ [] }
+        requires capacity { 0 < world.old.capacity }
+        requires room { length buffer.old ≡ 65536 }
+        ensures ends { (bytes : List ℕ)
+            × Gave (I.taken input.old) (I.taken input.new) (I.left input.old)
+            (I.left input.new) bytes
+            × SessionEnds (start_of world.old) result bytes (I.left input.new)
+            (plain_entries world.new.history) (S.taken output.old) (S.taken output.new) }
+        ensures has { (world.new.history ≡ [])
+            ⊎ HasSession (start_of world.old) (plain_entries world.new.history) }
+        ensures begins { start_of world.new ≡ start_of world.old }
+        ensures read_later { I.faults input.old ≤ I.faults input.new }
+        ensures read { result ≡ Ended.ReadFault → Rose (I.faults input.old) (I.faults input.new) }
+        ensures write_later { S.faults output.old ≤ S.faults output.new }
+        ensures write { result ≡ Ended.WriteFault
+            → Rose (S.faults output.old) (S.faults output.new) }
+    {
+        let Ok(()) = open(world) else {
+            return Ended::NoMemory;
+        };
+        match ended(world) {
+            Some(ended) => ended,
+            None => {
+                let ended = self.serve_all(rt, world, input, buffer, output);
+                close_for(world, ended)
+            }
+        }
+    }
+}
+
+// Whether a session that ends so is still to be closed: no entry has closed it, and memory wasn't
+// wanting.
+fn leaves_open(ended: Ended) -> bool
+    ensures { result ≡ leaves_open ended }
+{
+    match ended {
+        Ended::Closed | Ended::Malformed(_) | Ended::ReadFault | Ended::WriteFault => true,
+        Ended::Overflowed(_) | Ended::Quit(_) | Ended::NoMemory => false,
+    }
+}
+
+// Closes the session, where its end leaves it open.
+fn close_for(world: &mut World, ended: Ended) -> Ended
+    ensures closed { IsClosedSo (start_of world.old) (leaves_open ended) ended result
+        (entries_in world.old) (entries_in world.new) }
+    ensures begins { start_of world.new ≡ start_of world.old }
+{
+    if leaves_open(ended) && close(world).is_err() {
+        return Ended::NoMemory;
+    }
+    ended
+}
+
+/// Serves one session alone, whose number is 1, in a world without entries: answers the calls of
+/// `input` on `output`, one after another. Every entry has caller 0.
+pub fn alone<R: Net<Listener = TcpListener, Stream = TcpStream>, I: Source, S: Sink>(
+    rt: &R,
+    alloc: Global,
+    world: &mut World,
+    input: &mut I,
+    output: &mut S,
+) -> Ended
+    requires fresh { world.old.history ≡ [] }
+    requires capacity { 0 < world.old.capacity }
+    ensures ends { (bytes : List ℕ)
+        × Gave (I.taken input.old) (I.taken input.new) (I.left input.old) (I.left input.new) bytes
+        × SessionEnds (start_of world.old) result bytes (I.left input.new)
+        (plain_entries world.new.history) (S.taken output.old) (S.taken output.new) }
+    ensures has { (world.new.history ≡ [])
+        ⊎ HasSession (start_of world.old) (plain_entries world.new.history) }
+    ensures begins { start_of world.new ≡ start_of world.old }
+    ensures read_later { I.faults input.old ≤ I.faults input.new }
+    ensures read { result ≡ Ended.ReadFault → Rose (I.faults input.old) (I.faults input.new) }
+    ensures write_later { S.faults output.old ≤ S.faults output.new }
+    ensures write { result ≡ Ended.WriteFault → Rose (S.faults output.old) (S.faults output.new) }
+{
+    let Ok(mut buffer) = vec![in alloc; 0; PIECE] else {
+        return Ended::NoMemory;
+    };
+    let Ok(mut session) = Session::new(alloc) else {
+        return Ended::NoMemory;
+    };
+    session.run(rt, world, input, &mut buffer, output)
+}

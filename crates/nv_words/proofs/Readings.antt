@@ -1,0 +1,22 @@
+-- What the parser says of words, in the words of the crate.
+use Rattle.std.proofs.Common.{◌≡◌, ◌⊎◌, ℕ, true, List, [], ◌∷◌, Option, Some, None, Result, Ok, refl, inl, inr}
+use Rattle.std.specs.Str.Parse.{ParsesUnsigned}
+use Rattle.clap.specs.Words.{HasKind, Kinds, ReadsOne, Text, is_simple_and_free, kind_of}
+use Rattle.clap.specs.declared.error.Error.{Error}
+use Rattle.clap.specs.declared.error.kind.ErrorKind.TheVariants as kind
+use Rattle.nv_words.specs.Commands.{number_spelled, program_app}
+
+-- an error where no kind is to come is for want of memory
+pub only_memory : (kinds : Kinds) (e : Error) → HasKind kinds e → kinds ≡ [] → kind_of e ≡ kind.OutOfMemory
+only_memory [] e (inl h) n = h
+only_memory [] e (inr h) n = absurd h
+only_memory (k ∷ kinds) e h n = cc
+
+pub program_is_simple : is_simple_and_free program_app ≡ true
+program_is_simple = refl
+
+-- a number that was read is the one that is spelled
+pub number_is : {E : Type 0} (found : Option Text) (n : ℕ) (gives : Text → Result ℕ E → Type 0) → ((t : Text) (r : Result ℕ E) → gives t r → ParsesUnsigned 64 10 t r)
+    → (found ≡ None → Some n ≡ None) → ((t : Text) → found ≡ Some t → ReadsOne gives t (Some n)) → n ≡ number_spelled found
+number_is None n gives parses none value = let bad : Some n ≡ None = none refl in cc
+number_is (Some t) n gives parses none value = (parses t (Ok n) (value t refl)).1

@@ -1,0 +1,57 @@
+-- The words of the command line, as `clap` reads them (own rule; documentation of `clap`).
+use Rattle.std.specs.Prelude.{◌≡◌, ◌≤◌, ℕ, true, List, [], ◌∷◌, ◌++◌, codes, Option, Some, None, option_and_then, if◌then◌else◌}
+use Rattle.std.specs.Str.{bytes_eq}
+use Rattle.std.specs.Str.Parse.{digits_value, without_leading_plus}
+use Rattle.clap.specs.Words.{App, Row, Rule, Shape, Text, fault_of, new_app, new_rule, one_of, subcommand_of, with_rule, with_subcommand}
+use Rattle.clap.specs.Simple.{on_top}
+use Rattle.clap.specs.declared.builder.value_parser.ValueParser.TheVariants as vp
+use Rattle.nv_words.specs.declared.command.Command.{Command}
+use Rattle.nv_words.specs.declared.command.Command.TheVariants.{Embed}
+
+-- `--outbox N`: how many messages an outbox holds
+abbrev pub outbox_rule : Rule
+outbox_rule = record (new_rule (codes "outbox")) {
+  long = Some (codes "outbox");
+  parser = Some (vp.Unsigned 16 1048576);
+  defaults = codes "4096" ∷ [];
+}
+
+-- `embed [--outbox N]`
+abbrev pub embed_app : App
+embed_app = with_rule (new_app (codes "embed")) outbox_rule
+
+-- one of these, without the program's name before it
+abbrev pub required_subcommand : Shape → Shape
+required_subcommand s = record s { no_binary_name = true; subcommand_required = true }
+
+-- the command line of the program
+abbrev pub program_app : App
+program_app = on_top required_subcommand (with_subcommand (new_app (codes "nvimd")) embed_app.top)
+
+-- `clap` takes these words: it refuses them for want of memory alone
+abbrev pub AreWords : List Text → Type 0
+AreWords words = fault_of program_app words ≡ []
+
+-- an outbox holds from 16 to 1,048,576 messages
+abbrev pub HasFairOutbox : Command → Type 0
+HasFairOutbox (Embed outbox) = (16 ≤ outbox) × (outbox ≤ 1048576)
+
+-- the number that a value spells
+abbrev pub number_spelled : Option Text → ℕ
+number_spelled None = 0
+number_spelled (Some text) = digits_value 10 (without_leading_plus text)
+
+-- the command of a subcommand's name with its values
+abbrev pub command_of_name : Text → List Row → Option Command
+command_of_name name rows =
+    if bytes_eq name (codes "embed")
+    then Some (Embed (number_spelled (one_of (codes "outbox") rows)))
+    else None
+
+abbrev pub command_of_rows : Option (Text × List Row) → Option Command
+command_of_rows None = None
+command_of_rows (Some found) = command_of_name found.0 found.1
+
+-- the command that words ask for, where `clap` takes them
+abbrev pub command_asked : List Text → Option Command
+command_asked words = command_of_rows (subcommand_of program_app words)

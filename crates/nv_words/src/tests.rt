@@ -1,0 +1,28 @@
+use crate::{Command, Refusal, read_words};
+use std::test::Fail;
+
+#[test]
+fn reads_commands(rt: HostRuntime) -> Result<(), Fail> {
+    let alloc = rt.alloc();
+    let usual = Ok(Command::Embed { outbox: 4_096 });
+    let least = Ok(Command::Embed { outbox: 16 });
+    let most = Ok(Command::Embed { outbox: 1_048_576 });
+    assert!(rt; read_words(alloc, &["embed"]) == usual);
+    assert!(rt; read_words(alloc, &["embed", "--outbox", "16"]) == least);
+    assert!(rt; read_words(alloc, &["embed", "--outbox=1048576"]) == most);
+    Ok(())
+}
+
+#[test]
+fn refuses_other_words(rt: HostRuntime) -> Result<(), Fail> {
+    let alloc = rt.alloc();
+    let bad = Err(Refusal::BadWords);
+    assert!(rt; read_words(alloc, &[]) == bad);
+    assert!(rt; read_words(alloc, &["serve"]) == bad);
+    assert!(rt; read_words(alloc, &["embed", "more"]) == bad);
+    assert!(rt; read_words(alloc, &["embed", "--outbox"]) == bad);
+    assert!(rt; read_words(alloc, &["embed", "--outbox", "15"]) == bad);
+    assert!(rt; read_words(alloc, &["embed", "--outbox", "1048577"]) == bad);
+    assert!(rt; read_words(alloc, &["--help"]) == bad);
+    Ok(())
+}

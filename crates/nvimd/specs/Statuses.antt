@@ -1,0 +1,40 @@
+-- What the program tells of its end: the status, and the line on the errors' stream.
+use Rattle.std.specs.Prelude.{ℕ, ◌==◌, if◌then◌else◌, List, [], ◌++◌, codes, decimal}
+use Rattle.nv_io.specs.declared.ending.Flaw.TheVariants.{Bad, TooDeep, TooLong, Inside, NoCall}
+use Rattle.nv_io.specs.declared.ending.Ended.{Ended}
+use Rattle.nv_io.specs.declared.ending.Ended.TheVariants.{Closed, Malformed, Overflowed, ReadFault, WriteFault, Quit, NoMemory}
+
+-- the status that tells an end
+abbrev pub status_of : Ended → ℕ
+status_of Closed = 0
+status_of (Quit entry) = 0
+status_of NoMemory = 1
+status_of ReadFault = 3
+status_of WriteFault = 4
+status_of (Malformed flaw) = 6
+status_of (Overflowed entry) = 7
+
+-- the line of a flaw: its word, and its place
+abbrev pub malformed_line : List ℕ → ℕ → List ℕ
+malformed_line word place =
+    codes "nvimd: malformed input: " ++ (word ++ (codes " at " ++ (decimal place ++ codes "\n")))
+
+-- the line that tells an end
+abbrev pub line_of : Ended → List ℕ
+line_of Closed = []
+line_of (Quit entry) = []
+line_of NoMemory = codes "nvimd: out of memory\n"
+line_of ReadFault = codes "nvimd: read fault\n"
+line_of WriteFault = codes "nvimd: write fault\n"
+line_of (Malformed (Bad place)) = malformed_line (codes "bad") place
+line_of (Malformed (TooDeep place)) = malformed_line (codes "deep") place
+line_of (Malformed (TooLong place)) = malformed_line (codes "long") place
+line_of (Malformed (Inside place)) = malformed_line (codes "cut") place
+line_of (Malformed (NoCall number)) = malformed_line (codes "call") number
+line_of (Overflowed entry) =
+    codes "nvimd: outbox overflow at entry " ++ (decimal entry ++ codes "\n")
+
+-- the line for words that aren't taken, by the status: they are no command, or memory was wanting
+abbrev pub line_of_refusal : ℕ → List ℕ
+line_of_refusal status =
+    if status == 1 then line_of NoMemory else codes "nvimd: bad command line\n"
