@@ -42,6 +42,3 @@ pub use laws::telling_laws;
 pub use lines::{nvim_buf_get_lines, nvim_buf_set_lines};
 pub use options::{nvim_get_option_value, nvim_set_option_value};
 pub use text::{nvim_buf_get_text, nvim_buf_set_text};
-
-#[cfg(test)]
-mod tests;

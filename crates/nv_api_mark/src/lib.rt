@@ -21,6 +21,3 @@ mod values;
 
 pub use laws::telling_laws;
 pub use table::call_method;
-
-#[cfg(test)]
-mod tests;

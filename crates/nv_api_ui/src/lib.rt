@@ -17,6 +17,3 @@ pub use attaching::{nvim_ui_attach, nvim_ui_detach, nvim_ui_set_option, nvim_ui_
 pub use laws::{telling_laws, worked_uis};
 pub use table::call_method;
 pub use telling::{nvim_list_uis, nvim_strwidth};
-
-#[cfg(test)]
-mod tests;

@@ -31,6 +31,3 @@ pub use tabpages::{
     nvim_get_current_tabpage, nvim_list_tabpages, nvim_tabpage_get_number, nvim_tabpage_get_win,
     nvim_tabpage_is_valid, nvim_tabpage_list_wins,
 };
-
-#[cfg(test)]
-mod tests;

@@ -15,6 +15,3 @@ pub use laws::{
     worked_windows,
 };
 pub use limits::usual_limits;
-
-#[cfg(test)]
-mod tests;

@@ -24,6 +24,3 @@ mod windows;
 pub use editor::Editor;
 pub use happened::{Fact, Happened};
 pub use naming::Namespaces;
-
-#[cfg(test)]
-mod tests;

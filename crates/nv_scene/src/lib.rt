@@ -14,6 +14,3 @@ pub use panes::pane_of;
 pub use parting::separators;
 pub use scenes::scene_of;
 pub use settling::{is_settled, settle};
-
-#[cfg(test)]
-mod tests;

@@ -25,6 +25,3 @@ pub use shared::{LinesEvent, SharedMessage};
 pub use step::{BufferSplice, Step};
 pub use story::Start;
 pub use world::World;
-
-#[cfg(test)]
-mod tests;

@@ -1,0 +1,258 @@
+//! The reading of calls against a table written by hand: the types and words of Neovim's help
+//! (`api-types`), the params as MessagePack spells them.
+
+ghost use Rattle.std.specs.Prelude.{◌<◌};
+
+use nv_args::{Args, Fail, Method, method_of, read};
+use nv_msgpack::{Bounds, Decoded, decode};
+use nv_value::{Items, Value};
+use std::alloc::{AllocError, Global};
+use std::test::Fail as Failed;
+
+const BOUNDS: Bounds = Bounds {
+    depth: 64,
+    bytes: 1_024,
+};
+
+fn digit(letter: u8) -> u8
+    ensures { result < 16 }
+{
+    match letter {
+        b'0'..=b'9' => letter - b'0',
+        b'a'..=b'f' => letter - b'a' + 10,
+        _ => 0,
+    }
+}
+
+// The values of the list that these digits spell.
+pub fn params(alloc: Global, hex: &str) -> Result<Items, AllocError> {
+    let mut bytes = Vec::new(alloc);
+    for pair in hex.as_bytes().chunks(2) {
+        if let [high, low] = pair {
+            bytes.push(digit(*high) * 16 + digit(*low))?;
+        }
+    }
+    match decode(alloc, bytes.as_slice(), BOUNDS)? {
+        Decoded::Whole(Value::List(items), _) => Ok(items),
+        _ => Ok(Vec::new(alloc)),
+    }
+}
+
+// What a call comes to: nothing where it is read, or the words of its fault.
+fn outcome(alloc: Global, method: Method, hex: &str) -> Result<Vec<u8>, AllocError> {
+    match read(alloc, method, params(alloc, hex)?) {
+        Ok(_) => Ok(Vec::new(alloc)),
+        Err(Fail::Api(fault)) => Vec::from_slice(alloc, fault.words.as_slice()),
+        Err(Fail::NoMemory) => Vec::from_slice(alloc, b"no memory"),
+    }
+}
+
+// Each row: a method, its params, and the words of the fault, empty where there is none.
+fn calls() -> &'static [(Method, &'static str, &'static str)] {
+    &[
+        (Method::BufGetOffset, "920005", ""),
+        (
+            Method::BufGetOffset,
+            "9200a161",
+            "Wrong type for argument 2 when calling nvim_buf_get_offset, expecting Integer",
+        ),
+        (
+            Method::BufGetOffset,
+            "9200cf8000000000000000",
+            "Wrong type for argument 2 when calling nvim_buf_get_offset, expecting Integer",
+        ),
+        (Method::CreateBuf, "92c300", ""),
+        (
+            Method::CreateBuf,
+            "92c3c0",
+            "Wrong type for argument 2 when calling nvim_create_buf, expecting Boolean",
+        ),
+        (Method::Command, "91a4756e646f", ""),
+        (Method::Command, "91c40161", ""),
+        (
+            Method::Command,
+            "9101",
+            "Wrong type for argument 1 when calling nvim_command, expecting String",
+        ),
+        (Method::BufDelete, "920180", ""),
+        (Method::BufDelete, "920190", ""),
+        (
+            Method::BufDelete,
+            "92019101",
+            "Wrong type for argument 2 when calling nvim_buf_delete, expecting Dict",
+        ),
+        (Method::SetOptionValue, "93a178c080", ""),
+        (Method::BufLineCount, "91d40001", ""),
+        (Method::BufLineCount, "9101", ""),
+        (
+            Method::BufLineCount,
+            "91d40101",
+            "Wrong type for argument 1 when calling nvim_buf_line_count, expecting Buffer",
+        ),
+        (Method::WinGetBuf, "91d40101", ""),
+        (
+            Method::WinGetBuf,
+            "91d40001",
+            "Wrong type for argument 1 when calling nvim_win_get_buf, expecting Window",
+        ),
+        (Method::TabpageGetWin, "91d40201", ""),
+        (
+            Method::TabpageGetWin,
+            "91d40101",
+            "Wrong type for argument 1 when calling nvim_tabpage_get_win, expecting Tabpage",
+        ),
+        (Method::BufIsValid, "91d40001", ""),
+        (
+            Method::BufIsValid,
+            "91d40101",
+            "Wrong type for argument 1 when calling nvim_buf_is_valid, expecting Integer",
+        ),
+        (Method::WinIsValid, "91d40101", ""),
+        (
+            Method::WinIsValid,
+            "91c3",
+            "Wrong type for argument 1 when calling nvim_win_is_valid, expecting Integer",
+        ),
+        (Method::TabpageIsValid, "91d40201", ""),
+        (
+            Method::TabpageIsValid,
+            "91a161",
+            "Wrong type for argument 1 when calling nvim_tabpage_is_valid, expecting Integer",
+        ),
+        (Method::BufSetLines, "950000ffc292a161c40162", ""),
+        (
+            Method::BufSetLines,
+            "950000ffc292a161c0",
+            "Wrong type for argument 5 when calling nvim_buf_set_lines, expecting Array",
+        ),
+        (
+            Method::BufSetLines,
+            "950000ffc2a161",
+            "Wrong type for argument 5 when calling nvim_buf_set_lines, expecting Array",
+        ),
+        (Method::WinSetCursor, "9200920100", ""),
+        (
+            Method::WinSetCursor,
+            "92009101",
+            "Wrong type for argument 2 when calling nvim_win_set_cursor, expecting Array",
+        ),
+        (
+            Method::WinSetCursor,
+            "92009201a161",
+            "Wrong type for argument 2 when calling nvim_win_set_cursor, expecting Array",
+        ),
+        (Method::CallAtomic, "919192a16190", ""),
+        (
+            Method::CallAtomic,
+            "91919190",
+            "Wrong type for argument 1 when calling nvim_call_atomic, expecting Array",
+        ),
+        (Method::BufGetExtmarks, "9500010092000180", ""),
+        (
+            Method::BufGetExtmarks,
+            "950001a1610080",
+            "Wrong type for argument 3 when calling nvim_buf_get_extmarks, expecting Object",
+        ),
+        (
+            Method::BufLineCount,
+            "92a161a162",
+            "Wrong number of arguments: expecting 1 but got 2",
+        ),
+        (
+            Method::BufLineCount,
+            "90",
+            "Wrong number of arguments: expecting 1 but got 0",
+        ),
+        (
+            Method::BufGetLines,
+            "94a161a162c0c0",
+            "Wrong type for argument 1 when calling nvim_buf_get_lines, expecting Buffer",
+        ),
+    ]
+}
+
+#[test]
+fn calls_are_read_by_the_table(rt: HostRuntime) -> Result<(), Failed> {
+    let alloc = rt.alloc();
+    for (method, hex, words) in calls() {
+        let found = outcome(alloc, *method, hex)?;
+        assert_eq!(rt; found.as_slice(), words.as_bytes(), "{hex}");
+    }
+    Ok(())
+}
+
+// Names, and whether a method has each.
+fn names() -> &'static [(&'static str, bool)] {
+    &[
+        ("nvim_buf_attach", true),
+        ("nvim_win_set_width", true),
+        ("nvim_get_api_info", true),
+        ("nvim_list_uis", true),
+        ("nvim_buf_line_count", true),
+        ("nvim_buf_line_coun", false),
+        ("nvim_buf_line_counts", false),
+        ("nvim_buf_line_counu", false),
+        ("nvim", false),
+        ("", false),
+        ("zzz", false),
+    ]
+}
+
+#[test]
+fn methods_are_found_by_their_names(rt: HostRuntime) -> Result<(), Failed> {
+    for (name, there) in names() {
+        match method_of(name.as_bytes()) {
+            Some(method) => {
+                assert!(rt; *there, "{name}");
+                assert_eq!(rt; method.name(), *name);
+            }
+            None => assert!(rt; !*there, "{name}"),
+        }
+    }
+    Ok(())
+}
+
+fn arguments(alloc: Global, method: Method, hex: &str) -> Result<Option<Args>, AllocError> {
+    match read(alloc, method, params(alloc, hex)?) {
+        Ok(args) => Ok(Some(args)),
+        Err(_) => Ok(None),
+    }
+}
+
+#[test]
+fn arguments_are_given_by_their_places(rt: HostRuntime) -> Result<(), Failed> {
+    let alloc = rt.alloc();
+    // `[buffer 7, 2, -1, 1, ["a", b"b"]]`
+    let Some(mut args) = arguments(alloc, Method::BufSetLines, "95d4000702ff0192a161c40162")? else {
+        assert!(rt; false);
+        return Ok(());
+    };
+    assert_eq!(rt; args.number(0), 7);
+    assert_eq!(rt; args.number(1), 2);
+    assert_eq!(rt; args.number(2), -1);
+    assert!(rt; args.flag(3));
+    assert_eq!(rt; args.number(4), 0);
+    assert_eq!(rt; args.values(4).len(), 2);
+    let lines = args.take_lines(4)?;
+    assert_eq!(rt; lines.len(), 2);
+    assert_eq!(rt; args.number(0), 7);
+    assert_eq!(rt; args.values(4).len(), 0);
+    // `["x", {"a": nil}, "y", {}, []]`
+    let Some(mut args) = arguments(alloc, Method::SetClientInfo, "95a17881a161c0a1798090")? else {
+        assert!(rt; false);
+        return Ok(());
+    };
+    assert_eq!(rt; args.string(0), b"x".as_slice());
+    assert_eq!(rt; args.take_pairs(1).len(), 1);
+    assert_eq!(rt; args.take_string(2)?.as_slice(), b"y".as_slice());
+    assert_eq!(rt; args.take_string(2)?.len(), 0);
+    // `["x", 5, {}]`
+    let Some(mut args) = arguments(alloc, Method::SetOptionValue, "93a1780580")? else {
+        assert!(rt; false);
+        return Ok(());
+    };
+    assert!(rt; args.object(1).is_some());
+    assert!(rt; matches!(args.take_object(1), Value::Int(5)));
+    assert!(rt; args.take_values(1).is_empty());
+    Ok(())
+}

@@ -1,0 +1,256 @@
+//! Worked messages of MessagePack-RPC, byte by byte.
+ghost use Rattle.nv_rpc.specs.Messages.{IsSendable};
+ghost use Rattle.nv_rpc.specs.MessageView.{sent_of};
+
+use nv_msgpack::{Bounds, Decoded, decode, encode};
+use nv_rpc::{Frame, Message, call_of, into_value, message_of, value_of};
+use nv_value::{ApiFault, Bytes, Value};
+use std::alloc::{AllocError, Global};
+use std::test::Fail;
+
+// What each is told by (MessagePack-RPC specification; Neovim help `api-buffer-updates`,
+// `nvim_error_event`).
+const SUCCESS: &[u8] = b"\x94\x01\x01\xc0\x01";
+
+const FAILURE: &[u8] = b"\x94\x01\x02\x92\x01\xb3Index out of bounds\xc0";
+
+const LINES: &[u8] =
+    b"\x93\x02\xb4nvim_buf_lines_event\x96\xd4\x00\x01\x02\x00\xff\x92\xa0\xa1a\xc2";
+
+const TICK: &[u8] = b"\x93\x02\xbanvim_buf_changedtick_event\x92\xd5\x00\xcc\x80\x02";
+
+const DETACH: &[u8] = b"\x93\x02\xb5nvim_buf_detach_event\x91\xd4\x00\x01";
+
+const FAULT: &[u8] = b"\x93\x02\xb0nvim_error_event\x92\x00\xb9Invalid method: nvim_nope";
+
+fn told(alloc: Global, message: Message) -> Result<(Vec<u8>, Vec<u8>), AllocError>
+    requires { IsSendable (sent_of message) }
+{
+    let copied = value_of(alloc, &message)?;
+    let mut first = Vec::new(alloc);
+    encode(&copied, &mut first)?;
+    let moved = into_value(alloc, message)?;
+    let mut second = Vec::new(alloc);
+    encode(&moved, &mut second)?;
+    Ok((first, second))
+}
+
+#[test]
+fn replies_are_told(rt: HostRuntime) -> Result<(), Fail> {
+    let alloc = rt.alloc();
+    let success = Message::Reply {
+        msgid: 1,
+        fault: None,
+        result: Value::Int(1),
+    };
+    let (copied, moved) = told(alloc, success)?;
+    assert_eq!(rt; copied.as_slice(), SUCCESS);
+    assert_eq!(rt; moved.as_slice(), SUCCESS);
+    let fault = ApiFault {
+        kind: 1,
+        code: 9,
+        words: Bytes::from_slice(alloc, b"Index out of bounds")?,
+    };
+    let failure = Message::Reply {
+        msgid: 2,
+        fault: Some(fault),
+        result: Value::Truth(true),
+    };
+    let (copied, moved) = told(alloc, failure)?;
+    assert_eq!(rt; copied.as_slice(), FAILURE);
+    assert_eq!(rt; moved.as_slice(), FAILURE);
+    Ok(())
+}
+
+#[test]
+fn events_are_told(rt: HostRuntime) -> Result<(), Fail> {
+    let alloc = rt.alloc();
+    let empty = Value::Text(Bytes::new(alloc)?);
+    let letter = Value::Text(Bytes::from_slice(alloc, b"a")?);
+    let lines = Message::Lines {
+        buffer: 1,
+        tick: 2,
+        first: 0,
+        last: -1,
+        lines: vec![in alloc; empty, letter]?,
+    };
+    let (copied, moved) = told(alloc, lines)?;
+    assert_eq!(rt; copied.as_slice(), LINES);
+    assert_eq!(rt; moved.as_slice(), LINES);
+    let (copied, moved) = told(
+        alloc,
+        Message::Tick {
+            buffer: 128,
+            tick: 2,
+        },
+    )?;
+    assert_eq!(rt; copied.as_slice(), TICK);
+    assert_eq!(rt; moved.as_slice(), TICK);
+    let (copied, moved) = told(alloc, Message::Detach { buffer: 1 })?;
+    assert_eq!(rt; copied.as_slice(), DETACH);
+    assert_eq!(rt; moved.as_slice(), DETACH);
+    let fault = ApiFault {
+        kind: 0,
+        code: 1,
+        words: Bytes::from_slice(alloc, b"Invalid method: nvim_nope")?,
+    };
+    let (copied, moved) = told(alloc, Message::Fault { fault })?;
+    assert_eq!(rt; copied.as_slice(), FAULT);
+    assert_eq!(rt; moved.as_slice(), FAULT);
+    Ok(())
+}
+
+fn value_in(alloc: Global, bytes: &[u8]) -> Result<Value, AllocError> {
+    let bounds = Bounds {
+        depth: 64,
+        bytes: 67108864,
+    };
+    match decode(alloc, bytes, bounds)? {
+        Decoded::Whole(value, _) => Ok(value),
+        _ => Ok(Value::Truth(false)),
+    }
+}
+
+// How many values a list has that came back.
+fn width(value: &Value) -> usize {
+    match value {
+        Value::List(items) => items.len(),
+        _ => 0,
+    }
+}
+
+fn call_shown(alloc: Global, bytes: &[u8]) -> Result<String, AllocError> {
+    match call_of(value_in(alloc, bytes)?) {
+        Ok(
+            Frame::Request {
+                msgid,
+                method,
+                params,
+            },
+        ) => format!(in alloc; "request {msgid} {:?} {}", method.as_slice(), params.len()),
+        Ok(Frame::Notice { method, params }) => {
+            format!(in alloc; "notice {:?} {}", method.as_slice(), params.len())
+        }
+        Err(value) => format!(in alloc; "none {}", width(&value)),
+    }
+}
+
+const CALLS: [(&[u8], &str); 18] = [
+    (b"\x94\x00\x01\xa1a\x90", "request 1 [97] 0"),
+    (b"\x94\x00\x01\xc4\x01a\x91\xc0", "request 1 [97] 1"),
+    (
+        b"\x94\x00\xce\xff\xff\xff\xff\xa1a\x90",
+        "request 4294967295 [97] 0",
+    ),
+    (b"\x94\xd0\x00\xd1\x00\x05\xa0\x90", "request 5 [] 0"),
+    (
+        b"\x94\x00\xcf\x00\x00\x00\x01\x00\x00\x00\x00\xa1a\x90",
+        "none 4",
+    ),
+    (b"\x94\x00\xff\xa1a\x90", "none 4"),
+    (b"\x93\x02\xa1a\x92\xc0\xc0", "notice [97] 2"),
+    (b"\x93\x02\xc4\x01a\x90", "notice [97] 0"),
+    (b"\x93\xcc\x02\xa1a\x90", "notice [97] 0"),
+    (b"\x93\x00\x01\xa1a", "none 3"),
+    (b"\x93\x00\xa1a\x90", "none 3"),
+    (b"\x93\x02\xa1a\x80", "none 3"),
+    (b"\x94\x02\x01\xa1a\x90", "none 4"),
+    (b"\x94\x00\x01\x01\x90", "none 4"),
+    (b"\x94\x00\x01\xa1a\xc0", "none 4"),
+    (b"\x94\x01\x01\xc0\xc0", "none 4"),
+    (b"\x95\x00\x01\xa1a\x90\xc0", "none 5"),
+    (b"\x02", "none 0"),
+];
+
+#[test]
+fn calls_are_read(rt: HostRuntime) -> Result<(), Fail> {
+    let alloc = rt.alloc();
+    for (bytes, expected) in CALLS.iter() {
+        let shown = call_shown(alloc, bytes)?;
+        assert_eq!(rt; shown.as_str(), *expected);
+    }
+    Ok(())
+}
+
+fn reply_shown(
+    alloc: Global,
+    msgid: u32,
+    fault: &Option<ApiFault>,
+    outcome: &Value,
+) -> Result<String, AllocError> {
+    match fault {
+        None => format!(in alloc; "reply {msgid} of {}", width(outcome)),
+        Some(fault) => format!(in alloc;
+            "reply {msgid} failed {} {}",
+            fault.kind,
+            fault.words.len()
+        ),
+    }
+}
+
+fn message_shown(alloc: Global, bytes: &[u8]) -> Result<String, AllocError> {
+    match message_of(value_in(alloc, bytes)?) {
+        Ok(
+            Message::Reply {
+                msgid,
+                fault,
+                result,
+            },
+        ) => reply_shown(alloc, msgid, &fault, &result),
+        Ok(
+            Message::Lines {
+                buffer,
+                tick,
+                first,
+                last,
+                lines,
+            },
+        ) => format!(in alloc; "lines {buffer} {tick} {first} {last} {}", lines.len()),
+        Ok(Message::Tick { buffer, tick }) => format!(in alloc; "tick {buffer} {tick}"),
+        Ok(Message::Detach { buffer }) => format!(in alloc; "detach {buffer}"),
+        Ok(Message::Fault { fault }) => format!(in alloc;
+            "fault {} {}",
+            fault.kind,
+            fault.words.len()
+        ),
+        Err(value) => format!(in alloc; "none {}", width(&value)),
+    }
+}
+
+const MESSAGES: [(&[u8], &str); 16] = [
+    (SUCCESS, "reply 1 of 0"),
+    (b"\x94\x01\x01\xc0\x92\xc0\xc0", "reply 1 of 2"),
+    (FAILURE, "reply 2 failed 1 19"),
+    (LINES, "lines 1 2 0 -1 2"),
+    (TICK, "tick 128 2"),
+    (DETACH, "detach 1"),
+    (FAULT, "fault 0 25"),
+    (b"\x94\x01\x01\x92\x01\xa0\x01", "none 4"),
+    (b"\x94\x01\x01\x92\xcd\x01\x00\xa0\xc0", "none 4"),
+    (b"\x94\x01\xff\xc0\xc0", "none 4"),
+    (b"\x94\x00\x01\xc0\xc0", "none 4"),
+    (
+        b"\x93\x02\xc4\x15nvim_buf_detach_event\x91\xd4\x00\x01",
+        "none 3",
+    ),
+    (
+        b"\x93\x02\xb5nvim_buf_detach_event\x91\xd5\x00\xcc\x01",
+        "none 3",
+    ),
+    (
+        b"\x93\x02\xb5nvim_buf_detach_event\x91\xd4\x01\x01",
+        "none 3",
+    ),
+    (b"\x93\x02\xb5nvim_buf_detach_event\x91\x01", "none 3"),
+    (b"\xc0", "none 0"),
+];
+
+#[test]
+fn messages_are_read(rt: HostRuntime) -> Result<(), Fail> {
+    let alloc = rt.alloc();
+    for (bytes, expected) in MESSAGES.iter() {
+        let shown = message_shown(alloc, bytes)?;
+        assert_eq!(rt; shown.as_str(), *expected);
+    }
+    Ok(())
+}

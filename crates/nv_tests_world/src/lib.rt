@@ -1,0 +1,19 @@
+//! Tests of crates whose own proof is dear, over their public calls.
+#![tactic(auto)]
+
+#[cfg(test)]
+mod api_buf;
+#[cfg(test)]
+mod api_mark;
+#[cfg(test)]
+mod api_ui;
+#[cfg(test)]
+mod api_win;
+#[cfg(test)]
+mod dispatch;
+#[cfg(test)]
+mod editor;
+#[cfg(test)]
+mod scene;
+#[cfg(test)]
+mod world;
