@@ -15,6 +15,8 @@ import sys
 
 import msgpack
 
+from grid import Grid
+
 TOP = os.path.dirname(os.path.dirname(os.path.abspath(__file__)))
 STEPS = 1_000
 MOST_SECONDS = 600
@@ -22,68 +24,6 @@ OPTIONS = {"ext_linegrid": True, "rgb": True}
 PLAIN, BOLD = {}, {"bold": True}
 CURRENT, OTHER = {"reverse": True, "bold": True}, {"reverse": True}
 WIDE = "世"
-
-
-class Screen:
-    """What a UI shows: cells of a text and an attribute's id, None where nothing is known (help: ui-linegrid)."""
-
-    def __init__(self):
-        self.width = self.height = 0
-        self.rows = []
-        self.attributes = {0: {}}
-        self.colours = None
-        self.cursor = None
-        self.flushed = False
-
-    def grid_resize(self, grid, width, height):
-        self.width, self.height = width, height
-        self.rows = [[None] * width for _ in range(height)]
-        self.cursor = None
-
-    def default_colors_set(self, *colours):
-        self.colours = colours
-
-    def hl_attr_define(self, number, rgb, cterm, info):
-        self.attributes[number] = rgb
-
-    def grid_clear(self, grid):
-        self.rows = [[(" ", 0)] * self.width for _ in range(self.height)]
-
-    def grid_line(self, grid, row, col, cells, wrap):
-        number = None
-        for text, *more in cells:
-            number = more[0] if more else number
-            assert number in self.attributes, number
-            for _ in range(more[1] if len(more) > 1 else 1):
-                assert col < self.width, (row, col)
-                self.rows[row][col] = (text, number)
-                col += 1
-
-    def grid_scroll(self, grid, top, bot, left, right, rows, cols):
-        assert cols == 0 and 0 <= top < bot <= self.height and 0 <= left < right <= self.width
-        before = [list(row) for row in self.rows]
-        for row in range(top, bot):
-            come = row + rows
-            for col in range(left, right):
-                self.rows[row][col] = before[come][col] if top <= come < bot else None
-
-    def grid_cursor_goto(self, grid, row, col):
-        self.cursor = (row, col)
-
-    def flush(self):
-        self.flushed = True
-
-    def take(self, batch):
-        """One batch; the last of its events is the flush."""
-        self.flushed = False
-        for name, *calls in batch:
-            for arguments in calls:
-                assert not self.flushed, name
-                getattr(self, name)(*arguments)
-        assert self.flushed
-
-    def shown(self):
-        return [[cell and (cell[0], self.attributes[cell[1]]) for cell in row] for row in self.rows]
 
 
 def cells_of(line, tabstop, width):
@@ -200,7 +140,7 @@ class Check:
         self.messages = msgpack.Unpacker(
             raw=False, strict_map_key=False, max_buffer_size=1 << 28, ext_hook=lambda kind, held: msgpack.unpackb(held)
         )
-        self.screen = Screen()
+        self.screen = Grid()
         self.attached = False
         self.msgid = 0
         self.passed = 0
@@ -251,8 +191,14 @@ class Check:
             self.attached = name == "nvim_ui_attach"
         self.same(f"batches behind {name}", len(batches), int(self.attached and answer[0] is None))
         for batch in batches:
-            self.screen.take(batch)
+            self.flush(batch)
         return answer, windows[1]
+
+    def flush(self, batch):
+        """Takes a batch: its last event, and only that, is a flush."""
+        before = self.screen.flushes
+        self.screen.take(batch)
+        assert self.screen.flushed and self.screen.flushes == before + 1 and not self.screen.others, batch
 
     def windows(self, numbers):
         """The windows of the tabpage."""
