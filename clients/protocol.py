@@ -1,13 +1,15 @@
 #!/usr/bin/python3
 """Holds docs/PROTOCOL.md against the program: its methods are those that the program answers, each with the parameters and the
-type of result that nvim_get_api_info tells, and each example gives what stands behind it, tells these events, or
-draws this batch.
+type of result that nvim_get_api_info tells; each example of calls gives what stands behind it, is refused by it, tells these
+events, or draws this batch; each example of a message or of an input is answered by the messages, or by the status and the
+line, that stand behind it; and the limits that some thousand calls reach are where the page has them.
+
+Each method, fault, event and status must have an example.
 
 Usage: clients/protocol.py     from anywhere; it starts the launcher `nvimd` at the top of the repository.
 Wants Debian's python3-msgpack.
 """
 
-import json
 import os
 import re
 import subprocess
@@ -15,23 +17,40 @@ import sys
 
 import msgpack
 
-TOP = os.path.dirname(os.path.dirname(os.path.abspath(__file__)))
-HANDLES = {0: "B", 1: "W", 2: "T"}
+from examples import calls_in, handle, value_in
+from rpc import LAUNCHER, TOP
+
 ENTRY = re.compile(r"\[`(nvim_\w+)`\]\([^)]*\)`\(([^)]*)\)` (\w+)")
 EXAMPLE = re.compile(r"`(nvim_\w+\([^`]*)` gives `([^`]*)`")
+REFUSAL = re.compile(r"(?<!th )`(nvim_\w+\([^`]*)` is refused by `([^`]*)`")
 EVENT = re.compile(r"`(nvim_\w+\([^`]*)` tells `([^`]*)`")
 DRAWN = re.compile(r"`(nvim_\w+\([^`]*)` draws `([^`]*)`")
-CALL = re.compile(r"(nvim_\w+)\((.*)\)( \[0\])?$")
+MESSAGE = re.compile(r"`(\[[012], [^`]*)` is answered by (nothing|`([^`]*)`)")
+INPUT = re.compile(r"[Tt]he input `([0-9a-f ]*)`(?: (\d+) times)? ends? with status (\d)(?: and `([^`]*)`)?")
+FAULT = re.compile(r"^\| (\d+) \| \d \| .* \|$", re.MULTILINE)
+STATUS = re.compile(r"^\| (\d) \| [^|]* \| (?:`nvimd: |none)", re.MULTILINE)
+LIMIT = re.compile(r"^\| (?:[^|]*, )?([^|,]*) \| ([\d,]+)[^|]* \| [^|]* \|$", re.MULTILINE)
+
+# limits that are soon reached: the call that reaches them, how many are there at first, and what refuses it then
+LIMITS = {
+    "live buffers": ("nvim_create_buf(true, false)", 1, [0, "Limit reached"]),
+    "namespaces": ('nvim_create_namespace("")', 0, [0, "Limit reached"]),
+}
+
+
+def ran(data, *words):
+    """What the program writes for an input, and its status and what it says."""
+    done = subprocess.run([LAUNCHER, "embed", *words], input=data, stdout=subprocess.PIPE, stderr=subprocess.PIPE)
+    found = msgpack.Unpacker(raw=False, ext_hook=handle, max_buffer_size=0)
+    found.feed(done.stdout)
+    return list(found), done.returncode, done.stderr.decode().rstrip("\n")
 
 
 def session(calls):
     """What a session of these calls is sent, handles written as B1, W1000, T1."""
-    data = b"".join(msgpack.packb([0, n, name, params]) for n, (name, params) in enumerate(calls))
-    ran = subprocess.run([os.path.join(TOP, "nvimd"), "embed"], input=data, stdout=subprocess.PIPE)
-    found = msgpack.Unpacker(raw=False, ext_hook=lambda kind, held: HANDLES[kind] + str(msgpack.unpackb(held)))
-    found.feed(ran.stdout)
-    assert ran.returncode == 0, ran.returncode
-    return list(found)
+    messages, status, line = ran(b"".join(msgpack.packb([0, n, name, params]) for n, (name, params) in enumerate(calls)))
+    assert (status, line) == (0, ""), (status, line)
+    return messages
 
 
 def replies(calls):
@@ -58,62 +77,115 @@ def events(calls):
     return told
 
 
-def handles(text):
-    """A result as PROTOCOL.md writes it, with handles as strings."""
-    return json.loads(re.sub(r"(?<![\w\"])([BWT]\d+)\b", r'"\1"', text).replace("nil", "null"))
+class Page:
+    """docs/PROTOCOL.md, each paragraph in one line, and what is wrong with it."""
 
+    def __init__(self):
+        with open(os.path.join(TOP, "docs", "PROTOCOL.md"), encoding="utf-8") as file:
+            self.text = file.read().partition("\n### Call by call\n")[0]
+        self.lines = re.sub(r"\s*\n\s+", " ", self.text)
+        self.entries = {name: (parameters, result) for name, parameters, result in ENTRY.findall(self.lines)}
+        self.wrong = []
+        self.count = 0
 
-def calls_in(text):
-    """The calls of an example, and whether the first of a list is meant."""
-    calls = []
-    for part in text.split("; "):
-        name, params, first = CALL.match(part).groups()
-        calls.append((name, json.loads(f"[{params}]")))
-    return calls, first
+    def same(self, what, got, wanted):
+        self.count += 1
+        if got != wanted:
+            self.wrong.append(f"{what}: {got}, and not {wanted}")
+
+    def methods(self):
+        """Each method that the program has stands here, as the program tells it, and no other."""
+        metadata = replies([("nvim_get_api_info", [])])[0][1][1]
+        functions = {f["name"]: f for f in metadata["functions"]}
+        refused = [f"Invalid method: {name}" for name in functions]
+        for name, (error, _) in zip(functions, replies([(name, ["?"] * 9) for name in functions])):
+            self.same(f"{name} is answered", error is None or error[1] not in refused, name in self.entries)
+        for name, entry in self.entries.items():
+            told = functions.get(name, {"parameters": [], "return_type": None})
+            parameters = ", ".join(f"{kind} {word}" for kind, word in told["parameters"])
+            self.same(f"{name}: parameters and result", entry, (parameters, told["return_type"]))
+        for event in metadata["ui_events"]:
+            found = re.search(rf"`{event['name']}\(([^`]*)\)`", self.lines)
+            parameters = [word for word in (found.group(1) if found else "").split(", ") if word]
+            self.same(f"{event['name']}: parameters", len(parameters) if found else None, len(event["parameters"]))
+
+    def examples(self):
+        """Each example of calls; which methods and which faults have one."""
+        shown, faults = set(), set()
+        for text, wanted in EXAMPLE.findall(self.lines):
+            calls, first = calls_in(text)
+            shown.update(name for name, _ in calls)
+            error, result = replies(calls)[-1]
+            self.same(text, error or (result[0] if first else result), value_in(wanted))
+        for text, wanted in REFUSAL.findall(self.lines):
+            self.same(text, replies(calls_in(text)[0])[-1], (value_in(wanted), None))
+        for text, wanted in EVENT.findall(self.lines):
+            self.same(text, events(calls_in(text)[0]), value_in(f"[{wanted}]"))
+        for text, wanted in DRAWN.findall(self.lines):
+            self.same(text, batch(calls_in(text)[0]), value_in(wanted))
+        faults.update(re.findall(r"- (\d+): `nvim_[^`]*` is refused by", self.lines))
+        faults.update(re.findall(r"- (\d+): the [\w,]+ `nvim_[^`]*` is refused by", self.lines))
+        self.same("methods without an example", [name for name in self.entries if name not in shown], [])
+        self.same("faults without an example", sorted(set(FAULT.findall(self.text)) - faults, key=int), [])
+
+    def messages(self):
+        """Each example of a message and of an input."""
+        for text, wanted, answer in MESSAGE.findall(self.lines):
+            self.same(text, ran(msgpack.packb(value_in(text)))[0], value_in(f"[{answer}]"))
+        shown = {"0"}
+        for data, times, status, line in INPUT.findall(self.lines):
+            shown.add(status)
+            got = ran(bytes.fromhex(data) * int(times or 1))[1:]
+            self.same(f"the input {data}", got, (int(status), line))
+        for words, standing in (("a word", {"args": ["now"]}), ("a folder", {"stdin": "/"}), ("a full disk", {"stdout": "/dev/full"})):
+            self.device(words, shown, **standing)
+        shown.add(self.overflow())
+        # want of memory has no example
+        self.same("statuses without an example", sorted(set(STATUS.findall(self.text)) - shown - {"1"}), [])
+
+    def device(self, what, shown, args=(), stdin=None, stdout="/dev/null"):
+        """The status that the page has for a read fault, a write fault or wrong words comes for one."""
+        call = msgpack.packb([0, 1, "nvim_list_bufs", []])
+        source = os.open(stdin, os.O_RDONLY) if stdin else None
+        with open(stdout, "wb") as file:
+            given = {"stdin": source} if stdin else {"input": call}
+            done = subprocess.run([LAUNCHER, "embed", *args], **given, stdout=file, stderr=subprocess.PIPE)
+        if source is not None:
+            os.close(source)
+        line = done.stderr.decode().rstrip("\n")
+        self.same(f"the line of {what}", f"| {done.returncode} | " in self.text and f"`{line}`" in self.text, True)
+        shown.add(str(done.returncode))
+
+    def overflow(self):
+        """A call that makes more due than an outbox holds."""
+        edits = [["nvim_buf_set_lines", [0, 0, 0, True, ["a"]]]] * 17
+        calls = [("nvim_buf_attach", [0, False, {}]), ("nvim_call_atomic", [edits])]
+        data = b"".join(msgpack.packb([0, n, name, params]) for n, (name, params) in enumerate(calls))
+        messages, status, line = ran(data, "--outbox", "16")
+        self.same("messages of an overflow", len(messages), 2 + 16)
+        self.same("an overflow", (status, line), (7, "nvimd: outbox overflow at entry 3"))
+        return str(status)
+
+    def limits(self):
+        """Each limit that is soon reached."""
+        found = {name: int(number.replace(",", "")) for name, number in LIMIT.findall(self.text)}
+        for name, (text, held, refusal) in LIMITS.items():
+            (call,), _ = calls_in(text)
+            count = found.get(name, 0) - held
+            given = [error for error, _ in replies([call] * (count + 1))]
+            self.same(f"the limit of {name}", given[-2:], [None, refusal])
 
 
 def main():
-    with open(os.path.join(TOP, "docs", "PROTOCOL.md"), encoding="utf-8") as file:
-        page = re.sub(r"\s*\n\s+", " ", file.read())
-    entries = {name: (parameters, result) for name, parameters, result in ENTRY.findall(page)}
-    wrong = []
-    metadata = replies([("nvim_get_api_info", [])])[0][1][1]
-    functions = {f["name"]: f for f in metadata["functions"]}
-    refused = [f"Invalid method: {name}" for name in functions]
-    for name, (error, _) in zip(functions, replies([(name, ["?"] * 9) for name in functions])):
-        answered = error is None or error[1] not in refused
-        if answered != (name in entries):
-            wrong.append(f"{name}: {'answered, and not' if answered else 'not answered, but'} in PROTOCOL.md")
-    for name, (parameters, result) in entries.items():
-        told = functions.get(name)
-        if told is None:
-            wrong.append(f"{name}: not in the metadata")
-        elif parameters != ", ".join(f"{kind} {word}" for kind, word in told["parameters"]):
-            wrong.append(f"{name}: its parameters are {told['parameters']}")
-        elif result != told["return_type"]:
-            wrong.append(f"{name}: its result is of type {told['return_type']}")
-    shown = set()
-    for text, wanted in EXAMPLE.findall(page):
-        calls, first = calls_in(text)
-        shown.update(name for name, _ in calls)
-        error, result = replies(calls)[-1]
-        result = result[0] if first else result
-        if error is not None or result != handles(wanted):
-            wrong.append(f"{text}: gave {error or result}, and not {wanted}")
-    for text, wanted in EVENT.findall(page):
-        told = events(calls_in(text)[0])
-        if told != handles(f"[{wanted}]"):
-            wrong.append(f"{text}: told {told}, and not {wanted}")
-    for text, wanted in DRAWN.findall(page):
-        drawn = batch(calls_in(text)[0])
-        if drawn != handles(wanted):
-            wrong.append(f"{text}: drew {drawn}, and not {wanted}")
-    wrong += [f"{name}: no example" for name in entries if name not in shown]
-    for line in wrong:
+    page = Page()
+    page.methods()
+    page.examples()
+    page.messages()
+    page.limits()
+    for line in page.wrong:
         print(line, file=sys.stderr)
-    total = len(functions) + len(entries) * 2
-    print(f"{total - len(wrong)} passed, {len(wrong)} failed")
-    return 1 if wrong else 0
+    print(f"{page.count - len(page.wrong)} passed, {len(page.wrong)} failed")
+    return 1 if page.wrong else 0
 
 
 if __name__ == "__main__":

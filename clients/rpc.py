@@ -1,0 +1,186 @@
+"""Sessions of a server of this protocol for the scripts of this folder: over a child's pipes, or over a socket.
+
+Wants Debian's python3-msgpack.
+"""
+
+import os
+import subprocess
+import tempfile
+import time
+
+import msgpack
+
+from server import Ended, socket_at
+
+TOP = os.path.dirname(os.path.dirname(os.path.abspath(__file__)))
+LAUNCHER = os.path.join(TOP, "nvimd")
+
+
+class Refused(Exception):
+    """A call that was answered by an error: its kind and its words."""
+
+    def __init__(self, error):
+        super().__init__(error)
+        self.kind, self.words = error
+
+
+def number(kind, held):
+    """A handle as a plain number."""
+    return msgpack.unpackb(held)
+
+
+class Session:
+    """Calls and what they are answered; the notifications that come meanwhile are kept in `told`, in their order."""
+
+    def __init__(self, into, out, handle=number):
+        self.into, self.out = into, out
+        self.messages = msgpack.Unpacker(
+            raw=False, strict_map_key=False, unicode_errors="surrogateescape", max_buffer_size=1 << 30, ext_hook=handle
+        )
+        self.told = []
+        self.replies = {}
+        self.msgid = 0
+
+    def send(self, data):
+        """Writes bytes as they are."""
+        view = memoryview(data)
+        while view:
+            view = view[os.write(self.into, view) :]
+
+    def post(self, method, *params):
+        """Sends a request, whose number this gives."""
+        self.msgid += 1
+        self.send(msgpack.packb([0, self.msgid, method, list(params)], unicode_errors="surrogateescape"))
+        return self.msgid
+
+    def post_all(self, calls):
+        """Sends requests in one piece, each a name and its parameters; their numbers."""
+        numbers = range(self.msgid + 1, self.msgid + 1 + len(calls))
+        self.msgid += len(calls)
+        self.send(
+            b"".join(
+                msgpack.packb([0, msgid, name, list(params)], unicode_errors="surrogateescape")
+                for msgid, (name, params) in zip(numbers, calls)
+            )
+        )
+        return numbers
+
+    def notify(self, method, *params):
+        self.send(msgpack.packb([2, method, list(params)], unicode_errors="surrogateescape"))
+
+    def take(self):
+        """Reads one message."""
+        while True:
+            for message in self.messages:
+                return message
+            piece = os.read(self.out, 1 << 20)
+            if not piece:
+                raise Ended("the server closed the session")
+            self.messages.feed(piece)
+
+    def message(self):
+        """Reads one message, a reply for `replies` or a notification for `told`."""
+        kind, *rest = self.take()
+        if kind == 1:
+            self.replies[rest[0]] = rest[1], rest[2]
+        else:
+            self.told.append(rest)
+
+    def answer(self, msgid):
+        """The error and the result of a request."""
+        while msgid not in self.replies:
+            self.message()
+        return self.replies.pop(msgid)
+
+    def call(self, method, *params):
+        """The result of a call."""
+        error, result = self.answer(self.post(method, *params))
+        if error is not None:
+            raise Refused(error)
+        return result
+
+    def taken(self):
+        """The notifications up to now, which are kept no longer."""
+        told, self.told = self.told, []
+        return told
+
+
+class Child(Session):
+    """A program of its own for one session."""
+
+    def __init__(self, words, handle=number, folder=None):
+        self.child = subprocess.Popen(words, stdin=subprocess.PIPE, stdout=subprocess.PIPE, bufsize=0, cwd=folder)
+        super().__init__(self.child.stdin.fileno(), self.child.stdout.fileno(), handle)
+
+    def end(self):
+        """Ends the input; the program's status."""
+        self.child.stdin.close()
+        while self.child.stdout.read(1 << 20):
+            pass
+        self.child.stdout.close()
+        return self.child.wait()
+
+    def kill(self):
+        self.child.kill()
+        self.child.stdin.close()
+        self.child.stdout.close()
+        self.child.wait()
+
+
+class Client(Session):
+    """A session over a socket: a path, or `host:port`."""
+
+    def __init__(self, address, handle=number):
+        self.socket = socket_at(address)
+        super().__init__(self.socket.fileno(), self.socket.fileno(), handle)
+
+    def close(self):
+        self.socket.close()
+
+
+class Serve:
+    """`nvimd serve` on a socket in a temporary folder."""
+
+    def __init__(self, *words, program=(LAUNCHER,)):
+        self.folder = tempfile.TemporaryDirectory(prefix="nvimd")
+        self.address = os.path.join(self.folder.name, "socket")
+        self.child = subprocess.Popen([*program, "serve", "--listen", self.address, *words], stdin=subprocess.DEVNULL)
+        while True:
+            try:
+                Client(self.address).close()
+                return
+            except Ended:
+                if self.child.poll() is not None:
+                    raise SystemExit(f"the server ended with status {self.child.returncode}")
+                time.sleep(0.01)
+
+    def client(self, handle=number):
+        return Client(self.address, handle)
+
+    def quit(self, seconds=60):
+        """Asks it to end; its status."""
+        last = self.client()
+        last.call("nvim_command", "qall!")
+        last.close()
+        status = self.child.wait(seconds)
+        self.folder.cleanup()
+        return status
+
+    def kill(self):
+        self.child.kill()
+        self.child.wait()
+        self.folder.cleanup()
+
+    def descriptors(self):
+        return len(os.listdir(f"/proc/{self.child.pid}/fd"))
+
+    def memory(self):
+        """What it holds in memory now, in MB."""
+        with open(f"/proc/{self.child.pid}/status") as status:
+            return [int(line.split()[1]) / 1024 for line in status if line.startswith("VmRSS")][0]
+
+    def seconds(self):
+        """The processor time that it took so far."""
+        with open(f"/proc/{self.child.pid}/stat") as stat:
+            told = stat.read().rsplit(")", 1)[1].split()
+        return (int(told[11]) + int(told[12])) / os.sysconf("SC_CLK_TCK")
