@@ -1,17 +1,28 @@
 #!/usr/bin/python3
-"""Attaches with pynvim to `nvimd embed` as a child process, by its own `attach`, and goes through buffers, options, namespaces,
-extmarks, highlight groups, windows, tabpages, calls in one and faults, with what each must answer.
+"""Goes through pynvim: buffers, undo, options, faults, extmarks, highlight groups, windows, tabpages, events of buffers and
+the screen of a UI, with what each must answer; over `nvimd embed` as a child process, by pynvim's own `attach`, or over a
+socket, where two sessions then work on one text at once.
 
-Usage: clients/attach.py      from anywhere; it starts the launcher `nvimd` at the top of the repository.
+Usage: clients/attach.py                   over a child: the launcher `nvimd` at the top of the repository
+       clients/attach.py --serve           over a socket, of `nvimd serve`, which it starts and ends
+       clients/attach.py --socket PATH     over the socket of a server on which nothing was done yet
 Wants Debian's python3-pynvim.
 """
 
 import os
+import signal
 import sys
+import threading
 
 import pynvim
 
+from follow import Copy
+from grid import Grid
+from rpc import Serve
+
 TOP = os.path.dirname(os.path.dirname(os.path.abspath(__file__)))
+MOST_SECONDS = 120
+OPTIONS = {"rgb": True, "ext_linegrid": True}
 wrong = []
 passed = 0
 
@@ -163,15 +174,199 @@ def windows(nvim):
     refused("last window", lambda: nvim.api.win_close(first, False), "Cannot close the last one")
 
 
-PARTS = [buffers, undo, options, faults, marks, groups, windows]
+def tabpages(nvim):
+    first = nvim.current.tabpage
+    window = nvim.current.window
+    nvim.command("tabnew")
+    second = nvim.current.tabpage
+    same("tabpages in order", [t.handle for t in nvim.tabpages], [first.handle, second.handle])
+    same("its windows", [w.handle for w in second.windows], [nvim.current.window.handle])
+    same("its current window", second.window.handle, nvim.current.window.handle)
+    same("a window's tabpage", window.tabpage.handle, first.handle)
+    same("numbers", (first.number, second.number), (1, 2))
+    nvim.current.tabpage = first
+    same("current tabpage", nvim.current.tabpage.handle, first.handle)
+    nvim.current.window = second.window
+    same("its tabpage is current", nvim.current.tabpage.handle, second.handle)
+    nvim.command("tabclose")
+    same("valid tabpages", (first.valid, second.valid), (True, False))
+    refused("last tabpage", lambda: nvim.command("tabclose"), "Cannot close the last one")
+    refused("a tabpage's windows", lambda: nvim.api.tabpage_list_wins(second), f"Invalid tabpage id: {second.handle}")
 
 
-def main():
+def splits(nvim):
+    """Windows of one text beside and below each other, each with its own cursor."""
+    first = nvim.current.window
+    buffer = nvim.current.buffer
+    buffer[:] = ["one", "two", "three"]
+    below = nvim.api.open_win(buffer, False, {"split": "below", "height": 5})
+    other = nvim.api.create_buf(True, False)
+    left = nvim.api.open_win(other, False, {"split": "left", "win": below, "width": 10})
+    same("no window was entered", nvim.current.window.handle, first.handle)
+    same("windows in order", [w.handle for w in nvim.windows], [first.handle, left.handle, below.handle])
+    same("sizes", [(w.width, w.height) for w in nvim.windows], [(80, 11), (10, 10), (69, 10)])
+    same("places", [(w.row, w.col) for w in nvim.windows], [(0, 0), (12, 0), (12, 11)])
+    same("buffers shown", [w.buffer.number for w in nvim.windows], [buffer.number, other.number, buffer.number])
+    first.cursor, below.cursor = (2, 1), (3, 4)
+    buffer.append("new", 0)
+    same("cursors move with the text", (first.cursor, below.cursor), ([3, 1], [4, 4]))
+    first.height = 5
+    same("heights", [w.height for w in nvim.windows], [5, 16, 16])
+    nvim.api.win_set_buf(left, buffer)
+    same("a buffer put in a window", left.buffer.number, buffer.number)
+    nvim.api.buf_delete(other, {})
+    for window in (left, below):
+        nvim.api.win_close(window, False)
+    same("one window", [(w.handle, w.width, w.height) for w in nvim.windows], [(first.handle, 80, 22)])
+    refused("a wrong side", lambda: nvim.api.open_win(buffer, True, {"split": "up"}), "Invalid value for key: split")
+
+
+def told(nvim, count):
+    """The next notifications, each with its name, buffers as numbers."""
+    found = []
+    for _ in range(count):
+        kind, name, arguments = nvim.next_message()
+        same("kind of message", kind, "notification")
+        found.append([name, *(a.number if isinstance(a, pynvim.api.Buffer) else a for a in arguments)])
+    return found
+
+
+def events(nvim):
+    buffer = nvim.current.buffer
+    buffer[:] = ["a", "b"]
+    number = buffer.number
+    tick = buffer.api.get_changedtick()
+    same("attached", buffer.api.attach(True, {}), True)
+    buffer.append("c")
+    buffer.api.set_text(0, 0, 0, 1, ["x", "y"])
+    nvim.command("undo")
+    same("detached", buffer.api.detach(), True)
+    lines = "nvim_buf_lines_event"
+    wanted = [
+        [lines, number, tick, 0, -1, ["a", "b"], False], [lines, number, tick + 1, 2, 2, ["c"], False],
+        [lines, number, tick + 2, 0, 1, ["x", "y"], False], [lines, number, tick + 3, 0, 2, ["a"], False],
+        ["nvim_buf_detach_event", number],
+    ]
+    same("events", told(nvim, 5), wanted)
+    same("attached without lines", buffer.api.attach(False, {}), True)
+    same("its event", told(nvim, 1), [["nvim_buf_changedtick_event", number, tick + 3]])
+    buffer.api.detach()
+    same("its last event", told(nvim, 1), [["nvim_buf_detach_event", number]])
+    nvim.request("nvim_nope", async_=True)
+    same("behind a notification that fails", told(nvim, 1), [["nvim_error_event", 0, "Invalid method: nvim_nope"]])
+
+
+def screen(nvim):
+    """A UI: its screen after some calls, and that it goes and comes."""
+    grid = Grid()
+    buffer = nvim.current.buffer
+    buffer[:] = ["first", "second"]
+    nvim.ui_attach(20, 6, **OPTIONS)
+    grid.take(drawn(nvim))
+    same("UIs", [(ui["width"], ui["height"], ui["rgb"]) for ui in nvim.api.list_uis()], [(20, 6, True)])
+    same("screen", rows(grid), ["first", "second", "~", "~", "[No Name] [+]", ""])
+    buffer[0] = "other"
+    grid.take(drawn(nvim))
+    nvim.current.window.cursor = (2, 3)
+    grid.take(drawn(nvim))
+    same("screen of an edit", (rows(grid)[:2], grid.cursor), (["other", "second"], (1, 3)))
+    nvim.api.ui_try_resize(30, 4)
+    grid.take(drawn(nvim))
+    same("screen of another size", (grid.width, grid.height, rows(grid)[0]), (30, 4, "other"))
+    refused("a second UI", lambda: nvim.ui_attach(20, 6, **OPTIONS), "UI already attached")
+    nvim.ui_detach()
+    same("no UIs", nvim.api.list_uis(), [])
+    refused("no UI", lambda: nvim.api.ui_try_resize(20, 6), "UI not attached")
+    nvim.ui_attach(80, 24, **OPTIONS)
+    grid.take(drawn(nvim))
+    nvim.ui_detach()
+    same("a UI that comes again", (grid.width, grid.height, rows(grid)[1]), (80, 24, "second"))
+    same("cells", (nvim.strwidth("ab\tc"), nvim.strwidth("世")), (4, 2))
+
+
+def drawn(nvim):
+    """The next batch."""
+    kind, name, batch = nvim.next_message()
+    same("a batch", (kind, name), ("notification", "redraw"))
+    return batch
+
+
+def rows(grid):
+    return ["".join(text for text, _ in row).rstrip() for row in grid.shown()]
+
+
+PARTS = [buffers, undo, options, faults, marks, groups, windows, tabpages, splits, events, screen]
+
+
+def edits(path, word, count):
+    """A session of its own that puts so many lines, each where the text ends at that time."""
+    nvim = pynvim.attach("socket", path=path)
+    for n in range(count):
+        nvim.request("nvim_buf_set_lines", 1, -1, -1, True, [f"{word} {n}"])
+    nvim.close()
+
+
+def together(path, first, second):
+    """Two sessions on one text: one edits and the other follows; then both edit at once, and a copy is the text."""
+    same("two sessions", len({first.channel_id, second.channel_id}), 2)
+    buffer = first.buffers[1]
+    buffer[:] = ["zero"]
+    copy = Copy()
+    second.buffers[1].api.attach(True, {})
+    editors = [threading.Thread(target=edits, args=(path, word, 200)) for word in ("one", "two")]
+    for editor in editors:
+        editor.start()
+    for n in range(200):
+        second.request("nvim_buf_set_lines", 1, -1, -1, True, [f"own {n}"])
+    for editor in editors:
+        editor.join()
+    lines = second.buffers[1][:]
+    tick = second.request("nvim_buf_get_changedtick", 1)
+    while copy.tick != tick:
+        _, name, (_, *arguments) = second.next_message()
+        copy.take(name, *arguments)
+    same("a copy", copy.lines, lines)
+    for word in ("one", "two", "own"):
+        same(f"lines of {word}", [l for l in lines if l.startswith(word)], [f"{word} {n}" for n in range(200)])
+    first.ui_attach(30, 10, **OPTIONS)
+    second.ui_attach(40, 8, **OPTIONS)
+    same("the screen of two UIs", (first.current.window.width, first.current.window.height), (30, 6))
+    same("UIs of two sessions", len(second.api.list_uis()), 2)
+    second.close()
+    buffer[:] = ["zero"]
+    grid = Grid()
+    while (grid.height, grid.flushed and rows(grid)[0]) != (10, "zero"):
+        grid.take(drawn(first))
+    same("the screen of the one that stays", (grid.width, rows(grid)[:2]), (30, ["zero", "~"]))
+    first.ui_detach()
+
+
+def over_socket(path):
+    first, second = (pynvim.attach("socket", path=path) for _ in range(2))
+    for part in PARTS:
+        part(first)
+    together(path, first, second)
+    first.close()
+
+
+def over_child():
     nvim = pynvim.attach("child", argv=[os.path.join(TOP, "nvimd"), "embed"])
     same("channel", nvim.channel_id, 1)
     for part in PARTS:
         part(nvim)
     nvim.close()
+
+
+def main():
+    signal.alarm(MOST_SECONDS)
+    if sys.argv[1:2] == ["--socket"]:
+        over_socket(sys.argv[2])
+    elif sys.argv[1:] == ["--serve"]:
+        server = Serve()
+        over_socket(server.address)
+        same("status", server.quit(), 0)
+    else:
+        over_child()
     for line in wrong:
         print(line, file=sys.stderr)
     print(f"{passed} passed, {len(wrong)} failed")
