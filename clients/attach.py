@@ -328,17 +328,20 @@ def together(path, first, second):
     same("a copy", copy.lines, lines)
     for word in ("one", "two", "own"):
         same(f"lines of {word}", [l for l in lines if l.startswith(word)], [f"{word} {n}" for n in range(200)])
-    first.ui_attach(30, 10, **OPTIONS)
-    second.ui_attach(40, 8, **OPTIONS)
-    same("the screen of two UIs", (first.current.window.width, first.current.window.height), (30, 6))
+    second.ui_attach(30, 10, **OPTIONS)
+    first.ui_attach(40, 8, **OPTIONS)
+    same("the screen of two UIs", (second.current.window.width, second.current.window.height), (30, 6))
     same("UIs of two sessions", len(second.api.list_uis()), 2)
-    second.close()
-    buffer[:] = ["zero"]
-    grid = Grid()
-    while (grid.height, grid.flushed and rows(grid)[0]) != (10, "zero"):
-        grid.take(drawn(first))
-    same("the screen of the one that stays", (grid.width, rows(grid)[:2]), (30, ["zero", "~"]))
     first.ui_detach()
+    second.buffers[1].api.detach()
+    second.buffers[1][:] = ["last"]
+    grid = Grid()
+    while (grid.height, grid.flushed and rows(grid)[0]) != (10, "last"):
+        kind, name, batch = second.next_message()
+        if name == "redraw":
+            grid.take(batch)
+    same("the screen of the one that stays", (grid.width, rows(grid)[:2]), (30, ["last", "~"]))
+    second.close()
 
 
 def over_socket(path):
@@ -346,7 +349,6 @@ def over_socket(path):
     for part in PARTS:
         part(first)
     together(path, first, second)
-    first.close()
 
 
 def over_child():

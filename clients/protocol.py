@@ -29,7 +29,7 @@ MESSAGE = re.compile(r"`(\[[012], [^`]*)` is answered by (nothing|`([^`]*)`)")
 INPUT = re.compile(r"[Tt]he input `([0-9a-f ]*)`(?: (\d+) times)? ends? with status (\d)(?: and `([^`]*)`)?")
 FAULT = re.compile(r"^\| (\d+) \| \d \| .* \|$", re.MULTILINE)
 STATUS = re.compile(r"^\| (\d) \| [^|]* \| (?:`nvimd: |none)", re.MULTILINE)
-LIMIT = re.compile(r"^\| (?:[^|]*, )?([^|,]*) \| ([\d,]+)[^|]* \| [^|]* \|$", re.MULTILINE)
+LIMIT = re.compile(r"^\| ([^|]*) \| ([\d,]+)[^|]* \| [^|]* \|$", re.MULTILINE)
 
 # limits that are soon reached: the call that reaches them, how many are there at first, and what refuses it then
 LIMITS = {
@@ -168,7 +168,7 @@ class Page:
 
     def limits(self):
         """Each limit that is soon reached."""
-        found = {name: int(number.replace(",", "")) for name, number in LIMIT.findall(self.text)}
+        found = {name: int(number.replace(",", "")) for names, number in LIMIT.findall(self.text) for name in names.split(", ")}
         for name, (text, held, refusal) in LIMITS.items():
             (call,), _ = calls_in(text)
             count = found.get(name, 0) - held

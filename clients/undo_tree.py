@@ -52,10 +52,11 @@ class Child:
 class Model:
     """A buffer: its lines, its changedtick, and a kept text for each change."""
 
-    def __init__(self):
-        self.lines = [b""]
+    def __init__(self, empty=b""):
+        self.empty = empty
+        self.lines = [empty]
         self.tick = 2
-        self.kept = [[b""]]
+        self.kept = [[empty]]
         self.parent = [0]
         self.entered = {}
         self.current = 0
@@ -74,11 +75,11 @@ class Model:
     def set_lines(self, start, end, new):
         if start == end and not new:
             return
-        self.change((self.lines[:start] + new + self.lines[end:]) or [b""])
+        self.change((self.lines[:start] + new + self.lines[end:]) or [self.empty])
 
     def set_text(self, start, end, new):
-        new = new or [b""]
-        if start == end and new == [b""]:
+        new = new or [self.empty]
+        if start == end and new == [self.empty]:
             return
         put = list(new)
         put[0] = self.lines[start[0]][: start[1]] + put[0]
