@@ -20,3 +20,6 @@ pub use chunk::Chunk;
 pub use listing::LineList;
 pub use single::{Line, is_line};
 pub use whole::Lines;
+
+#[cfg(test)]
+mod tests;

@@ -23,3 +23,6 @@ pub use laws::{
 };
 pub use reader::decode;
 pub use writer::encode;
+
+#[cfg(test)]
+mod tests;

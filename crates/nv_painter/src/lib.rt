@@ -17,3 +17,6 @@ mod view;
 pub use laws::picture_laws;
 pub use painter::Painter;
 pub use speaking::Batch;
+
+#[cfg(test)]
+mod tests;

@@ -2,8 +2,9 @@
 //! documented effects of the methods and from the words of their faults. Arguments and results are
 //! spelled in MessagePack.
 
-ghost use Rattle.std.specs.Prelude.{IfOk};
-ghost use Rattle.nv_value.specs.View.{content};
+ghost use Rattle.std.specs.Prelude.{◌<◌, ◌^◌, length, IfOk};
+ghost use Rattle.nv_args.specs.Weight.{AreLight};
+ghost use Rattle.nv_value.specs.View.{content, contents};
 ghost use Rattle.nv_msgpack.specs.Shortest.{HasSpelling};
 
 use nv_api_buf::{
@@ -17,11 +18,11 @@ use nv_args::{Args, Fail, Method, method_of, read};
 use nv_editor::{Editor, Happened};
 use nv_model::Limits;
 use nv_msgpack::{Bounds, Decoded, decode, encode};
-use nv_value::{Items, Value};
+use nv_value::{Bytes, Items, Value};
 use std::alloc::{AllocError, Global};
 use std::test::Fail as Failed;
 
-// A step: a method, its arguments, and what it answers.
+// A step: a method and its arguments, or no method and a command; and what it answers.
 type Step = (&'static str, &'static [u8], &'static [u8]);
 
 fn params_of(alloc: Global, bytes: &[u8]) -> Result<Items, AllocError> {
@@ -99,8 +100,31 @@ fn called(
         Method::BufSetText => told(alloc, nvim_buf_set_text(editor, &mut args, happened)),
         Method::BufAttach => told(alloc, nvim_buf_attach(editor, &args, happened)),
         Method::BufDetach => told(alloc, nvim_buf_detach(editor, &args, happened)),
-        Method::Command => told(alloc, nvim_command(editor, &args, happened)),
         _ => answered(alloc, editor, method, &args),
+    }
+}
+
+// The arguments of a command.
+fn command_params(alloc: Global, command: &[u8]) -> Result<Items, AllocError>
+    requires { length command.now < 2 ^ 16 }
+    ensures { IfOk result (λ items. AreLight (contents items.items)) }
+{
+    let items = vec![in alloc; Value::Text(Bytes::from_slice(alloc, command)?)]?;
+    Ok(items)
+}
+
+// What a command answers.
+fn commanded(
+    alloc: Global,
+    editor: &mut Editor,
+    params: Items,
+    happened: &mut Happened,
+) -> Result<Vec<u8>, AllocError>
+    requires { AreLight (contents params.items) }
+{
+    match read(alloc, Method::Command, params) {
+        Ok(args) => told(alloc, nvim_command(editor, &args, happened)),
+        Err(fail) => words_of(alloc, fail),
     }
 }
 
@@ -109,12 +133,15 @@ fn played(
     alloc: Global,
     editor: &mut Editor,
     name: &str,
-    params: &[u8],
+    words: &[u8],
 ) -> Result<Vec<u8>, AllocError> {
     let mut happened = Happened::new(alloc);
     let answer = match method_of(name.as_bytes()) {
-        Some(method) => called(alloc, editor, method, params, &mut happened)?,
-        None => Vec::from_slice(alloc, b"no method")?,
+        Some(method) => called(alloc, editor, method, words, &mut happened)?,
+        None if words.len() < 65_536 => {
+            commanded(alloc, editor, command_params(alloc, words)?, &mut happened)?
+        }
+        None => Vec::from_slice(alloc, b"too long")?,
     };
     editor.seal_all()?;
     Ok(answer)
@@ -127,8 +154,8 @@ fn first_wrong(
     steps: &[Step],
 ) -> Result<Option<usize>, AllocError> {
     for place in 0..steps.len() {
-        let (name, params, answer) = steps[place];
-        if played(alloc, editor, name, params)?.as_slice() != answer {
+        let (name, words, answer) = steps[place];
+        if played(alloc, editor, name, words)?.as_slice() != answer {
             return Ok(Some(place));
         }
     }
@@ -247,21 +274,21 @@ fn edits() -> &'static [Step] {
         ),
         ("nvim_buf_detach", b"\x91\x00", b"\xc3"),
         ("nvim_buf_detach", b"\x91\x07", b"Invalid buffer id: 7"),
-        ("nvim_command", b"\x91\xa4undo", b"\xc0"),
+        ("", b"undo", b"\xc0"),
         ("nvim_buf_get_lines", ROWS, b"\x93\xa1a\xa1b\xa1c"),
-        ("nvim_command", b"\x91\xa4redo", b"\xc0"),
-        ("nvim_command", b"\x91\xa6undo 9", b"Index out of bounds"),
-        ("nvim_command", b"\x91\xb7undo 000000000000000002", b"\xc0"),
+        ("", b"redo", b"\xc0"),
+        ("", b"undo 9", b"Index out of bounds"),
+        ("", b"undo 000000000000000002", b"\xc0"),
         ("nvim_buf_get_lines", ROWS, b"\x92\xa0\xa1x"),
         (
-            "nvim_command",
-            b"\x91\xb8undo 0000000000000000002",
+            "",
+            b"undo 0000000000000000002",
             b"Unknown name: undo 0000000000000000002",
         ),
-        ("nvim_command", b"\x91\xa7undo  1", b"Unknown name: undo  1"),
-        ("nvim_command", b"\x91\xa4Undo", b"Unknown name: Undo"),
-        ("nvim_command", b"\x91\xa5qall!", b"\xc0"),
-        ("nvim_command", b"\x91\xa4qall", b"Unknown name: qall"),
+        ("", b"undo  1", b"Unknown name: undo  1"),
+        ("", b"Undo", b"Unknown name: Undo"),
+        ("", b"qall!", b"\xc0"),
+        ("", b"qall", b"Unknown name: qall"),
     ]
 }
 
@@ -282,7 +309,7 @@ fn buffers() -> &'static [Step] {
             b"String cannot contain newlines",
         ),
         ("nvim_buf_get_name", b"\x91\x01", b"\xa1a"),
-        ("nvim_command", b"\x91\xa6tabnew", b"\xc0"),
+        ("", b"tabnew", b"\xc0"),
         ("nvim_create_buf", b"\x92\xc3\xc2", b"Limit reached"),
         (
             "nvim_list_bufs",
@@ -290,12 +317,8 @@ fn buffers() -> &'static [Step] {
             b"\x93\xd4\x00\x01\xd4\x00\x02\xd4\x00\x03",
         ),
         ("nvim_get_current_buf", b"\x90", b"\xd4\x00\x03"),
-        ("nvim_command", b"\x91\xa8tabclose", b"\xc0"),
-        (
-            "nvim_command",
-            b"\x91\xa8tabclose",
-            b"Cannot close the last one",
-        ),
+        ("", b"tabclose", b"\xc0"),
+        ("", b"tabclose", b"Cannot close the last one"),
         ("nvim_set_current_buf", b"\x91\x02", b"\xc0"),
         (
             "nvim_buf_set_lines",

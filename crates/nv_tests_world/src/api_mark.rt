@@ -321,22 +321,32 @@ fn group_calls() -> &'static [(&'static str, &'static str, &'static str)] {
     ]
 }
 
+// The place of the first call that comes to something else.
+fn first_wrong(
+    editor: &mut Editor,
+    calls: &[(&'static str, &'static str, &'static str)],
+) -> Result<Option<usize>, AllocError> {
+    for place in 0..calls.len() {
+        let (name, hex, wanted) = calls[place];
+        if outcome(editor, name, hex)?.as_slice() != wanted.as_bytes() {
+            return Ok(Some(place));
+        }
+    }
+    Ok(None)
+}
+
 #[test]
 fn marks_are_set_listed_and_cleared(rt: HostRuntime) -> Result<(), Failed> {
     let mut editor = editor_with_text(rt.alloc())?;
-    for (name, hex, wanted) in mark_calls() {
-        let found = outcome(&mut editor, name, hex)?;
-        assert_eq!(rt; found.as_slice(), wanted.as_bytes(), "{name} {hex}");
-    }
+    let wrong = first_wrong(&mut editor, mark_calls())?;
+    assert_eq!(rt; wrong, None);
     Ok(())
 }
 
 #[test]
 fn groups_are_put_and_told(rt: HostRuntime) -> Result<(), Failed> {
     let mut editor = Editor::new(rt.alloc(), LIMITS)?;
-    for (name, hex, wanted) in group_calls() {
-        let found = outcome(&mut editor, name, hex)?;
-        assert_eq!(rt; found.as_slice(), wanted.as_bytes(), "{name} {hex}");
-    }
+    let wrong = first_wrong(&mut editor, group_calls())?;
+    assert_eq!(rt; wrong, None);
     Ok(())
 }

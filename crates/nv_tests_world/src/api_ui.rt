@@ -213,22 +213,46 @@ fn texts() -> &'static [(&'static str, &'static str)] {
     ]
 }
 
+// The place of the first call that comes to something else.
+fn first_wrong(
+    editor: &mut Editor,
+    calls: &[(u64, &'static str, &'static str, &'static str)],
+) -> Result<Option<usize>, AllocError> {
+    for place in 0..calls.len() {
+        let (session, name, hex, wanted) = calls[place];
+        if outcome(editor, session, name, hex)?.as_slice() != wanted.as_bytes() {
+            return Ok(Some(place));
+        }
+    }
+    Ok(None)
+}
+
+// The place of the first text that has another width.
+fn first_other_width(
+    editor: &mut Editor,
+    texts: &[(&'static str, &'static str)],
+) -> Result<Option<usize>, AllocError> {
+    for place in 0..texts.len() {
+        let (hex, wanted) = texts[place];
+        if outcome(editor, 1, "nvim_strwidth", hex)?.as_slice() != wanted.as_bytes() {
+            return Ok(Some(place));
+        }
+    }
+    Ok(None)
+}
+
 #[test]
 fn uis_are_attached_listed_and_detached(rt: HostRuntime) -> Result<(), Failed> {
     let mut editor = Editor::new(rt.alloc(), LIMITS)?;
-    for (session, name, hex, wanted) in ui_calls() {
-        let found = outcome(&mut editor, *session, name, hex)?;
-        assert_eq!(rt; found.as_slice(), wanted.as_bytes(), "{name} {hex}");
-    }
+    let wrong = first_wrong(&mut editor, ui_calls())?;
+    assert_eq!(rt; wrong, None);
     Ok(())
 }
 
 #[test]
 fn texts_are_measured(rt: HostRuntime) -> Result<(), Failed> {
     let mut editor = Editor::new(rt.alloc(), LIMITS)?;
-    for (hex, wanted) in texts() {
-        let found = outcome(&mut editor, 1, "nvim_strwidth", hex)?;
-        assert_eq!(rt; found.as_slice(), wanted.as_bytes(), "{hex}");
-    }
+    let wrong = first_other_width(&mut editor, texts())?;
+    assert_eq!(rt; wrong, None);
     Ok(())
 }

@@ -161,13 +161,25 @@ fn tabpage_calls() -> &'static [(&'static str, &'static str, &'static str)] {
     ]
 }
 
+// The place of the first call that comes to something else.
+fn first_wrong(
+    editor: &mut Editor,
+    calls: &[(&'static str, &'static str, &'static str)],
+) -> Result<Option<usize>, AllocError> {
+    for place in 0..calls.len() {
+        let (name, hex, wanted) = calls[place];
+        if outcome(editor, name, hex)?.as_slice() != wanted.as_bytes() {
+            return Ok(Some(place));
+        }
+    }
+    Ok(None)
+}
+
 #[test]
 fn windows_are_split_and_closed(rt: HostRuntime) -> Result<(), Failed> {
     let mut editor = Editor::new(rt.alloc(), LIMITS)?;
-    for (name, hex, wanted) in split_calls() {
-        let found = outcome(&mut editor, name, hex)?;
-        assert_eq!(rt; found.as_slice(), wanted.as_bytes(), "{name} {hex}");
-    }
+    let wrong = first_wrong(&mut editor, split_calls())?;
+    assert_eq!(rt; wrong, None);
     Ok(())
 }
 
@@ -177,9 +189,7 @@ fn a_tabpage_goes_with_its_last_window(rt: HostRuntime) -> Result<(), Failed> {
     if editor.buffer(1).is_some() {
         editor.make_tab(1)?;
     }
-    for (name, hex, wanted) in tabpage_calls() {
-        let found = outcome(&mut editor, name, hex)?;
-        assert_eq!(rt; found.as_slice(), wanted.as_bytes(), "{name} {hex}");
-    }
+    let wrong = first_wrong(&mut editor, tabpage_calls())?;
+    assert_eq!(rt; wrong, None);
     Ok(())
 }

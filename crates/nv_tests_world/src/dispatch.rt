@@ -68,20 +68,34 @@ fn fault_of(editor: &mut Editor, name: &str, params: Items) -> Result<u16, Alloc
     }
 }
 
+// The number of the fault of a call that puts one line in place of the rows from 0 to `end`.
+fn put_fault(editor: &mut Editor, end: i64, line: &[u8]) -> Result<u16, AllocError>
+    requires line { length line.now < 2 ^ 16 }
+    requires sealed { AllSealed editor.old }
+    ensures { OnOk result (AllSealed editor.new) }
+{
+    let params = one_line(editor.alloc(), end, line)?;
+    fault_of(editor, "nvim_buf_set_lines", params)
+}
+
+// The faults of lines that are put, of a buffer that is made, and of no method.
+fn faults(alloc: Global, editor: &mut Editor) -> Result<[u16; 6], AllocError>
+    requires { AllSealed editor.old }
+{
+    let flags = two_flags(alloc)?;
+    let long = put_fault(editor, -1, b"abcde")?;
+    let further = put_fault(editor, 0, b"a")?;
+    let fits = put_fault(editor, -1, b"abcd")?;
+    let later = put_fault(editor, -1, b"a")?;
+    let buffer = fault_of(editor, "nvim_create_buf", flags)?;
+    let unknown = fault_of(editor, "nvim_nope", Vec::new(alloc))?;
+    Ok([long, further, fits, later, buffer, unknown])
+}
+
 #[test]
 fn limits_are_reached(rt: HostRuntime) -> Result<(), Fail> {
-    let alloc = rt.alloc();
-    let mut editor = small_editor(alloc)?;
-    let set = "nvim_buf_set_lines";
-    let long = fault_of(&mut editor, set, one_line(alloc, -1, b"abcde")?)?;
-    let further = fault_of(&mut editor, set, one_line(alloc, 0, b"a")?)?;
-    let fits = fault_of(&mut editor, set, one_line(alloc, -1, b"abcd")?)?;
-    let later = fault_of(&mut editor, set, one_line(alloc, -1, b"a")?)?;
-    let buffer = fault_of(&mut editor, "nvim_create_buf", two_flags(alloc)?)?;
-    let unknown = fault_of(&mut editor, "nvim_nope", Vec::new(alloc))?;
-    assert_eq!(rt;
-        [long, further, fits, later, buffer, unknown],
-        [19, 19, 0, 19, 19, 1]
-    );
+    let mut editor = small_editor(rt.alloc())?;
+    let faults = faults(rt.alloc(), &mut editor)?;
+    assert_eq!(rt; faults, [19, 19, 0, 19, 19, 1]);
     Ok(())
 }

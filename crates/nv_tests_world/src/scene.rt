@@ -94,15 +94,20 @@ fn top(editor: &Editor) -> Option<u32> {
 }
 
 // The first row of the window of five lines: as it is put, and settled once and again.
+fn tops(editor: &mut Editor, five: LineList) -> Result<[Option<u32>; 3], AllocError> {
+    put_first(editor, five)?;
+    put_top(editor, 3);
+    let put = top(editor);
+    settle(editor)?;
+    let once = top(editor);
+    settle(editor)?;
+    Ok([put, once, top(editor)])
+}
+
 fn settled_tops(alloc: Global) -> Result<[Option<u32>; 3], AllocError> {
+    let five = lines(alloc, b"ab", 5)?;
     let mut editor = small_editor(alloc)?;
-    put_first(&mut editor, lines(alloc, b"ab", 5)?)?;
-    put_top(&mut editor, 3);
-    let put = top(&editor);
-    settle(&mut editor)?;
-    let once = top(&editor);
-    settle(&mut editor)?;
-    Ok([put, once, top(&editor)])
+    tops(&mut editor, five)
 }
 
 #[test]
@@ -141,14 +146,19 @@ fn has_two_of_three(pane: &Pane) -> bool {
         && last.bytes.as_slice() == b"ab".as_slice()
 }
 
-// Whether window 1000 shows two of three lines.
-fn shows_two_of_three(alloc: Global) -> Result<bool, AllocError> {
-    let mut editor = small_editor(alloc)?;
-    put_first(&mut editor, lines(alloc, b"ab", 3)?)?;
-    match pane(&editor)? {
+// Whether window 1000 shows two of three lines that are put.
+fn puts_and_shows(editor: &mut Editor, three: LineList) -> Result<bool, AllocError> {
+    put_first(editor, three)?;
+    match pane(editor)? {
         Some(pane) => Ok(has_two_of_three(&pane)),
         None => Ok(false),
     }
+}
+
+fn shows_two_of_three(alloc: Global) -> Result<bool, AllocError> {
+    let three = lines(alloc, b"ab", 3)?;
+    let mut editor = small_editor(alloc)?;
+    puts_and_shows(&mut editor, three)
 }
 
 #[test]
@@ -292,10 +302,14 @@ fn two_windows(alloc: Global) -> Result<Vec<u8>, AllocError> {
 }
 
 // The screen after a window was opened.
+fn shown_split(editor: &mut Editor) -> Result<(Vec<u8>, (i64, u32, u32)), AllocError> {
+    open_right(editor)?;
+    shown(editor)
+}
+
 fn split_right(alloc: Global) -> Result<(Vec<u8>, (i64, u32, u32)), AllocError> {
     let mut editor = Editor::new(alloc, limits())?;
-    open_right(&mut editor)?;
-    shown(&editor)
+    shown_split(&mut editor)
 }
 
 #[test]
@@ -346,11 +360,20 @@ fn bold_mark(start: Pos, stop: Pos) -> Mark {
 }
 
 // The screen of three lines with a mark.
+fn shown_marked(
+    editor: &mut Editor,
+    three: LineList,
+    mark: Mark,
+) -> Result<(Vec<u8>, (i64, u32, u32)), AllocError> {
+    put_first(editor, three)?;
+    set_mark(editor, mark)?;
+    shown(editor)
+}
+
 fn marked(alloc: Global, mark: Mark) -> Result<(Vec<u8>, (i64, u32, u32)), AllocError> {
+    let three = lines(alloc, b"ab", 3)?;
     let mut editor = small_editor(alloc)?;
-    put_first(&mut editor, lines(alloc, b"ab", 3)?)?;
-    set_mark(&mut editor, mark)?;
-    shown(&editor)
+    shown_marked(&mut editor, three, mark)
 }
 
 #[test]

@@ -142,11 +142,21 @@ fn play(alloc: Global, world: &mut World, acts: &[Act]) -> Result<Vec<(char, u64
     Ok(came)
 }
 
+// What acts came to after others.
+fn play_after(
+    alloc: Global,
+    world: &mut World,
+    before: &[Act],
+    acts: &[Act],
+) -> Result<Vec<(char, u64)>, AllocError> {
+    play(alloc, world, before)?;
+    play(alloc, world, acts)
+}
+
 // What acts came to in a world with an outbox of 16, after others.
 fn come(alloc: Global, before: &[Act], acts: &[Act]) -> Result<Vec<(char, u64)>, AllocError> {
     let mut world = World::new(alloc, usual_limits(), 16)?;
-    play(alloc, &mut world, before)?;
-    play(alloc, &mut world, acts)
+    play_after(alloc, &mut world, before, acts)
 }
 
 #[test]
@@ -165,14 +175,28 @@ fn a_session_is_held_at_half_an_outbox(rt: HostRuntime) -> Result<(), Fail> {
 }
 
 // Seventeen edits of session 1 that session 2 is told of and doesn't take.
+fn overflow(alloc: Global, world: &mut World) -> Result<(), AllocError> {
+    let opened = [Act::Open, Act::Open, Act::Attach(2, false), Act::Take(2)];
+    play(alloc, world, &opened)?;
+    for _ in 0..17 {
+        play(alloc, world, &[Act::Edit(1), Act::Take(1)])?;
+    }
+    Ok(())
+}
+
+// What acts came to after that.
+fn play_overflowed(
+    alloc: Global,
+    world: &mut World,
+    acts: &[Act],
+) -> Result<Vec<(char, u64)>, AllocError> {
+    overflow(alloc, world)?;
+    play(alloc, world, acts)
+}
+
 fn overflowed(alloc: Global, acts: &[Act]) -> Result<Vec<(char, u64)>, AllocError> {
     let mut world = World::new(alloc, usual_limits(), 16)?;
-    let opened = [Act::Open, Act::Open, Act::Attach(2, false), Act::Take(2)];
-    play(alloc, &mut world, &opened)?;
-    for _ in 0..17 {
-        play(alloc, &mut world, &[Act::Edit(1), Act::Take(1)])?;
-    }
-    play(alloc, &mut world, acts)
+    play_overflowed(alloc, &mut world, acts)
 }
 
 #[test]
@@ -228,8 +252,7 @@ fn taken(alloc: Global, world: &mut World, session: u64) -> Result<Vec<[i64; 3]>
 }
 
 // What a session takes of an edit, of two that follow its buffer.
-fn followed(alloc: Global, session: u64) -> Result<Vec<[i64; 3]>, AllocError> {
-    let mut world = World::new(alloc, usual_limits(), 16)?;
+fn follow(alloc: Global, world: &mut World, session: u64) -> Result<Vec<[i64; 3]>, AllocError> {
     let acts = [
         Act::Open,
         Act::Open,
@@ -237,8 +260,13 @@ fn followed(alloc: Global, session: u64) -> Result<Vec<[i64; 3]>, AllocError> {
         Act::Attach(2, true),
         Act::Edit(1),
     ];
-    play(alloc, &mut world, &acts)?;
-    taken(alloc, &mut world, session)
+    play(alloc, world, &acts)?;
+    taken(alloc, world, session)
+}
+
+fn followed(alloc: Global, session: u64) -> Result<Vec<[i64; 3]>, AllocError> {
+    let mut world = World::new(alloc, usual_limits(), 16)?;
+    follow(alloc, &mut world, session)
 }
 
 #[test]
@@ -258,10 +286,18 @@ fn two_sessions_follow_one_buffer(rt: HostRuntime) -> Result<(), Fail> {
 }
 
 // The splices of the last of these acts.
+fn splices_after(
+    alloc: Global,
+    world: &mut World,
+    acts: &[Act],
+) -> Result<Vec<BufferSplice>, AllocError> {
+    play(alloc, world, acts)?;
+    world.last_splices()
+}
+
 fn splices(alloc: Global, acts: &[Act]) -> Result<Vec<BufferSplice>, AllocError> {
     let mut world = World::new(alloc, usual_limits(), 16)?;
-    play(alloc, &mut world, acts)?;
-    world.last_splices()
+    splices_after(alloc, &mut world, acts)
 }
 
 // The splice of `edit`.

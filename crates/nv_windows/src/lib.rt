@@ -5,6 +5,8 @@ mod laws;
 mod parts;
 mod slots;
 mod tabs;
+#[cfg(test)]
+mod tests;
 mod window;
 mod windows;
 

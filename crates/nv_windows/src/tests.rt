@@ -1,8 +1,8 @@
 //! Windows that are opened, sized and closed, and views that move.
 
+use crate::{Opened, Windows};
 use nv_layout::{Rect, Side};
 use nv_places::{Extent, Pos};
-use nv_windows::{Opened, Windows};
 use std::process::Abort;
 use std::test::Fail;
 

@@ -3,7 +3,7 @@
 
 ghost use Rattle.std.specs.Prelude.{◌<◌};
 
-use nv_args::{Args, Fail, Method, method_of, read};
+use crate::{Args, Fail, Method, method_of, read};
 use nv_msgpack::{Bounds, Decoded, decode};
 use nv_value::{Items, Value};
 use std::alloc::{AllocError, Global};

@@ -2,7 +2,7 @@
 
 ghost use Rattle.std.specs.Prelude.{◌<◌};
 
-use nv_msgpack::{Bounds, Decoded, decode, handle_of};
+use crate::{Bounds, Decoded, decode, handle_of};
 use nv_value::{Fields, Items, Value};
 use std::alloc::{AllocError, Global};
 use std::test::Fail;

@@ -3,14 +3,14 @@
 ghost use Rattle.nv_screen.specs.Sound.{IsDrawable, IsInReach};
 ghost use Rattle.std.specs.Prelude.{All, IfOk};
 
+use crate::{
+    Bars, NoLines, Pane, Patch, Scene, SceneLine, Spot, cursor_cell, draw, draw_from, line_cells,
+    pane_grid,
+};
 use nv_hl::{Attr, Cell, Colours, Grid};
 use nv_layout::Rect;
 use nv_linedraw::Looks;
 use nv_lines::{Line, is_line};
-use nv_screen::{
-    Bars, NoLines, Pane, Patch, Scene, SceneLine, Spot, cursor_cell, draw, draw_from, line_cells,
-    pane_grid,
-};
 use std::alloc::{AllocError, Global};
 use std::test::Fail;
 

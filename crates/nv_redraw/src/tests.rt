@@ -1,7 +1,7 @@
+use super::*;
 use nv_hl::{Attr, Cell, CellText, Colours, Grid};
 use nv_linegrid::{Redraw, Run, Runs};
 use nv_msgpack::{Bounds, Decoded, decode};
-use nv_redraw::{Screen, batch_of, batch_value, write_batch};
 use nv_value::Value;
 use std::alloc::{AllocError, Global};
 use std::test::Fail;

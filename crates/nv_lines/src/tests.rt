@@ -1,6 +1,6 @@
 //! Lines that are put, read and measured, against tables written by hand.
 
-use nv_lines::{Line, LineList, Lines, is_line};
+use crate::{Line, LineList, Lines, is_line};
 use nv_value::Bytes;
 use std::alloc::{AllocError, Global};
 use std::mem;
@@ -186,39 +186,6 @@ fn a_long_text_is_cut_to_twenty_lines(rt: HostRuntime) -> Result<(), Fail> {
     Ok(())
 }
 
-// Shares of the lines from `from` up to before `to` are added to a list.
-fn add_lines(
-    list: &mut LineList,
-    lines: &LineList,
-    from: usize,
-    to: usize,
-) -> Result<(), AllocError> {
-    for place in from..to {
-        if let Some(line) = lines.get(place) {
-            list.push(line.share()?)?;
-        }
-    }
-    Ok(())
-}
-
-// Puts `new` in place of lines of a plain list, and gives those that stood there.
-fn plain_replace(
-    alloc: Global,
-    plain: &mut LineList,
-    from: usize,
-    to: usize,
-    new: &LineList,
-) -> Result<LineList, AllocError> {
-    let mut gone = LineList::new(alloc);
-    add_lines(&mut gone, plain, from, to)?;
-    let mut left = LineList::new(alloc);
-    add_lines(&mut left, plain, 0, from)?;
-    add_lines(&mut left, new, 0, new.len())?;
-    add_lines(&mut left, plain, to, plain.len())?;
-    *plain = left;
-    Ok(gone)
-}
-
 // Edits at places from a seed, beside a plain list.
 #[test]
 fn edits_keep_step_with_a_plain_list(rt: HostRuntime) -> Result<(), Fail> {
@@ -233,7 +200,10 @@ fn edits_keep_step_with_a_plain_list(rt: HostRuntime) -> Result<(), Fail> {
         let Some(taken) = put(&mut text, from, to, new.share()?)? else {
             continue;
         };
-        let gone = plain_replace(rt.alloc(), &mut plain, from, to, &new)?;
+        if to > plain.len() || from > to {
+            return Err("the plain list is shorter")?;
+        }
+        let gone = plain.replace(from, to, new)?;
         assert_eq!(rt;
             flat(rt.alloc(), &taken)?.as_slice(),
             flat(rt.alloc(), &gone)?.as_slice()

@@ -5,12 +5,12 @@ ghost use Rattle.nv_painter.specs.Spoken.{AreSendable};
 ghost use Rattle.nv_screen.specs.Sound.{AreInRows, IsSoundScene};
 ghost use Rattle.std.specs.Prelude.{◌≡◌, ◌<◌, ◌≤◌, ◌+◌, ◌-◌, ◌∷◌, [], IfOk, length, min};
 
+use crate::{Batch, Painter};
 use nv_hl::{Attr, Cell, Colours};
 use nv_layout::Rect;
 use nv_linedraw::Looks;
 use nv_linegrid::{Redraw, Run};
 use nv_lines::{Line, is_line};
-use nv_painter::{Batch, Painter};
 use nv_rpc::Message;
 use nv_screen::{Bars, Pane, Scene, SceneLine, Spot};
 use std::alloc::{AllocError, Global};

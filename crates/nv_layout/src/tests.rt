@@ -6,9 +6,7 @@ ghost use Rattle.nv_layout.specs.Least.{leaves_of, NoneEmpty};
 ghost use Rattle.nv_layout.specs.Places.{IsRoomy, IsOnScreen};
 ghost use Rattle.nv_layout.specs.declared.nodes.Axis.TheVariants.{Across, Down};
 
-use nv_layout::{
-    Axis, Leaf, Placed, Rect, Side, Tree, least, leaves, push_windows, rect_of, rects,
-};
+use crate::{Axis, Leaf, Placed, Rect, Side, Tree, least, leaves, push_windows, rect_of, rects};
 use std::alloc::{AllocError, Global};
 use std::process::Abort;
 use std::test::Fail;

@@ -1,4 +1,4 @@
-use nv_hl::{Attr, Cell, CellText, Grid, Group, Groups, combine, is_same_attr};
+use super::*;
 use std::alloc::{AllocError, Global};
 use std::test::Fail;
 
