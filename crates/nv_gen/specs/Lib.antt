@@ -1,0 +1,4 @@
+pub mod Draws
+pub mod Questions
+pub mod Story
+pub mod inside

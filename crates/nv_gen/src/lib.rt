@@ -1,0 +1,12 @@
+//! Scripts of events that are drawn from a number.
+#![tactic(auto)]
+
+mod asking;
+mod draws;
+mod rounds;
+mod scripts;
+
+pub use scripts::script;
+
+#[cfg(test)]
+mod tests;
