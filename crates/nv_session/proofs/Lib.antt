@@ -6,3 +6,7 @@ pub mod Serving
 pub mod Spelling
 pub mod Steps
 pub mod Taking
+pub mod Opening
+pub mod Joining
+pub mod Connecting
+pub mod Captures

@@ -1,6 +1,6 @@
 -- What a take of the one session gives, by what the world says of it.
 use Rattle.std.proofs.Common.{◌≡◌, Bool, true, false, List, [], ◌∷◌, ◌++◌, map, Option, Some, None, refl, sym, ap, ◌∙◌, subst}
-use Rattle.std.specs.Prelude.{ℕ, option_map}
+use Rattle.std.specs.Prelude.{option_map}
 use Rattle.std.proofs.lemmas.List.{map-append}
 use Rattle.nv_rpc.specs.Messages.{Sent}
 use Rattle.nv_model.specs.Editors.{ModelEditor}

@@ -1,8 +1,12 @@
-//! A session that is alone in its world.
+//! Sessions: one that is alone in its world, and one of many, over a connection.
 #![tactic(auto)]
 
 mod asking;
+mod connection;
 mod session;
 mod speaking;
+#[cfg(test)]
+mod tests;
 
+pub use connection::{Served, serve_one};
 pub use session::alone;

@@ -1,4 +1,4 @@
-use Rattle.std.proofs.Common.{[], inl}
+use Rattle.std.proofs.Common.{[]}
 use Rattle.nv_halves.specs.Passes.{start_of}
 use Rattle.nv_session.proofs.Serving.{gave_none}
 use Rattle.nv_session.proofs.Leaving.{ends_before}

@@ -1,0 +1,56 @@
+-- What a closure captures that goes to another thread: the half that reads.
+use mathlib.Core.List.{[], ◌∷◌}
+use mir.Syntax.{Sym, Lifetime}
+use base.Fml.{Lft}
+use denote.RattleType.{RattleType}
+use denote.Ref.{ShrRef}
+use denote.Slice.{ShrSlice}
+use denote.Struct.Field.{row_field, u64-field}
+use denote.Struct.Tuple.{TupleAt, type_at}
+use denote.Param.Send.{IsSend, sendable, shr_send, shr_slice_send}
+use denote.Param.SendFields.{declared_send, as_row_send}
+use Rattle.std.proofs.alloc.Global.TheSendSync as heap
+use Rattle.std.specs.contracts.alloc.Global as heap_row
+use Rattle.nv_turn.specs.contracts.turn.Turn as turn_row
+use Rattle.nv_turn.specs.contracts.pass.Pass as pass_row
+use Rattle.nv_world.proofs.Crossing.{crossing_passes}
+use Rattle.nv_world.specs.contracts.world.World as world_row
+use Rattle.nv_world.specs.contracts.entry.Entry as entry_row
+use Rattle.nv_world.specs.contracts.story.Start as start_row
+use Rattle.nv_world.specs.contracts.story.WorldStory.TheImpl as story
+use Rattle.nv_halves.specs.contracts.bells.Bell as bell_row
+use Rattle.nv_halves.proofs.bells.Bell.TheSendSync as bell
+use Rattle.nv_halves.specs.contracts.reader.ReaderHalf as half
+use Rattle.nv_halves.proofs.ends.ReaderEnd.TheSendSync as end
+
+-- what such a half gives back
+pub half_sends : (I : RattleType) → IsSend I → IsSend (half.the_row I)
+half_sends I s = search (crossing_passes, end.the_field_send) depth 20
+
+-- seven captures that may go to another thread
+pub seven_send : {ν : Sym} {A B C D E F G : RattleType} → IsSend A → IsSend B → IsSend C → IsSend D → IsSend E → IsSend F → IsSend G
+    → IsSend (TupleAt ν (A ∷ B ∷ C ∷ D ∷ E ∷ F ∷ G ∷ []))
+seven_send {ν} {A} {B} {C} {D} {E} {F} {G} a b c d e f g = declared_send (type_at ν (A ∷ B ∷ C ∷ D ∷ E ∷ F ∷ G ∷ []))
+    (as_row_send (row_field A) a, (as_row_send (row_field B) b, (as_row_send (row_field C) c, (as_row_send (row_field D) d, (as_row_send (row_field E) e, (as_row_send (row_field F) f, (as_row_send (row_field G) g, tt)))))))
+
+-- one for each: the allocator, the turn, the bells, the pass, and the number of the session
+pub heap_sends : {ℓ : Lifetime} {κ : Lft} → IsSend (ShrRef ℓ κ heap_row.the_row)
+heap_sends {ℓ} {κ} = shr_send ℓ κ heap_row.the_row heap.the_sync
+
+pub number_sends : {ℓ : Lifetime} {κ : Lft} → IsSend (ShrRef ℓ κ u64-field.row)
+number_sends {ℓ} {κ} = search sendable
+
+abbrev pub the_turn : RattleType
+the_turn = turn_row.the_row world_row.the_row entry_row.the_row start_row.the_row story.ghosts
+
+pub turn_sends : {ℓ : Lifetime} {κ : Lft} → IsSend (ShrRef ℓ κ the_turn)
+turn_sends {ℓ} {κ} = search crossing_passes depth 20
+
+pub bells_send : {ℓ : Lifetime} {κ : Lft} → IsSend (ShrSlice ℓ κ bell_row.the_row)
+bells_send {ℓ} {κ} = shr_slice_send ℓ κ bell_row.the_row bell.the_sync
+
+abbrev pub the_pass : RattleType
+the_pass = pass_row.the_row world_row.the_row entry_row.the_row start_row.the_row story.ghosts
+
+pub pass_sends : IsSend the_pass
+pass_sends = search crossing_passes depth 20

@@ -1,0 +1,314 @@
+//! A connection that is served beside others: its session is opened under the turn, and then both
+//! of its halves run, each in a thread of its own.
+ghost use Rattle.std.specs.Prelude.{◌≡◌, ◌≢◌, ◌<◌, ◌≤◌, length, Ok, Err};
+ghost use Rattle.std.specs.Thread.{IsSync};
+ghost use denote.Param.Send.{IsSend};
+ghost use Rattle.nv_io.specs.Faults.{Rose};
+ghost use Rattle.nv_linegrid.specs.Told.{nothing_told};
+ghost use Rattle.nv_turn.specs.Passes.{IsSamePass};
+ghost use Rattle.nv_halves.specs.Passes.{plain_pass};
+ghost use Rattle.nv_halves.specs.Halves.{LeavesClosed, ReadsHalf, WritesHalf};
+ghost use Rattle.nv_session.specs.Openings.{Opens};
+ghost use Rattle.nv_session.specs.Joined.{end_by_cause, end_beside, end_beside_gone, end_of_halves};
+ghost use Rattle.nv_session.specs.Connections.{ServesSession, ServesNone};
+ghost use Rattle.nv_session.specs.inside.Opened.{what_was_opened, why_unopened, ServesHalves};
+
+use nv_halves::{
+    Bell, ReaderEnd, ReaderHalf, Refusal, Refused, Voice, WriterEnd, WriterHalf, once, reader_half,
+    writer_half,
+};
+use nv_io::{Ended, Sink, Source};
+use nv_painter::Painter;
+use nv_turn::{Pass, Turn};
+use nv_world::{Cause, Effect, Event, World};
+use std::alloc::Global;
+use std::net::{Net, TcpListener, TcpStream};
+use std::sync::Wait;
+use std::thread::{Threads, join};
+
+/// A connection that was served: how it ended, the number of its session, or 0 where it had none,
+/// its passes, and its two ends.
+#[derive(Drop)]
+pub struct Served<I, S> {
+    pub how: Ended,
+    pub session: u64,
+    pub passes: (Pass<World>, Pass<World>),
+    pub input: I,
+    pub output: S,
+}
+
+// The end of a connection whose opening was refused.
+fn end_of_refusal(why: Refusal) -> Ended
+    ensures { result ≡ why_unopened why }
+{
+    match why {
+        Refusal::Ended(entry) => Ended::Quit(entry),
+        Refusal::NoMemory => Ended::NoMemory,
+        Refusal::Stranger(_) => Ended::NoMemory,
+        Refusal::Held(_) => Ended::NoMemory,
+        Refusal::Gone(_) => Ended::NoMemory,
+    }
+}
+
+// The session that was opened, or the end of the connection.
+fn session_of(met: Result<Effect, Refused>) -> Result<u64, Ended>
+    ensures { result ≡ what_was_opened met }
+{
+    match met {
+        Ok(effect) => match effect {
+            Effect::Opened(session) => Ok(session),
+            Effect::Done => Err(Ended::NoMemory),
+            Effect::Items(_) => Err(Ended::NoMemory),
+            Effect::Nothing => Err(Ended::NoMemory),
+            Effect::Over(_) => Err(Ended::NoMemory),
+            Effect::Closed => Err(Ended::NoMemory),
+        },
+        Err(Refused { event: _, why }) => Err(end_of_refusal(why)),
+    }
+}
+
+// Opens a session.
+fn open<R: Wait>(
+    rt: &R,
+    turn: &Turn<World>,
+    bells: &[Bell],
+    pass: Pass<World>,
+) -> (Pass<World>, Result<u64, Ended>)
+    requires { pass.turn ≡ turn.now.turn }
+    ensures { Opens result.1 (plain_pass pass) (plain_pass result.0) }
+{
+    let (pass, met) = once(rt, turn, bells, pass, Event::Open);
+    (pass, session_of(met))
+}
+
+// An overflow or the end of the world, where that closed the session, and else `other`.
+fn by_cause(cause: Cause, other: Ended) -> Ended
+    ensures { result ≡ end_by_cause cause other }
+{
+    match cause {
+        Cause::Closed(_) => other,
+        Cause::Overflowed(entry) => Ended::Overflowed(entry),
+        Cause::Quit(entry) => Ended::Quit(entry),
+    }
+}
+
+// The end of a connection whose reader would end it so.
+fn beside(by_reader: Ended, writer: WriterEnd) -> Ended
+    ensures { result ≡ end_beside by_reader writer }
+{
+    match writer {
+        WriterEnd::Over(cause) => by_cause(cause, by_reader),
+        WriterEnd::WriteFault => Ended::WriteFault,
+        WriterEnd::NoMemory => Ended::NoMemory,
+    }
+}
+
+// The end of a connection whose reader found its session closed for `gone`.
+fn beside_gone(gone: Cause, writer: WriterEnd) -> Ended
+    ensures { result ≡ end_beside_gone gone writer }
+{
+    match writer {
+        WriterEnd::Over(cause) => by_cause(gone, by_cause(cause, Ended::NoMemory)),
+        WriterEnd::WriteFault => by_cause(gone, Ended::WriteFault),
+        WriterEnd::NoMemory => Ended::NoMemory,
+    }
+}
+
+// The end of a connection, by those of its halves.
+fn joined(reader: ReaderEnd, writer: WriterEnd) -> Ended
+    ensures { result ≡ end_of_halves reader writer }
+{
+    match reader {
+        ReaderEnd::Closed => beside(Ended::Closed, writer),
+        ReaderEnd::Malformed(flaw) => beside(Ended::Malformed(flaw), writer),
+        ReaderEnd::ReadFault => beside(Ended::ReadFault, writer),
+        ReaderEnd::Gone(gone) => beside_gone(gone, writer),
+        ReaderEnd::NoMemory => Ended::NoMemory,
+    }
+}
+
+// Runs both halves of a session, each in a thread of its own.
+pub(crate) fn run_halves<
+    R: Net<Listener = TcpListener, Stream = TcpStream> + Threads + Wait + Sync,
+    I: Source + Send + Drop,
+    S: Sink + Send + Drop,
+    V: Voice + Drop,
+>(
+    rt: &R,
+    alloc: Global,
+    turn: &Turn<World>,
+    bells: &[Bell],
+    lane: usize,
+    first: Pass<World>,
+    second: Pass<World>,
+    session: u64,
+    input: I,
+    output: S,
+    voice: V,
+) -> (ReaderHalf<I>, WriterHalf<S>)
+    requires turn { (first.turn ≡ turn.now.turn) × (second.turn ≡ turn.now.turn) }
+    requires lane { lane < length bells.now }
+    requires told { V.told voice ≡ nothing_told }
+    ensures first { IsSamePass (plain_pass first) (plain_pass result.0.pass) }
+    ensures read { ReadsHalf result.0.end (plain_pass first) (plain_pass result.0.pass) session
+        (I.taken input) (I.taken result.0.input) (I.left input) (I.left result.0.input) }
+    ensures closes { LeavesClosed result.0.end (plain_pass result.0.pass) session }
+    ensures read_later { I.faults input ≤ I.faults result.0.input }
+    ensures read_fault { result.0.end ≡ ReaderEnd.ReadFault
+        → Rose (I.faults input) (I.faults result.0.input) }
+    ensures second { IsSamePass (plain_pass second) (plain_pass result.1.pass) }
+    ensures wrote { WritesHalf result.1.end (plain_pass second) (plain_pass result.1.pass) session
+        (S.taken output) (S.taken result.1.output) }
+    ensures write_later { S.faults output ≤ S.faults result.1.output }
+    ensures write_fault { result.1.end ≡ WriterEnd.WriteFault
+        → Rose (S.faults output) (S.faults result.1.output) }
+{
+    join(
+        rt,
+        || -> ReaderHalf<I>
+            requires { IsSync R.row × IsSend I.row × (first.turn ≡ turn.now.turn) }
+            ensures pass { IsSamePass (plain_pass first) (plain_pass result.pass) }
+            ensures read { ReadsHalf result.end (plain_pass first) (plain_pass result.pass) session
+                (I.taken input) (I.taken result.input) (I.left input) (I.left result.input) }
+            ensures closes { LeavesClosed result.end (plain_pass result.pass) session }
+            ensures later { I.faults input ≤ I.faults result.input }
+            ensures fault { result.end ≡ ReaderEnd.ReadFault
+                → Rose (I.faults input) (I.faults result.input) }
+        { reader_half(rt, alloc, turn, bells, first, session, input) },
+        || -> WriterHalf<S>
+            requires { (second.turn ≡ turn.now.turn) × (lane < length bells.now)
+                × (V.told voice ≡ nothing_told) }
+            ensures pass { IsSamePass (plain_pass second) (plain_pass result.pass) }
+            ensures wrote { WritesHalf result.end (plain_pass second) (plain_pass result.pass)
+                session (S.taken output) (S.taken result.output) }
+            ensures later { S.faults output ≤ S.faults result.output }
+            ensures fault { result.end ≡ WriterEnd.WriteFault
+                → Rose (S.faults output) (S.faults result.output) }
+        { writer_half(rt, alloc, turn, bells, lane, second, session, output, voice) },
+    )
+}
+
+// Serves a connection that was opened as a session.
+fn serve_session<
+    R: Net<Listener = TcpListener, Stream = TcpStream> + Threads + Wait + Sync,
+    I: Source + Send + Drop,
+    S: Sink + Send + Drop,
+>(
+    rt: &R,
+    alloc: Global,
+    turn: &Turn<World>,
+    bells: &[Bell],
+    lane: usize,
+    first: Pass<World>,
+    second: Pass<World>,
+    session: u64,
+    input: I,
+    output: S,
+    painter: Painter,
+) -> Served<I, S>
+    requires turn { (first.turn ≡ turn.now.turn) × (second.turn ≡ turn.now.turn) }
+    requires start { second.start ≡ first.start }
+    requires lane { lane < length bells.now }
+    requires told { painter.told ≡ nothing_told }
+    ensures session { result.session ≡ session }
+    ensures serves { ServesHalves
+        (record { taken = I.taken; left = I.left; sent = S.taken; faults = S.faults })
+        (plain_pass first) (plain_pass second) (plain_pass result.passes.0)
+        (plain_pass result.passes.1) input result.input output result.output session result.how }
+    ensures read_later { I.faults input ≤ I.faults result.input }
+    ensures read_fault { result.how ≡ Ended.ReadFault
+        → Rose (I.faults input) (I.faults result.input) }
+    ensures write_later { S.faults output ≤ S.faults result.output }
+    ensures write_fault { result.how ≡ Ended.WriteFault
+        → Rose (S.faults output) (S.faults result.output) }
+{
+    bells[lane].serve(session);
+    let (reader, writer) = run_halves(
+        rt, alloc, turn, bells, lane, first, second, session, input, output, painter,
+    );
+    bells[lane].serve(0);
+    let how = joined(reader.end, writer.end);
+    Served {
+        how,
+        session,
+        passes: (reader.pass, writer.pass),
+        input: reader.input,
+        output: writer.output,
+    }
+}
+
+// Gives a connection back that had no session.
+fn serve_none<R: Net<Listener = TcpListener, Stream = TcpStream>, I: Source + Drop, S: Sink + Drop>(
+    rt: &R,
+    passes: (Pass<World>, Pass<World>),
+    input: I,
+    mut output: S,
+    how: Ended,
+) -> Served<I, S>
+    ensures how { (result.how ≡ how) × (result.session ≡ 0) × (result.passes ≡ passes) }
+    ensures input { result.input ≡ input }
+    ensures sent { S.taken result.output ≡ S.taken output }
+    ensures later { S.faults output ≤ S.faults result.output }
+{
+    output.finish(rt);
+    Served {
+        how,
+        session: 0,
+        passes,
+        input,
+        output,
+    }
+}
+
+/// Serves one connection of a lane, whose bell is that of its number: opens its session by the
+/// first pass, and then runs the half that reads by the first pass and the half that writes by the
+/// second one, each in a thread of its own, until both ended. The connection is finished both ways.
+/// Where the world had ended, or memory was wanting to begin, it has no session, and nothing is
+/// read or written.
+pub fn serve_one<
+    R: Net<Listener = TcpListener, Stream = TcpStream> + Threads + Wait + Sync,
+    I: Source + Send + Drop,
+    S: Sink + Send + Drop,
+>(
+    rt: &R,
+    alloc: Global,
+    turn: &Turn<World>,
+    bells: &[Bell],
+    lane: usize,
+    passes: (Pass<World>, Pass<World>),
+    input: I,
+    output: S,
+) -> Served<I, S>
+    requires turn { (passes.0.turn ≡ turn.now.turn) × (passes.1.turn ≡ turn.now.turn) }
+    requires start { passes.1.start ≡ passes.0.start }
+    requires lane { lane < length bells.now }
+    ensures first { IsSamePass (plain_pass passes.0) (plain_pass result.passes.0) }
+    ensures second { IsSamePass (plain_pass passes.1) (plain_pass result.passes.1) }
+    ensures served { result.session ≢ 0 → ServesSession
+        (record { taken = I.taken; left = I.left; sent = S.taken; faults = S.faults })
+        (plain_pass passes.0) (plain_pass passes.1) (plain_pass result.passes.0)
+        (plain_pass result.passes.1) input result.input output result.output result.session
+        result.how }
+    ensures unserved { result.session ≡ 0 → ServesNone
+        (record { taken = I.taken; left = I.left; sent = S.taken; faults = S.faults })
+        (plain_pass passes.0) (plain_pass passes.1) (plain_pass result.passes.0)
+        (plain_pass result.passes.1) input result.input output result.output result.how }
+    ensures read_later { I.faults input ≤ I.faults result.input }
+    ensures read_fault { result.how ≡ Ended.ReadFault
+        → Rose (I.faults input) (I.faults result.input) }
+    ensures write_later { S.faults output ≤ S.faults result.output }
+    ensures write_fault { result.how ≡ Ended.WriteFault
+        → Rose (S.faults output) (S.faults result.output) }
+{
+    let Ok(painter) = Painter::new(alloc) else {
+        return serve_none(rt, passes, input, output, Ended::NoMemory);
+    };
+    let (first, second) = passes;
+    let (first, opened) = open(rt, turn, bells, first);
+    match opened {
+        Ok(session) => serve_session(
+            rt, alloc, turn, bells, lane, first, second, session, input, output, painter,
+        ),
+        Err(how) => serve_none(rt, (first, second), input, output, how),
+    }
+}
