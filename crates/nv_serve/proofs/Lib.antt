@@ -1,0 +1,6 @@
+pub mod Members
+pub mod Sharing
+pub mod Chaining
+pub mod Placing
+pub mod Headlining
+pub mod Crossing

@@ -1,0 +1,67 @@
+use Rattle.std.proofs.Common.{◌≡◌, ◌⊎◌, ◌<◌, ℕ, List, sym, ◌∙◌, subst, Some}
+use Rattle.nv_turn.specs.Story.{HasEachUpTo}
+use Rattle.nv_world.specs.Contents.{plain_entries}
+use Rattle.nv_world.specs.declared.entry.Entry.{Entry}
+use Rattle.nv_serve.specs.Links.{LanesTell}
+use Rattle.nv_serve.specs.Jobs.{lanes_of}
+use Rattle.nv_serve.specs.Headline.{Headline}
+use Rattle.nv_serve.proofs.Headlining.{all_ready, have_passes, has_all, shows}
+use Rattle.nv_serve.proofs.serving.serve_world.Goals as goal
+
+pub run_lanes-requires-clause-ready : goal.run_lanes-requires-clause-ready
+run_lanes-requires-clause-ready g c κs within =
+    let t : LanesTell _ _ _ = record {
+      ends = record { taken = g.L.In.Source.taken; left = g.L.In.Source.left; sent = g.L.Out.Sink.taken; faults = g.L.Out.Sink.faults };
+      read_faults = g.L.In.Source.faults;
+      coming = g.L.Lane.coming;
+      over = g.L.Lane.over;
+      lent = g.L.Lane.lent;
+      faults = g.L.Lane.faults;
+    } in
+    let p = c.requires.passes in
+    all_ready t c.args.turn.turn (Some p.0) c.args.jobs.now c.deal.new.jobs c.deal.ensures.length (c.deal.ensures.deals (Some p.0) p.1)
+
+pub join_all-last-requires-clause-passes : goal.join_all-last-requires-clause-passes
+join_all-last-requires-clause-passes g c =
+    let t : LanesTell _ _ _ = record {
+      ends = record { taken = g.L.In.Source.taken; left = g.L.In.Source.left; sent = g.L.Out.Sink.taken; faults = g.L.Out.Sink.faults };
+      read_faults = g.L.In.Source.faults;
+      coming = g.L.Lane.coming;
+      over = g.L.Lane.over;
+      lent = g.L.Lane.lent;
+      faults = g.L.Lane.faults;
+    } in
+    let p = c.requires.passes in
+    have_passes t c.args.turn.turn (Some p.0) c.args.jobs.now c.deal.new.jobs c.run_lanes.new.jobs c.deal.ensures.length c.run_lanes.ensures.length (c.deal.ensures.deals (Some p.0) p.1) c.run_lanes.ensures.serves
+
+pub close-world-requires-clause-all : goal.close-world-requires-clause-all
+close-world-requires-clause-all g c =
+    let t : LanesTell _ _ _ = record {
+      ends = record { taken = g.L.In.Source.taken; left = g.L.In.Source.left; sent = g.L.Out.Sink.taken; faults = g.L.Out.Sink.faults };
+      read_faults = g.L.In.Source.faults;
+      coming = g.L.Lane.coming;
+      over = g.L.Lane.over;
+      lent = g.L.Lane.lent;
+      faults = g.L.Lane.faults;
+    } in
+    let p = c.requires.passes in
+    subst (λ (n : ℕ). HasEachUpTo n c.join_all-last.result.numbers) (sym c.requires.count.0)
+    (has_all t c.args.turn.turn (Some p.0) c.args.jobs.now c.deal.new.jobs c.run_lanes.new.jobs c.join_all-last.new.jobs c.join_all-last.result c.requires.some c.deal.ensures.length c.run_lanes.ensures.length
+    (c.deal.ensures.deals (Some p.0) p.1) c.run_lanes.ensures.serves c.join_all-last.ensures.joined)
+
+pub returns : goal.returns
+returns g c start is =
+    let t : LanesTell _ _ _ = record {
+      ends = record { taken = g.L.In.Source.taken; left = g.L.In.Source.left; sent = g.L.Out.Sink.taken; faults = g.L.Out.Sink.faults };
+      read_faults = g.L.In.Source.faults;
+      coming = g.L.Lane.coming;
+      over = g.L.Lane.over;
+      lent = g.L.Lane.lent;
+      faults = g.L.Lane.faults;
+    } in
+    let j = c.join_all-last in
+    let w = c.close-world in
+    subst (λ (l : List Entry). Headline t start (plain_entries l) (lanes_of c.args.jobs.now) (lanes_of j.new.jobs)) (sym (c.into_history.ensures.history ∙ w.ensures.seen))
+    (shows t c.args.turn.turn start c.args.jobs.now c.deal.new.jobs c.run_lanes.new.jobs j.new.jobs j.result w.result c.requires.some c.deal.ensures.length c.run_lanes.ensures.length j.ensures.length
+    (c.deal.ensures.deals (Some start) is) c.run_lanes.ensures.serves j.ensures.joined j.ensures.start (λ n out. w.ensures.callers n (subst (λ (m : ℕ). (n ≡ 0) ⊎ (m < n)) (sym c.requires.count.0) out)) w.ensures.seen w.ensures.start
+    c.into_history.ensures.runs c.asking_law.ensures c.quitting_law.ensures c.count_laws.ensures.histories)

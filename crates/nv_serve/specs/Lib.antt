@@ -1,0 +1,4 @@
+pub mod Links
+pub mod Jobs
+pub mod Headline
+pub mod inside

@@ -1,0 +1,4 @@
+-- What private contracts alone cite.
+pub mod Sharing
+pub mod Lanes
+pub mod Jobs

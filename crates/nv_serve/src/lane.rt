@@ -1,0 +1,184 @@
+// One lane: one connection after another.
+ghost use Rattle.std.specs.Prelude.{◌≡◌, ◌<◌, ◌≤◌, length, true};
+ghost use Rattle.nv_io.specs.Known.{IsOut};
+ghost use Rattle.nv_turn.specs.Passes.{IsSamePass};
+ghost use Rattle.nv_halves.specs.Passes.{plain_pass};
+ghost use Rattle.nv_serve.specs.Links.{IsLastEnd};
+ghost use Rattle.nv_serve.specs.inside.Lanes.{ArePassesOf, ReturnsLink, LooksOnly, ServesAll, StepsLane};
+
+use nv_halves::Bell;
+use nv_io::{Accepted, Ended, Lane};
+use nv_session::serve_one;
+use nv_turn::{Pass, Turn};
+use nv_world::World;
+use std::alloc::Global;
+use std::net::{Net, TcpListener, TcpStream};
+use std::sync::Wait;
+use std::thread::Threads;
+
+/// What one accept of a lane came to.
+#[derive(Clone, Copy, Debug, PartialEq, Eq)]
+pub enum Step {
+    /// A connection was served.
+    On,
+    /// A connection was served, and it is the last one.
+    Last,
+    /// None was given.
+    Nothing,
+}
+
+// Whether memory was wanting to the world.
+fn is_spent<R: Wait>(rt: &R, turn: &Turn<World>, pass: Pass<World>) -> (Pass<World>, bool)
+    requires { pass.turn ≡ turn.now.turn }
+    ensures { LooksOnly (plain_pass pass) (plain_pass result.0) }
+{
+    let mut held = turn.enter(rt, pass);
+    let spent = held.value().spent();
+    let pass = held.leave(rt);
+    (pass, spent)
+}
+
+// Whether a lane ends where its connection ended so: with the world, or where memory was wanting to
+// the world.
+fn is_last<R: Wait>(
+    rt: &R,
+    turn: &Turn<World>,
+    pass: Pass<World>,
+    how: Ended,
+) -> (Pass<World>, bool)
+    requires { pass.turn ≡ turn.now.turn }
+    ensures looks { LooksOnly (plain_pass pass) (plain_pass result.0) }
+    ensures last { result.1 ≡ true → IsLastEnd how }
+{
+    match how {
+        Ended::Quit(_) => (pass, true),
+        Ended::NoMemory => is_spent(rt, turn, pass),
+        _ => (pass, false),
+    }
+}
+
+// Serves one connection of a lane, and gives it back. Where it is the last one, another lane that
+// waits is woken, so that it ends too.
+fn serve_link<R: Net<Listener = TcpListener, Stream = TcpStream> + Threads + Wait + Sync, L: Lane>(
+    rt: &R,
+    alloc: Global,
+    turn: &Turn<World>,
+    bells: &[Bell],
+    number: usize,
+    lane: &mut L,
+    passes: (Pass<World>, Pass<World>),
+    input: L::In,
+    output: L::Out,
+) -> ((Pass<World>, Pass<World>), Step)
+    requires turn { (passes.0.turn ≡ turn.now.turn) × (passes.1.turn ≡ turn.now.turn) }
+    requires start { passes.1.start ≡ passes.0.start }
+    requires number { number < length bells.now }
+    requires out { IsOut (L.lent lane.old) }
+    ensures { ReturnsLink (record {
+      ends = record {
+        taken = L.In.taken;
+        left = L.In.left;
+        sent = L.Out.taken;
+        faults = L.Out.faults;
+      };
+      read_faults = L.In.faults;
+      coming = L.coming;
+      over = L.over;
+      lent = L.lent;
+      faults = L.faults;
+    }) passes.0.start result.1 (plain_pass passes.0) (plain_pass passes.1)
+        (plain_pass result.0.0) (plain_pass result.0.1) lane.old lane.new input output }
+{
+    let served = serve_one(rt, alloc, turn, bells, number, passes, input, output);
+    let (first, second) = served.passes;
+    let (first, is_last) = is_last(rt, turn, first, served.how);
+    lane.ended(served.input, served.output, served.session, served.how);
+    if is_last {
+        lane.wake(rt);
+        return ((first, second), Step::Last);
+    }
+    ((first, second), Step::On)
+}
+
+// Waits for the next connection of a lane, and serves it.
+fn serve_next<R: Net<Listener = TcpListener, Stream = TcpStream> + Threads + Wait + Sync, L: Lane>(
+    rt: &R,
+    alloc: Global,
+    turn: &Turn<World>,
+    bells: &[Bell],
+    number: usize,
+    lane: &mut L,
+    passes: (Pass<World>, Pass<World>),
+) -> ((Pass<World>, Pass<World>), Step)
+    requires turn { (passes.0.turn ≡ turn.now.turn) × (passes.1.turn ≡ turn.now.turn) }
+    requires start { passes.1.start ≡ passes.0.start }
+    requires number { number < length bells.now }
+    ensures { StepsLane (record {
+      ends = record {
+        taken = L.In.taken;
+        left = L.In.left;
+        sent = L.Out.taken;
+        faults = L.Out.faults;
+      };
+      read_faults = L.In.faults;
+      coming = L.coming;
+      over = L.over;
+      lent = L.lent;
+      faults = L.faults;
+    }) passes.0.start result.1 (plain_pass passes.0) (plain_pass passes.1)
+        (plain_pass result.0.0) (plain_pass result.0.1) lane.old lane.new }
+{
+    match lane.accept(rt) {
+        Accepted::Conn(input, output) => serve_link(
+            rt, alloc, turn, bells, number, lane, passes, input, output,
+        ),
+        Accepted::Done => (passes, Step::Nothing),
+        Accepted::Failed => (passes, Step::Nothing),
+    }
+}
+
+/// Serves the connections of a lane, which has the bell of its number, one after another, until
+/// none is to come, its accept fails, or the world has ended or is spent.
+pub(crate) fn serve_lane<
+    R: Net<Listener = TcpListener, Stream = TcpStream> + Threads + Wait + Sync,
+    L: Lane,
+>(
+    rt: &R,
+    alloc: Global,
+    turn: &Turn<World>,
+    bells: &[Bell],
+    number: usize,
+    lane: &mut L,
+    passes: (Pass<World>, Pass<World>),
+) -> (Pass<World>, Pass<World>)
+    requires passes { ArePassesOf turn.now.turn passes.0 passes.1 }
+    requires number { number < length bells.now }
+    ensures first { IsSamePass passes.0 result.0 }
+    ensures second { IsSamePass passes.1 result.1 }
+    ensures serves { ServesAll (record {
+      ends = record {
+        taken = L.In.taken;
+        left = L.In.left;
+        sent = L.Out.taken;
+        faults = L.Out.faults;
+      };
+      read_faults = L.In.faults;
+      coming = L.coming;
+      over = L.over;
+      lent = L.lent;
+      faults = L.faults;
+    }) passes.0.start passes.0.number passes.1.number lane.old lane.new
+        (plain_pass result.0).seen (plain_pass result.1).seen }
+{
+    let mut passes = passes;
+    'links: for _ in rt.forever() {
+        let (next, step) = serve_next(rt, alloc, turn, bells, number, lane, passes);
+        passes = next;
+        match step {
+            Step::On => {}
+            Step::Last => return passes,
+            Step::Nothing => return passes,
+        }
+    }
+    unreachable!()
+}

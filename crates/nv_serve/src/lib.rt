@@ -1,0 +1,16 @@
+//! The server: connections of several lanes, served at once on one world.
+//!
+//! Each lane has a thread and two passes of its own, and serves one connection after another. Where
+//! all lanes have ended, their passes are joined, the turn is closed, and the history of the world
+//! is kept.
+#![tactic(auto)]
+
+mod dealing;
+mod job;
+mod lane;
+mod serving;
+#[cfg(test)]
+mod tests;
+
+pub use job::Job;
+pub use serving::{Kept, serve};

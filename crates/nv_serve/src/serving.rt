@@ -1,0 +1,210 @@
+// All lanes at once.
+ghost use Rattle.std.specs.Prelude.{◌≡◌, ◌<◌, ◌≤◌, ◌*◌, length, vec_len, IfOk, OnErr, Some};
+ghost use Rattle.std.specs.Thread.{IsSync};
+ghost use denote.Param.Send.{IsSend};
+ghost use Rattle.nv_turn.specs.Passes.{first_passes};
+ghost use Rattle.nv_world.specs.Contents.{plain_entries};
+ghost use Rattle.nv_serve.specs.Jobs.{lanes_of};
+ghost use Rattle.nv_serve.specs.Headline.{Headline};
+ghost use Rattle.nv_serve.specs.inside.Jobs.{AreReady, IsReadyJob, ServesJob, ServesJobs};
+
+use crate::dealing::{deal, join_all};
+use crate::job::Job;
+use crate::lane::serve_lane;
+use nv_halves::{Bell, asking_law, quitting_law};
+use nv_history::count_laws;
+use nv_io::Lane;
+use nv_model::Limits;
+use nv_turn::{Pass, Turn};
+use nv_world::{History, World};
+use std::alloc::{AllocError, Global};
+use std::net::{Net, TcpListener, TcpStream};
+use std::sync::Wait;
+use std::thread::{self, Threads};
+
+/// What is left of a server that ended: the one history of all its sessions, and whether memory was
+/// wanting to the world.
+#[derive(Drop)]
+pub struct Kept {
+    pub history: History,
+    pub spent: bool,
+}
+
+// As many bells as there are lanes.
+fn make_bells(alloc: Global, count: usize) -> Result<Vec<Bell>, AllocError>
+    ensures { IfOk result (λ bells. vec_len bells ≡ count) }
+{
+    let mut bells = Vec::with_capacity(alloc, count)?;
+    for made in 0..count {
+        bells.push_reserved(Bell::new());
+    }
+    Ok(bells)
+}
+
+// Serves a lane by the passes that it has.
+fn serve_job<R: Net<Listener = TcpListener, Stream = TcpStream> + Threads + Wait + Sync, L: Lane>(
+    rt: &R,
+    alloc: Global,
+    turn: &Turn<World>,
+    bells: &[Bell],
+    number: usize,
+    job: &mut Job<L>,
+)
+    requires number { number < length bells.now }
+    requires ready { IsReadyJob turn.now.turn number job.old }
+    ensures { ServesJob (record {
+      ends = record {
+        taken = L.In.taken;
+        left = L.In.left;
+        sent = L.Out.taken;
+        faults = L.Out.faults;
+      };
+      read_faults = L.In.faults;
+      coming = L.coming;
+      over = L.over;
+      lent = L.lent;
+      faults = L.faults;
+    }) job.old job.new }
+{
+    let Some(passes) = job.passes.take() else {
+        unreachable!()
+    };
+    let passes = serve_lane(rt, alloc, turn, bells, number, &mut job.lane, passes);
+    job.passes = Some(passes);
+}
+
+// Serves all lanes at once, each by a thread of its own.
+fn run_lanes<
+    R: Net<Listener = TcpListener, Stream = TcpStream> + Threads + Wait + Sync,
+    L: Lane + Send,
+>(rt: &R, alloc: Global, turn: &Turn<World>, bells: &[Bell], jobs: &mut [Job<L>])
+    requires some { 0 < length jobs.old }
+    requires bells { length bells.now ≡ length jobs.old }
+    requires ready { AreReady turn.now.turn jobs.old }
+    ensures length { length jobs.new ≡ length jobs.old }
+    ensures serves { ServesJobs (record {
+      ends = record {
+        taken = L.In.taken;
+        left = L.In.left;
+        sent = L.Out.taken;
+        faults = L.Out.faults;
+      };
+      read_faults = L.In.faults;
+      coming = L.coming;
+      over = L.over;
+      lent = L.lent;
+      faults = L.faults;
+    }) jobs.old jobs.new }
+{
+    let count = jobs.len();
+    thread::for_each_mut(
+        rt,
+        jobs,
+        count,
+        &|number: usize, job: &mut Job<L>|
+            requires { IsSync R.row × IsSend L.row × (number < length bells.now)
+                × IsReadyJob turn.now.turn number job.now }
+            ensures { ServesJob (record {
+              ends = record {
+                taken = L.In.taken;
+                left = L.In.left;
+                sent = L.Out.taken;
+                faults = L.Out.faults;
+              };
+              read_faults = L.In.faults;
+              coming = L.coming;
+              over = L.over;
+              lent = L.lent;
+              faults = L.faults;
+            }) job.entry.now job.exit.now }
+        { serve_job(rt, alloc, turn, bells, number, job) },
+    );
+}
+
+// Serves all lanes on the world behind a turn, and closes it.
+fn serve_world<
+    R: Net<Listener = TcpListener, Stream = TcpStream> + Threads + Wait + Sync,
+    L: Lane + Send,
+>(
+    rt: &R,
+    alloc: Global,
+    turn: Turn<World>,
+    passes: Vec<Pass<World>>,
+    bells: &[Bell],
+    jobs: &mut [Job<L>],
+) -> Kept
+    requires some { 0 < length jobs.old }
+    requires bells { length bells.now ≡ length jobs.old }
+    requires count { (turn.passes ≡ 2 * length jobs.old) × (vec_len passes ≡ 2 * length jobs.old) }
+    requires passes { (start : _) × (passes.items
+        ≡ first_passes turn.turn (Some start) (2 * length jobs.old)) }
+    ensures { (start : _) → passes.items
+        ≡ first_passes turn.turn (Some start) (2 * length jobs.old)
+        → Headline (record {
+          ends = record {
+            taken = L.In.taken;
+            left = L.In.left;
+            sent = L.Out.taken;
+            faults = L.Out.faults;
+          };
+          read_faults = L.In.faults;
+          coming = L.coming;
+          over = L.over;
+          lent = L.lent;
+          faults = L.faults;
+        }) start (plain_entries result.history.entries) (lanes_of jobs.old)
+        (lanes_of jobs.new) }
+{
+    asking_law();
+    quitting_law();
+    count_laws();
+    deal(&turn, passes, jobs);
+    run_lanes(rt, alloc, &turn, bells, jobs);
+    let last = join_all(&turn, jobs);
+    let world = turn.close(last);
+    let spent = world.spent();
+    Kept {
+        history: world.into_history(),
+        spent,
+    }
+}
+
+/// Makes a world, and serves the connections of all lanes on it, each lane in a thread of its own,
+/// until each has ended. Where there is no memory to begin with, nothing was served.
+pub fn serve<
+    R: Net<Listener = TcpListener, Stream = TcpStream> + Threads + Wait + Sync,
+    L: Lane + Send,
+>(
+    rt: &R,
+    alloc: Global,
+    limits: Limits,
+    outbox: u32,
+    jobs: &mut [Job<L>],
+) -> Result<Kept, AllocError>
+    requires lanes { (0 < length jobs.old) × (length jobs.old ≤ 256) }
+    requires outbox { (16 ≤ outbox) × (outbox ≤ 1048576) }
+    requires entries { 1 ≤ limits.entries }
+    ensures served { IfOk result (λ kept. Headline (record {
+      ends = record {
+        taken = L.In.taken;
+        left = L.In.left;
+        sent = L.Out.taken;
+        faults = L.Out.faults;
+      };
+      read_faults = L.In.faults;
+      coming = L.coming;
+      over = L.over;
+      lent = L.lent;
+      faults = L.faults;
+    }) (record { outbox = outbox; limits = limits }) (plain_entries kept.history.entries)
+        (lanes_of jobs.old) (lanes_of jobs.new)) }
+    ensures none { OnErr result (jobs.new ≡ jobs.old) }
+{
+    let count = jobs.len();
+    let bells = make_bells(alloc, count)?;
+    let world = World::new(alloc, limits, outbox)?;
+    let Ok((turn, passes)) = Turn::make(alloc, world, 2 * count as u32) else {
+        return Err(AllocError);
+    };
+    Ok(serve_world(rt, alloc, turn, passes, &bells, jobs))
+}
