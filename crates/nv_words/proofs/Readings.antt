@@ -1,10 +1,10 @@
 -- What the parser says of words, in the words of the crate.
-use Rattle.std.proofs.Common.{◌≡◌, ◌⊎◌, ℕ, true, List, [], ◌∷◌, Option, Some, None, Result, Ok, refl, inl, inr}
+use Rattle.std.proofs.Common.{◌≡◌, ℕ, true, [], ◌∷◌, Option, Some, None, Result, Ok, Bor, IfSome, option_map, rules, refl, ap, inl, inr}
 use Rattle.std.specs.Str.Parse.{ParsesUnsigned}
 use Rattle.clap.specs.Words.{HasKind, Kinds, ReadsOne, Text, is_simple_and_free, kind_of}
 use Rattle.clap.specs.declared.error.Error.{Error}
 use Rattle.clap.specs.declared.error.kind.ErrorKind.TheVariants as kind
-use Rattle.nv_words.specs.Commands.{number_spelled, program_app}
+use Rattle.nv_words.specs.Commands.{number_spelled, program_app, text_given}
 
 -- an error where no kind is to come is for want of memory
 pub only_memory : (kinds : Kinds) (e : Error) → HasKind kinds e → kinds ≡ [] → kind_of e ≡ kind.OutOfMemory
@@ -20,3 +20,8 @@ pub number_is : {E : Type 0} (found : Option Text) (n : ℕ) (gives : Text → R
     → (found ≡ None → Some n ≡ None) → ((t : Text) → found ≡ Some t → ReadsOne gives t (Some n)) → n ≡ number_spelled found
 number_is None n gives parses none value = let bad : Some n ≡ None = none refl in cc
 number_is (Some t) n gives parses none value = (parses t (Ok n) (value t refl)).1
+
+-- a text that was found is the one that is given
+pub text_is : (found : Option (Bor Text)) (given : Option Text) → option_map (λ s. s.now) found ≡ given → IfSome found (λ s. s.now ≡ text_given given)
+text_is None given e = search rules
+text_is (Some s) given e = ap text_given e

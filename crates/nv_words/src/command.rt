@@ -2,9 +2,18 @@
 
 /// A command, with its options.
 #[derive(Clone, Copy, PartialEq, Eq, Debug)]
-pub enum Command {
+pub enum Command<'a> {
     /// One session over the standard streams. An outbox holds so many messages: 16 to 1,048,576.
-    Embed { outbox: u32 },
+    Embed {
+        outbox: u32,
+    },
+    /// Sessions over the connections to an address: a path that begins with `/`, or `host:port`.
+    /// At most so many sessions run at once, from 1 to 256; an outbox is as for `Embed`.
+    Serve {
+        address: &'a str,
+        sessions: usize,
+        outbox: u32,
+    },
 }
 
 /// Why the words ask for nothing.

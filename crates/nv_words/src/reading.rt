@@ -1,23 +1,48 @@
 //! Reads the words of the command line.
-ghost use Rattle.std.specs.Prelude.{◌≡◌, ◌≤◌, Err, IfErr, IfOk, OnOk, Some, None, map, IfSome, codes};
-ghost use Rattle.clap.specs.Words.{app_of, fault_of, found_of, kind_of, one_of, rows_of, subcommand_rows_of};
-ghost use Rattle.nv_words.specs.Commands.{AreWords, HasFairOutbox, command_asked, command_of_rows, number_spelled, program_app};
+ghost use Rattle.std.specs.Prelude.{◌≡◌, ◌≤◌, Err, IfErr, IfOk, OnOk, Some, None, map, IfSome, codes, false};
+ghost use Rattle.clap.specs.Words.{app_of, fault_of, first_of, found_of, kind_of, one_of, rows_of, rule_of, subcommand_rows_of};
+ghost use Rattle.nv_words.specs.Commands.{AreWords, HasFairNumbers, command_asked, command_of_name, command_of_rows, number_spelled, outbox_rule, plain_command, program_app, sessions_rule, text_given};
 
 use crate::command::{Command, Refusal};
 use clap::error::ErrorKind;
 use clap::{Arg, ArgMatches, Error, value_parser};
 use std::alloc::{AllocError, Global};
 
+// `--outbox N`, as `clap` builds it.
+fn outbox<'a>(alloc: Global) -> Arg<'a>
+    ensures rule { rule_of result ≡ outbox_rule }
+    ensures local { result.global ≡ false }
+{
+    Arg::new(alloc, "outbox")
+        .long("outbox")
+        .value_parser(value_parser!(u64).range(16..1_048_577))
+        .default_value("4096")
+}
+
+// `--sessions N`, as `clap` builds it.
+fn sessions<'a>(alloc: Global) -> Arg<'a>
+    ensures rule { rule_of result ≡ sessions_rule }
+    ensures local { result.global ≡ false }
+{
+    Arg::new(alloc, "sessions")
+        .long("sessions")
+        .value_parser(value_parser!(u64).range(1..257))
+        .default_value("64")
+}
+
 // The command line of the program, as `clap` builds it.
 fn program<'a>(alloc: Global) -> Result<clap::Command<'a>, AllocError>
     ensures { IfOk result (λ command. app_of command ≡ program_app) }
 {
-    let outbox = Arg::new(alloc, "outbox")
-        .long("outbox")
-        .value_parser(value_parser!(u64).range(16..1_048_577))
-        .default_value("4096");
-    let embed = clap::Command::new(alloc, "embed").arg(outbox)?;
-    let whole = clap::Command::new(alloc, "nvimd").subcommand(embed)?;
+    let embed = clap::Command::new(alloc, "embed").arg(outbox(alloc))?;
+    let listen = Arg::new(alloc, "listen").long("listen").required(true);
+    let serve = clap::Command::new(alloc, "serve")
+        .arg(listen)?
+        .arg(sessions(alloc))?
+        .arg(outbox(alloc))?;
+    let whole = clap::Command::new(alloc, "nvimd")
+        .subcommand(embed)?
+        .subcommand(serve)?;
     Ok(whole.no_binary_name(true).subcommand_required(true))
 }
 
@@ -62,22 +87,66 @@ fn outbox_of(matches: &ArgMatches<'_>) -> Option<u32>
     Some(number as u32)
 }
 
+// How many sessions run at once. `clap` has let through numbers from 1 to 256 alone.
+fn sessions_of(matches: &ArgMatches<'_>) -> Option<usize>
+    ensures value { IfSome result (λ sessions. sessions
+        ≡ number_spelled (one_of (codes "sessions") (rows_of (found_of matches.now)))) }
+    ensures range { IfSome result (λ sessions. (1 ≤ sessions) × (sessions ≤ 256)) }
+{
+    let number = matches.get_one::<u64>("sessions")?;
+    if number < 1 || number > 256 {
+        return None;
+    }
+    Some(number as usize)
+}
+
+// The address to listen on.
+fn address_of<'a>(matches: &ArgMatches<'a>) -> Option<&'a str>
+    ensures { IfSome result (λ address. address.now
+        ≡ text_given (first_of (codes "listen") (rows_of (found_of matches.now)))) }
+{
+    matches.get_str("listen")
+}
+
+// The command of a subcommand's name with its values.
+fn command_of<'a>(name: &str, found: &ArgMatches<'a>) -> Option<Command<'a>>
+    ensures command { IfSome result (λ command.
+        command_of_name name.now (rows_of (found_of found.now)) ≡ Some (plain_command command)) }
+    ensures range { IfSome result (λ command. HasFairNumbers (plain_command command)) }
+{
+    if name == "embed" {
+        let outbox = outbox_of(found)?;
+        return Some(Command::Embed { outbox });
+    }
+    if name != "serve" {
+        return None;
+    }
+    let address = address_of(found)?;
+    let sessions = sessions_of(found)?;
+    let outbox = outbox_of(found)?;
+    Some(Command::Serve {
+        address,
+        sessions,
+        outbox,
+    })
+}
+
 /// The command that the words ask for; they are without the program's name. Words that `clap`
 /// refuses for another cause than want of memory are `BadWords`.
-pub fn read_words<'a>(alloc: Global, words: &'a [&'a str]) -> Result<Command, Refusal>
+pub fn read_words<'a>(alloc: Global, words: &'a [&'a str]) -> Result<Command<'a>, Refusal>
     ensures taken { OnOk result (AreWords (map (λ word. word.now) words.now)) }
     ensures command { IfOk result (λ command.
-        command_asked (map (λ word. word.now) words.now) ≡ Some command) }
-    ensures range { IfOk result HasFairOutbox }
+        command_asked (map (λ word. word.now) words.now) ≡ Some (plain_command command)) }
+    ensures range { IfOk result (λ command. HasFairNumbers (plain_command command)) }
     ensures refused { result ≡ Err Refusal.BadWords
         → AreWords (map (λ word. word.now) words.now) → ⊥ }
 {
     let matches = matches_of(alloc, words)?;
-    match matches.subcommand() {
-        Some((name, found)) if name == "embed" => match outbox_of(found) {
-            Some(outbox) => Ok(Command::Embed { outbox }),
-            None => Err(Refusal::NoMemory),
-        },
-        _ => Err(Refusal::NoMemory),
+    let Some((name, found)) = matches.subcommand() else {
+        return Err(Refusal::NoMemory);
+    };
+    match command_of(name, found) {
+        Some(command) => Ok(command),
+        None => Err(Refusal::NoMemory),
     }
 }

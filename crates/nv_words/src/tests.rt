@@ -14,12 +14,39 @@ fn reads_commands(rt: HostRuntime) -> Result<(), Fail> {
 }
 
 #[test]
+fn reads_an_address(rt: HostRuntime) -> Result<(), Fail> {
+    let alloc = rt.alloc();
+    let usual = Ok(Command::Serve {
+        address: "/tmp/a",
+        sessions: 64,
+        outbox: 4_096,
+    });
+    let small = Ok(Command::Serve {
+        address: "localhost:0",
+        sessions: 1,
+        outbox: 16,
+    });
+    let words = ["serve", "--listen", "/tmp/a"];
+    assert!(rt; read_words(alloc, &words) == usual);
+    let words = [
+        "serve",
+        "--sessions=1",
+        "--outbox=16",
+        "--listen=localhost:0",
+    ];
+    assert!(rt; read_words(alloc, &words) == small);
+    Ok(())
+}
+
+#[test]
 fn refuses_other_words(rt: HostRuntime) -> Result<(), Fail> {
     let alloc = rt.alloc();
     let bad = Err(Refusal::BadWords);
     assert!(rt; read_words(alloc, &[]) == bad);
     assert!(rt; read_words(alloc, &["serve"]) == bad);
-    assert!(rt; read_words(alloc, &["embed", "more"]) == bad);
+    assert!(rt; read_words(alloc, &["serve", "--listen", "/a", "--sessions", "257"]) == bad);
+    assert!(rt; read_words(alloc, &["serve", "--listen", "/a", "--sessions", "0"]) == bad);
+    assert!(rt; read_words(alloc, &["embed", "--listen", "/a"]) == bad);
     assert!(rt; read_words(alloc, &["embed", "--outbox"]) == bad);
     assert!(rt; read_words(alloc, &["embed", "--outbox", "15"]) == bad);
     assert!(rt; read_words(alloc, &["embed", "--outbox", "1048577"]) == bad);

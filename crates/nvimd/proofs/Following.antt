@@ -1,41 +1,51 @@
 -- The laws of histories, of the one that was kept.
-use Rattle.std.proofs.Common.{◌≡◌, ◌⊎◌, ℤ, List, [], ◌∷◌, ◌++◌, Some, refl, sym, ap, ◌∙◌, append_assoc, inl, inr}
+use Rattle.std.proofs.Common.{◌≡◌, ℕ, zero, suc, ℤ, List, [], ◌∷◌, ◌++◌, Option, Some, None, refl, sym, ap, ◌∙◌, subst, append_assoc}
 use Rattle.nv_rpc.specs.Messages.{Sent}
+use Rattle.nv_model.specs.Editors.{ModelEditor}
 use Rattle.nv_history.specs.Events.{Entry}
-use Rattle.nv_history.specs.Worlds.{World, session_of}
-use Rattle.nv_history.specs.Runs.{waiting_in}
+use Rattle.nv_history.specs.Sessions.{Session}
+use Rattle.nv_history.specs.Worlds.{World, fresh_world, session_of}
+use Rattle.nv_history.specs.Runs.{out_from, all_messages, waiting_in}
 use Rattle.nv_history.specs.Laws.{FoldsToMoment, FoldsToText}
 use Rattle.nv_history.specs.MarkPlaces.{EachMarkStands}
 use Rattle.nv_history.specs.UiLaws.{FoldsToScreen}
-use Rattle.nv_world.specs.declared.entry.Entry as world
-use Rattle.nv_world.specs.Contents.{plain_entries}
+use Rattle.nv_history.proofs.GoingOn.{PlaceGoesOn}
+use Rattle.nv_history.proofs.GoingRuns.{run_goes}
 use Rattle.nv_world.specs.declared.story.Start.{Start}
-use Rattle.nv_session.specs.Sending.{world_after, messages_taken, HasSession}
-use Rattle.nvimd.specs.Following.{IsFolded, HasMarksInPlace, IsShown}
+use Rattle.nv_session.specs.Sending.{world_after}
+use Rattle.nvimd.specs.Following.{IsFolded, HasMarksInPlace, IsShown, messages_taken_by}
 
 -- nothing was sent
-nothing_folded : (w : World) (n : ℤ) (front back : List Sent) → [] ≡ front ++ back → FoldsToMoment w.editor n front
-nothing_folded w n [] back e = record { fits = refl; moment = λ tick h. cc }
-nothing_folded w n (message ∷ front) back e = cc
+nothing_folded : (m : ModelEditor) (n : ℤ) (front back : List Sent) → [] ≡ front ++ back → FoldsToMoment m n front
+nothing_folded m n [] back e = record { fits = refl; moment = λ tick h. cc }
+nothing_folded m n (message ∷ front) back e = cc
 
-folded : FoldsToText → (start : Start) (kept : List Entry) → (kept ≡ []) ⊎ HasSession start kept → IsFolded start kept
+-- a world begins without sessions
+nobody_first : (start : Start) (s : ℕ) → session_of (fresh_world start.outbox start.limits) s ≡ None
+nobody_first start zero = refl
+nobody_first start (suc place) = refl
+
+-- and nothing is sent to a session that never was
+nothing_sent : (start : Start) (s : ℕ) (kept : List Entry) (w : World) → world_after start kept ≡ Some w → session_of w s ≡ None → messages_taken_by s start kept ≡ []
+nothing_sent start s kept w runs nobody =
+    let first = fresh_world start.outbox start.limits in
+    let sent = all_messages (out_from first s kept) in
+    let goes : PlaceGoesOn (session_of first s) (session_of w s) sent = run_goes s first w kept runs in
+    subst (λ (o : Option Session). PlaceGoesOn None o sent) nobody
+    (subst (λ (o : Option Session). PlaceGoesOn o (session_of w s) sent) (nobody_first start s) goes)
+
+folded : FoldsToText → (start : Start) (kept : List Entry) (s : ℕ) (w : World) (o : Option Session) → session_of w s ≡ o → (n : ℤ) (front back : List Sent) → world_after start kept ≡ Some w
+    → messages_taken_by s start kept ≡ front ++ back → FoldsToMoment w.editor n front
 unfolding FoldsToText
-folded law start kept (inl none) w n front back runs e = nothing_folded w n front back (sym (ap (messages_taken start) none) ∙ e)
-folded law start kept (inr h) w n front back runs e =
-    let found : Some h.now ≡ Some w = sym h.runs ∙ runs in
-    let same : h.now ≡ w = cc in
-    let waits = waiting_in 1 (world_after start kept) in
-    law start.outbox start.limits kept w 1 h.one n front (back ++ waits) runs
-    (ap (λ (x : World). session_of x 1) (sym same) ∙ h.there)
+folded law start kept s w None there n front back runs e =
+    nothing_folded w.editor n front back (sym (nothing_sent start s kept w runs there) ∙ e)
+folded law start kept s w (Some x) there n front back runs e =
+    let waits = waiting_in s (world_after start kept) in
+    law start.outbox start.limits kept w s x n front (back ++ waits) runs there
     (ap (λ (l : List Sent). l ++ waits) e ∙ append_assoc front back waits)
 
--- the entries that a run left are none, or a session is in them
-plain_none : (start : Start) (entries : List world.Entry) → (entries ≡ []) ⊎ HasSession start (plain_entries entries) → (plain_entries entries ≡ []) ⊎ HasSession start (plain_entries entries)
-plain_none start entries (inl none) = inl (ap plain_entries none)
-plain_none start entries (inr h) = inr h
-
-pub kept_folded : FoldsToText → (start : Start) (entries : List world.Entry) → (entries ≡ []) ⊎ HasSession start (plain_entries entries) → IsFolded start (plain_entries entries)
-kept_folded law start entries h = folded law start (plain_entries entries) (plain_none start entries h)
+pub kept_folded : FoldsToText → (start : Start) (kept : List Entry) → IsFolded start kept
+kept_folded law start kept s w n front back runs e = folded law start kept s w (session_of w s) refl n front back runs e
 
 pub marks_in_place : EachMarkStands → (start : Start) (kept : List Entry) → HasMarksInPlace start kept
 unfolding EachMarkStands
@@ -43,5 +53,5 @@ marks_in_place law start kept front back entry w v n b whole runs enters there =
 
 pub shown : FoldsToScreen → (start : Start) (kept : List Entry) → IsShown start kept
 unfolding FoldsToScreen
-shown law start kept w front back last m bytes events later runs taken is spoken =
-    law start.outbox start.limits kept w 1 front back last m bytes events later runs taken is spoken
+shown law start kept s w front back last m bytes events later runs taken is spoken =
+    law start.outbox start.limits kept w s front back last m bytes events later runs taken is spoken

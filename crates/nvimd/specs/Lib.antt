@@ -1,3 +1,5 @@
 pub mod Commands
 pub mod Following
+pub mod Serving
 pub mod Statuses
+pub mod inside

@@ -3,6 +3,8 @@ use Rattle.std.specs.Prelude.{ℕ, ◌==◌, if◌then◌else◌, List, [], ◌+
 use Rattle.nv_io.specs.declared.ending.Flaw.TheVariants.{Bad, TooDeep, TooLong, Inside, NoCall}
 use Rattle.nv_io.specs.declared.ending.Ended.{Ended}
 use Rattle.nv_io.specs.declared.ending.Ended.TheVariants.{Closed, Malformed, Overflowed, ReadFault, WriteFault, Quit, NoMemory}
+use Rattle.nvimd.specs.declared.serving.ServerEnd.{ServerEnd}
+use Rattle.nvimd.specs.declared.serving.ServerEnd.TheVariants as server
 
 -- the status that tells an end
 abbrev pub status_of : Ended → ℕ
@@ -38,3 +40,14 @@ line_of (Overflowed entry) =
 abbrev pub line_of_refusal : ℕ → List ℕ
 line_of_refusal status =
     if status == 1 then line_of NoMemory else codes "nvimd: bad command line\n"
+
+-- the status and the line that tell how a server ended
+abbrev pub status_of_server : ServerEnd → ℕ
+status_of_server server.Done = 0
+status_of_server server.NoMemory = 1
+status_of_server server.Failed = 5
+
+abbrev pub line_of_server : ServerEnd → List ℕ
+line_of_server server.Done = []
+line_of_server server.NoMemory = line_of NoMemory
+line_of_server server.Failed = codes "nvimd: listener fault\n"

@@ -2,12 +2,15 @@
 #![tactic(auto)]
 
 mod command;
+mod lanes;
+mod serving;
 mod telling;
 mod whole;
 
 use command::run;
-use nv_io::{Ended, StdErr, StdIn, StdOut};
+use nv_io::{Ended, SockPort, StdErr, StdIn, StdOut};
 use nv_world::History;
+use std::alloc::AllocError;
 use std::process::ExitCode;
 use std::{env, io};
 use telling::{status_of, tell_end};
@@ -18,52 +21,47 @@ fn words_of(rt: &HostRuntime) -> io::Result<Vec<String>> {
     Ok(words)
 }
 
+// Tells that the words found no memory.
+fn want_of_memory(rt: &HostRuntime, errors: &mut StdErr) -> ExitCode {
+    tell_end(rt, errors, Ended::NoMemory);
+    ExitCode::from(status_of(Ended::NoMemory))
+}
+
+// The words. A word that isn't UTF-8 is no word of a command, and then there is none.
+fn strings_of(rt: &HostRuntime) -> Result<Vec<String>, AllocError> {
+    match words_of(rt) {
+        Ok(strings) => Ok(strings),
+        Err(error) if error.kind() == io::ErrorKind::OutOfMemory => Err(AllocError),
+        Err(_) => Ok(Vec::new(rt.alloc())),
+    }
+}
+
 fn main(rt: HostRuntime) -> ExitCode {
     let alloc = rt.alloc();
-    let mut input = StdIn::new(rt.stdin());
-    let mut output = StdOut::new(rt.stdout());
     let mut errors = StdErr::new(rt.stderr());
-    let mut kept = History::new(alloc);
-    let status = match words_of(&rt) {
-        Ok(strings) => match strings
-            .iter()
-            .map(|word| word.as_str())
-            .collect::<Vec<&str>>(alloc)
-        {
-            Ok(words) => run(
-                &rt,
-                alloc,
-                &words,
-                &mut input,
-                &mut output,
-                &mut errors,
-                &mut kept,
-            ),
-            Err(_) => want_of_memory(&rt, &mut errors),
-        },
-        Err(error) if error.kind() == io::ErrorKind::OutOfMemory => want_of_memory(
-            &rt,
-            &mut errors,
-        ),
-        // A word that isn't UTF-8 is no word of a command.
-        Err(_) => run(
-            &rt,
-            alloc,
-            &[],
-            &mut input,
-            &mut output,
-            &mut errors,
-            &mut kept,
-        ),
+    let Ok(strings) = strings_of(&rt) else {
+        return want_of_memory(&rt, &mut errors);
     };
+    let words = strings.iter().map(|word| word.as_str());
+    let Ok(words) = words.collect::<Vec<&str>>(alloc) else {
+        return want_of_memory(&rt, &mut errors);
+    };
+    let mut port = SockPort::new(rt);
+    let status = run(
+        &rt,
+        alloc,
+        &words,
+        &mut StdIn::new(rt.stdin()),
+        &mut StdOut::new(rt.stdout()),
+        &mut errors,
+        &mut port,
+        &mut History::new(alloc),
+    );
+    port.close(&rt);
     ExitCode::from(status)
 }
 
-// Tells that the words found no memory.
-fn want_of_memory(rt: &HostRuntime, errors: &mut StdErr) -> u8 {
-    tell_end(rt, errors, Ended::NoMemory);
-    status_of(Ended::NoMemory)
-}
-
+#[cfg(test)]
+mod serving_tests;
 #[cfg(test)]
 mod tests;

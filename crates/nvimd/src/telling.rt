@@ -3,8 +3,9 @@
 ghost use Rattle.std.specs.Prelude.{◌≡◌, flat_map};
 ghost use Rattle.nv_io.specs.Streams.{Tells};
 ghost use Rattle.nv_io.specs.declared.ending.Ended.TheVariants.{Malformed};
-ghost use Rattle.nvimd.specs.Statuses.{status_of, line_of, malformed_line};
+ghost use Rattle.nvimd.specs.Statuses.{status_of, status_of_server, line_of, line_of_server, malformed_line};
 
+use crate::serving::ServerEnd;
 use itoa::Buffer;
 use nv_io::{Ended, Flaw, Sink, put_all};
 use std::net::{Net, TcpListener, TcpStream};
@@ -20,6 +21,17 @@ pub fn status_of(ended: Ended) -> u8
         Ended::WriteFault => 4,
         Ended::Malformed(_) => 6,
         Ended::Overflowed(_) => 7,
+    }
+}
+
+/// The status of the end of a server.
+pub fn status_of_server(ended: ServerEnd) -> u8
+    ensures { result ≡ status_of_server ended }
+{
+    match ended {
+        ServerEnd::Done => 0,
+        ServerEnd::NoMemory => 1,
+        ServerEnd::Failed => 5,
     }
 }
 
@@ -84,5 +96,21 @@ pub fn tell_end<R: Net<Listener = TcpListener, Stream = TcpStream>, E: Sink>(
                 &["nvimd: outbox overflow at entry ", entry, "\n"],
             );
         }
+    }
+}
+
+/// Writes the line of the end of a server to `errors`, where it has one.
+pub fn tell_server<R: Net<Listener = TcpListener, Stream = TcpStream>, E: Sink>(
+    rt: &R,
+    errors: &mut E,
+    ended: ServerEnd,
+)
+    ensures { Tells (line_of_server ended) (E.taken errors.old) (E.taken errors.new)
+        (E.faults errors.old) (E.faults errors.new) }
+{
+    match ended {
+        ServerEnd::Done => tell(rt, errors, &[]),
+        ServerEnd::NoMemory => tell(rt, errors, &["nvimd: out of memory\n"]),
+        ServerEnd::Failed => tell(rt, errors, &["nvimd: listener fault\n"]),
     }
 }

@@ -1,12 +1,17 @@
 //! The command over devices in memory, against tables written by hand.
-ghost use Rattle.std.specs.Prelude.{◌<◌};
+ghost use Rattle.std.specs.Prelude.{◌≡◌, ◌<◌, []};
 
 use crate::command::run;
 use crate::whole::answer_all;
-use nv_io::{MemSink, MemSource};
+use nv_io::{MemPort, MemSink, MemSource};
 use nv_world::{Event, History};
 use std::alloc::{AllocError, Global};
+use std::fs::File;
+use std::net::{Net, TcpListener, TcpStream};
+use std::rt::Files;
+use std::sync::Wait;
 use std::test::Fail;
+use std::thread::Threads;
 
 // A row: what it is about, the messages that come in, those that go out, the status, and the line
 // that tells it.
@@ -733,11 +738,33 @@ fn ample(alloc: Global) -> MemSink {
     MemSink::new(alloc, 4_096, Vec::new(alloc))
 }
 
-fn play(rt: &HostRuntime, words: &[&str], mut input: MemSource, mut output: MemSink) -> Left {
-    let alloc = rt.alloc();
+// Runs over devices that are lent, and a port without lanes.
+fn run_over<
+    R: Files<File = File> + Net<Listener = TcpListener, Stream = TcpStream> + Threads + Wait + Sync,
+>(
+    rt: &R,
+    alloc: Global,
+    words: &[&str],
+    input: &mut MemSource,
+    output: &mut MemSink,
+    errors: &mut MemSink,
+    kept: &mut History,
+) -> u8
+    requires { kept.old.entries ≡ [] }
+{
+    let none = MemPort::<MemSource, MemSink>::new(alloc, Vec::new(alloc), Vec::new(alloc));
+    let Ok(mut port) = none else {
+        return 1;
+    };
+    run(rt, alloc, words, input, output, errors, &mut port, kept)
+}
+
+fn play<
+    R: Files<File = File> + Net<Listener = TcpListener, Stream = TcpStream> + Threads + Wait + Sync,
+>(rt: &R, alloc: Global, words: &[&str], mut input: MemSource, mut output: MemSink) -> Left {
     let mut errors = ample(alloc);
     let mut kept = History::new(alloc);
-    let status = run(
+    let status = run_over(
         rt,
         alloc,
         words,
@@ -754,12 +781,13 @@ fn play(rt: &HostRuntime, words: &[&str], mut input: MemSource, mut output: MemS
     }
 }
 
-fn embedded(rt: &HostRuntime, input: &[u8], cut: usize) -> Result<Left, AllocError>
+fn embedded<
+    R: Files<File = File> + Net<Listener = TcpListener, Stream = TcpStream> + Threads + Wait + Sync,
+>(rt: &R, alloc: Global, input: &[u8], cut: usize) -> Result<Left, AllocError>
     requires { 0 < cut }
 {
-    let alloc = rt.alloc();
     let input = source(alloc, input, cut, Vec::new(alloc))?;
-    Ok(play(rt, &["embed"], input, ample(alloc)))
+    Ok(play(rt, alloc, &["embed"], input, ample(alloc)))
 }
 
 fn joined(alloc: Global, parts: &[&[u8]]) -> Result<Vec<u8>, AllocError> {
@@ -791,13 +819,14 @@ fn is_left(left: &Left, output: &[u8], status: u8, line: &[u8]) -> bool {
 }
 
 // The first row that gives something else, in one piece or byte by byte.
-fn first_wrong(rt: &HostRuntime, rows: &[Row]) -> Result<Option<&'static str>, AllocError> {
-    let alloc = rt.alloc();
+fn first_wrong<
+    R: Files<File = File> + Net<Listener = TcpListener, Stream = TcpStream> + Threads + Wait + Sync,
+>(rt: &R, alloc: Global, rows: &[Row]) -> Result<Option<&'static str>, AllocError> {
     for row in rows {
         let input = joined(alloc, row.input)?;
         let output = joined(alloc, row.output)?;
         for whole in [true, false] {
-            let left = embedded(rt, &input, if whole { 4_096 } else { 1 })?;
+            let left = embedded(rt, alloc, &input, if whole { 4_096 } else { 1 })?;
             if !is_left(&left, &output, row.status, row.line) {
                 return Ok(Some(row.name));
             }
@@ -807,16 +836,14 @@ fn first_wrong(rt: &HostRuntime, rows: &[Row]) -> Result<Option<&'static str>, A
 }
 
 // The first story that goes on in another way, in one piece or byte by byte.
-fn first_told_wrong(
-    rt: &HostRuntime,
-    stories: &[Story],
-) -> Result<Option<&'static str>, AllocError> {
-    let alloc = rt.alloc();
+fn first_told_wrong<
+    R: Files<File = File> + Net<Listener = TcpListener, Stream = TcpStream> + Threads + Wait + Sync,
+>(rt: &R, alloc: Global, stories: &[Story]) -> Result<Option<&'static str>, AllocError> {
     for story in stories {
         let input = joined(alloc, story.input)?;
         let output = joined(alloc, story.output)?;
         for whole in [true, false] {
-            let left = embedded(rt, &input, if whole { 4_096 } else { 1 })?;
+            let left = embedded(rt, alloc, &input, if whole { 4_096 } else { 1 })?;
             let kept = letters(alloc, &left.kept)?;
             let is_left = is_left(&left, &output, story.status, story.line);
             if !is_left || kept.as_slice() != story.kept {
@@ -829,13 +856,13 @@ fn first_told_wrong(
 
 #[test]
 fn what_is_kept(rt: HostRuntime) -> Result<(), Fail> {
-    assert_eq!(rt; first_told_wrong(&rt, stories())?, None);
+    assert_eq!(rt; first_told_wrong(&rt, rt.alloc(), stories())?, None);
     Ok(())
 }
 
 #[test]
 fn screens_are_drawn(rt: HostRuntime) -> Result<(), Fail> {
-    assert_eq!(rt; first_told_wrong(&rt, shows())?, None);
+    assert_eq!(rt; first_told_wrong(&rt, rt.alloc(), shows())?, None);
     Ok(())
 }
 
@@ -876,7 +903,7 @@ fn count_of(text: &[u8], piece: &[u8]) -> usize {
 #[test]
 fn a_client_begins(rt: HostRuntime) -> Result<(), Fail> {
     let alloc = rt.alloc();
-    let left = embedded(&rt, &opening(alloc)?, 4_096)?;
+    let left = embedded(&rt, rt.alloc(), &opening(alloc)?, 4_096)?;
     let output = left.output.bytes();
     let between = b"\x92\xa5flush\x90\x94\x01\x04\xc0\x01\x94\x01\x05\xc0\xc0\x93\x02\xa6redraw";
     assert_eq!(rt; left.status, 0);
@@ -903,9 +930,9 @@ fn many_edits(alloc: Global, count: u16) -> Result<Vec<u8>, AllocError> {
 #[test]
 fn an_outbox_overflows(rt: HostRuntime) -> Result<(), Fail> {
     let alloc = rt.alloc();
-    let left = embedded(&rt, &many_edits(alloc, 4_095)?, 4_096)?;
+    let left = embedded(&rt, rt.alloc(), &many_edits(alloc, 4_095)?, 4_096)?;
     assert_eq!(rt; left.status, 0);
-    let left = embedded(&rt, &many_edits(alloc, 4_096)?, 4_096)?;
+    let left = embedded(&rt, rt.alloc(), &many_edits(alloc, 4_096)?, 4_096)?;
     assert_eq!(rt; left.status, 7);
     assert_eq!(rt;
         left.errors.bytes(),
@@ -914,28 +941,33 @@ fn an_outbox_overflows(rt: HostRuntime) -> Result<(), Fail> {
     assert_eq!(rt; letters(alloc, &left.kept)?.as_slice(), b"ORTRT".as_slice());
     let least: [&str; 3] = ["embed", "--outbox", "16"];
     let input = source(alloc, &many_edits(alloc, 15)?, 4_096, Vec::new(alloc))?;
-    assert_eq!(rt; play(&rt, &least, input, ample(alloc)).status, 0);
+    assert_eq!(rt; play(&rt, alloc, &least, input, ample(alloc)).status, 0);
     let input = source(alloc, &many_edits(alloc, 16)?, 4_096, Vec::new(alloc))?;
-    assert_eq!(rt; play(&rt, &least, input, ample(alloc)).status, 7);
+    assert_eq!(rt; play(&rt, alloc, &least, input, ample(alloc)).status, 7);
     Ok(())
 }
 
 #[test]
 fn rows_however_they_are_cut(rt: HostRuntime) -> Result<(), Fail> {
-    assert_eq!(rt; first_wrong(&rt, rows())?, None);
+    assert_eq!(rt; first_wrong(&rt, rt.alloc(), rows())?, None);
     Ok(())
 }
 
 #[test]
 fn several_buffers_options_and_calls_in_one(rt: HostRuntime) -> Result<(), Fail> {
-    assert_eq!(rt; first_wrong(&rt, editing())?, None);
+    assert_eq!(rt; first_wrong(&rt, rt.alloc(), editing())?, None);
     Ok(())
 }
 
 // What a client asks first: the number of its session, and the table of methods.
 #[test]
 fn the_api_tells_of_itself(rt: HostRuntime) -> Result<(), Fail> {
-    let left = embedded(&rt, b"\x94\x00\x01\xb1nvim_get_api_info\x90", 4_096)?;
+    let left = embedded(
+        &rt,
+        rt.alloc(),
+        b"\x94\x00\x01\xb1nvim_get_api_info\x90",
+        4_096,
+    )?;
     let front = b"\x94\x01\x01\xc0\x92\x01\x86\xa7version\x86\xa5major\x00\xa5minor\x0b";
     assert_eq!(rt; left.status, 0);
     assert_eq!(rt; left.output.bytes().len(), 7_032);
@@ -945,7 +977,7 @@ fn the_api_tells_of_itself(rt: HostRuntime) -> Result<(), Fail> {
 
 #[test]
 fn refusals_have_their_exact_words(rt: HostRuntime) -> Result<(), Fail> {
-    assert_eq!(rt; first_wrong(&rt, refusals())?, None);
+    assert_eq!(rt; first_wrong(&rt, rt.alloc(), refusals())?, None);
     Ok(())
 }
 
@@ -964,7 +996,7 @@ fn due(came: usize) -> &'static [u8] {
 #[test]
 fn beginnings_are_cut_where_a_request_is(rt: HostRuntime) -> Result<(), Fail> {
     for came in 0..=SET_GET.len() {
-        let left = embedded(&rt, &SET_GET[..came], 3)?;
+        let left = embedded(&rt, rt.alloc(), &SET_GET[..came], 3)?;
         let line = if came == 0 || came == FIRST || came == SET_GET.len() {
             String::new(rt.alloc())
         } else {
@@ -985,7 +1017,7 @@ fn a_read_that_fails_ends_it(rt: HostRuntime) -> Result<(), Fail> {
     for came in 0..=SET_GET.len() {
         let fails = vec![in alloc; came as u64]?;
         let input = source(alloc, SET_GET, 1, fails)?;
-        let left = play(&rt, &["embed"], input, ample(alloc));
+        let left = play(&rt, alloc, &["embed"], input, ample(alloc));
         assert_eq!(rt; left.status, 3, "{came}");
         assert_eq!(rt; left.output.bytes(), due(came), "{came}");
         assert_eq!(rt;
@@ -1004,7 +1036,7 @@ fn a_write_that_fails_ends_it(rt: HostRuntime) -> Result<(), Fail> {
     for went in 0..REPLIES.len() {
         let fails = vec![in alloc; went as u64]?;
         let input = source(alloc, SET_GET, 4_096, Vec::new(alloc))?;
-        let left = play(&rt, &["embed"], input, MemSink::new(alloc, 1, fails));
+        let left = play(&rt, alloc, &["embed"], input, MemSink::new(alloc, 1, fails));
         assert_eq!(rt; left.status, 4, "{went}");
         assert_eq!(rt; left.output.bytes(), &REPLIES[..went], "{went}");
         assert_eq!(rt;
@@ -1024,7 +1056,13 @@ fn a_reply_goes_out_before_the_next_write_fails(rt: HostRuntime) -> Result<(), F
         b"\x94\x00\x01\xb3nvim_buf_line_count\x91\x00\x94\x00\x02\xb3nvim_buf_line_count\x91\x00";
     let input = source(alloc, requests.as_slice(), 4_096, Vec::new(alloc))?;
     let fails = vec![in alloc; 1]?;
-    let left = play(&rt, &["embed"], input, MemSink::new(alloc, 4_096, fails));
+    let left = play(
+        &rt,
+        alloc,
+        &["embed"],
+        input,
+        MemSink::new(alloc, 4_096, fails),
+    );
     assert_eq!(rt; left.status, 4);
     assert_eq!(rt; left.output.bytes(), b"\x94\x01\x01\xc0\x01".as_slice());
     assert_eq!(rt;
@@ -1041,7 +1079,13 @@ fn a_write_fault_goes_before_the_end_of_the_server(rt: HostRuntime) -> Result<()
     let request = b"\x94\x00\x01\xacnvim_command\x91\xa5qall!";
     let input = source(alloc, request.as_slice(), 4_096, Vec::new(alloc))?;
     let fails = vec![in alloc; 0]?;
-    let left = play(&rt, &["embed"], input, MemSink::new(alloc, 4_096, fails));
+    let left = play(
+        &rt,
+        alloc,
+        &["embed"],
+        input,
+        MemSink::new(alloc, 4_096, fails),
+    );
     assert_eq!(rt; left.status, 4);
     assert_eq!(rt; left.output.bytes(), b"".as_slice());
     assert_eq!(rt; letters(alloc, &left.kept)?.as_slice(), b"ORT".as_slice());
@@ -1054,13 +1098,13 @@ fn other_words_are_refused(rt: HostRuntime) -> Result<(), Fail> {
     let refused: [&[&str]; 5] = [
         &[],
         &["serve"],
-        &["embed", "embed"],
+        &["serve", "--listen", "/a", "--sessions", "0"],
         &["Embed"],
         &["embed", "--outbox", "15"],
     ];
     for words in refused {
         let input = source(alloc, SET_GET, 1, Vec::new(alloc))?;
-        let left = play(&rt, words, input, ample(alloc));
+        let left = play(&rt, alloc, words, input, ample(alloc));
         assert_eq!(rt; left.status, 2);
         assert_eq!(rt; left.output.bytes(), b"".as_slice());
         assert_eq!(rt;

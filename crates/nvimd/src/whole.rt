@@ -8,10 +8,14 @@ ghost use Rattle.nv_session.specs.Ends.{AnswersAll, AnswersUpTo};
 ghost use Rattle.nvimd.specs.Commands.{start_with};
 
 use crate::command::run;
-use nv_io::{MemSink, SureSink, SureSource};
+use nv_io::{MemPort, MemSink, SureSink, SureSource};
 use nv_world::History;
 use std::alloc::Global;
+use std::fs::File;
 use std::net::{Net, TcpListener, TcpStream};
+use std::rt::Files;
+use std::sync::Wait;
+use std::thread::Threads;
 
 /// Answers the calls in `bytes`, which come in pieces of the sizes in `cuts`, over and over. Gives
 /// the status, the sink that took what went out, and the history.
@@ -19,12 +23,9 @@ use std::net::{Net, TcpListener, TcpStream};
 /// Status 0 says that the bytes are calls and nothing else, and that each was answered; or that one
 /// of the calls at their front ended the server, and that those up to it were answered. Status 6
 /// says that they hold calls up to a flaw, and that each of these was answered.
-pub fn answer_all<R: Net<Listener = TcpListener, Stream = TcpStream>>(
-    rt: &R,
-    alloc: Global,
-    bytes: Vec<u8>,
-    cuts: Vec<usize>,
-) -> (u8, MemSink, History)
+pub fn answer_all<
+    R: Files<File = File> + Net<Listener = TcpListener, Stream = TcpStream> + Threads + Wait + Sync,
+>(rt: &R, alloc: Global, bytes: Vec<u8>, cuts: Vec<usize>) -> (u8, MemSink, History)
     requires some { 0 < vec_len cuts }
     requires sizes { AreSizes cuts.items }
     requires short { vec_len bytes < 2 ^ 62 }
@@ -45,6 +46,10 @@ pub fn answer_all<R: Net<Listener = TcpListener, Stream = TcpStream>>(
     let mut output = MemSink::new(alloc, 4_096, Vec::new(alloc));
     let mut errors = SureSink::new(4_096);
     let mut kept = History::new(alloc);
+    let port = MemPort::<SureSource, SureSink>::new(alloc, Vec::new(alloc), Vec::new(alloc));
+    let Ok(mut port) = port else {
+        return (1, output, kept);
+    };
     let status = run(
         rt,
         alloc,
@@ -52,6 +57,7 @@ pub fn answer_all<R: Net<Listener = TcpListener, Stream = TcpStream>>(
         &mut input,
         &mut output,
         &mut errors,
+        &mut port,
         &mut kept,
     );
     (status, output, kept)

@@ -3,8 +3,8 @@ use Rattle.std.specs.Io.KnownBytes.{prepend_known}
 use Rattle.nv_world.specs.Contents.{plain_entries}
 use Rattle.nv_world.specs.declared.story.Start.{Start}
 use Rattle.nv_session.specs.Ends.{SessionEnds}
-use Rattle.nvimd.specs.Commands.{start_of_words, start_with}
-use Rattle.nvimd.proofs.Asked.{embed_begins, embed_is_taken}
+use Rattle.nvimd.specs.Commands.{IsNoServer, start_of_words, start_with}
+use Rattle.nvimd.proofs.Asked.{embed_begins, embed_is_asked, embed_is_taken}
 use Rattle.nvimd.proofs.Played.{ended_badly, ended_well}
 use Rattle.nvimd.proofs.whole.answer_all.Goals as goal
 
@@ -13,7 +13,7 @@ returns-clause-command g c = λ e. c.run-status.ensures.words e embed_is_taken
 
 pub returns-clause-whole : goal.returns-clause-whole
 returns-clause-whole g c = λ z.
-    let s = c.run-status.ensures.session embed_is_taken in
+    let s = c.run-status.ensures.session embed_is_taken (subst IsNoServer (sym embed_is_asked) (search rules)) in
     let kept = plain_entries c.run-status.new.kept.entries in
     let left = c.run-status.new.input.left in
     let gave : Some c.args.bytes.items ≡ prepend_known s.1 (Some left) = search (rules, s.3.left) in
@@ -26,7 +26,7 @@ returns-clause-whole g c = λ z.
 
 pub returns-clause-malformed : goal.returns-clause-malformed
 returns-clause-malformed g c = λ z.
-    let s = c.run-status.ensures.session embed_is_taken in
+    let s = c.run-status.ensures.session embed_is_taken (subst IsNoServer (sym embed_is_asked) (search rules)) in
     let kept = plain_entries c.run-status.new.kept.entries in
     let left = c.run-status.new.input.left in
     let gave : Some c.args.bytes.items ≡ prepend_known s.1 (Some left) = search (rules, s.3.left) in

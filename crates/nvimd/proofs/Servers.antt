@@ -1,0 +1,107 @@
+-- What is left of a server.
+use Rattle.std.proofs.Common.{◌≡◌, ◌⊎◌, ℕ, ◌+◌, ◌≤◌, List, [], ◌∷◌, ◌++◌, length, take, drop, All, Option, Some, None, refl, sym, ap, ◌∙◌, subst, arith, rules, inl, inr}
+use Rattle.std.specs.Prelude.{IsSome, option_map, min, ◌-◌, ◌^◌}
+use Rattle.std.proofs.lemmas.List.{take-append-le, take_all}
+use Rattle.nv_io.specs.Faults.{Rose}
+use Rattle.nv_io.specs.Known.{append_items}
+use Rattle.nv_io.specs.Lanes.{IsFreshLane}
+use Rattle.nv_history.specs.Events.{Entry}
+use Rattle.nv_world.specs.declared.entry.Entry as world
+use Rattle.nv_world.specs.Contents.{plain_entries}
+use Rattle.nv_world.specs.declared.story.Start.{Start}
+use Rattle.nv_session.specs.Sending.{world_after}
+use Rattle.nv_model.specs.declared.parts.Limits.{Limits}
+use Rattle.nv_dispatch.specs.Runs.{usual_limits}
+use Rattle.nv_serve.specs.Headline.{Headline}
+use Rattle.nv_serve.specs.Jobs.{lanes_of}
+use Rattle.nv_serve.specs.Links.{LanesTell}
+use Rattle.nv_serve.specs.declared.job.Job.{Job}
+use Rattle.nvimd.specs.Commands.{start_with}
+use Rattle.nvimd.specs.Serving.{LeavesLanes, ServerEnds, ServesLanes, ServesNobody}
+use Rattle.nvimd.specs.declared.serving.ServerEnd.{ServerEnd}
+use Rattle.nvimd.specs.declared.serving.ServerEnd.TheVariants.{Done, Failed, NoMemory}
+use Rattle.nvimd.proofs.LanesBack.{back_all}
+
+some_there : {A : Type 0} (o : Option A) (x : A) → o ≡ Some x → IsSome o
+some_there None x e = cc
+some_there (Some y) x e = search rules
+
+-- so many that were lent came back
+pub lent_back : (first mid last : Option ℕ) (n : ℕ) → mid ≡ option_map (λ k. k + n) first → mid ≡ option_map (λ k. k + n) last → last ≡ first
+lent_back None mid None n e f = refl
+lent_back None mid (Some b) n e f = cc
+lent_back (Some a) mid None n e f = cc
+lent_back (Some a) mid (Some b) n e f =
+    let both : Some (a + n) ≡ Some (b + n) = sym e ∙ f in
+    let same : a + n ≡ b + n = cc in
+    ap (λ (k : ℕ). Some k) (omega (arith, same))
+
+pub rose_later : (a b c : ℕ) → Rose a b → b ≤ c → Rose a c
+rose_later a b c rose later = omega (arith, rose, later)
+
+-- what was lent as a slice is all of the vector
+pub lent_whole : {A : Type 0} (xs ys : List A) (n : ℕ) → length ys ≡ n → take n (ys ++ drop (length ys) xs) ≡ ys
+lent_whole xs ys n e = take-append-le n ys (drop (length ys) xs) (omega (arith, e)) ∙ take_all n ys (omega (arith, e))
+
+-- lanes came back that were lent in jobs
+pub back_whole : {L : Type 0} (before mid after : Option (List L)) (whole news : List (Job L)) → after ≡ append_items mid (lanes_of whole) → mid ≡ before → whole ≡ news → after ≡ append_items before (lanes_of news)
+back_whole before mid after whole news e f h = e ∙ ap (λ known. append_items known (lanes_of whole)) f ∙ ap (λ js. append_items before (lanes_of js)) h
+
+module _ {L I S : Type 0} (t : LanesTell L I S) (start : Start) where
+  -- the history of a server runs
+  lanes_run : (sessions : ℕ) (kept : List Entry) (olds news : List L) → ServesLanes t start sessions kept olds news → IsSome (world_after start kept)
+  lanes_run sessions kept olds news h = some_there (world_after start kept) h.1.world h.1.runs
+
+  nobody_runs : (sessions : ℕ) (kept : List Entry) (olds news : List L) → ServesNobody t start sessions kept olds news → IsSome (world_after start kept)
+  nobody_runs sessions kept olds news h = subst (λ (l : List Entry). IsSome (world_after start l)) (sym h.0) (search rules)
+
+  pub leaves_run : (sessions : ℕ) (kept : List Entry) (ended : ServerEnd) (rose : Type 0) (olds news : List L) → LeavesLanes t start sessions kept ended rose olds news → IsSome (world_after start kept)
+  leaves_run sessions kept Done rose olds news h = lanes_run sessions kept olds news h
+  leaves_run sessions kept NoMemory rose olds news (inl h) = nobody_runs sessions kept olds news h
+  leaves_run sessions kept NoMemory rose olds news (inr h) = lanes_run sessions kept olds news h
+  leaves_run sessions kept Failed rose olds news h = nobody_runs sessions kept olds news h.0
+
+  -- as many lanes as were to be taken, whose port didn't fail
+  pub leaves_so_many : (n sessions : ℕ) (kept : List Entry) (ended : ServerEnd) (rose : Type 0) (olds news : List L) → n ≡ sessions → LeavesLanes t start n kept ended ⊥ olds news → LeavesLanes t start sessions kept ended rose olds news
+  leaves_so_many n sessions kept Done rose olds news e h = (h.0 ∙ e, h.1)
+  leaves_so_many n sessions kept NoMemory rose olds news e (inl h) = inl h
+  leaves_so_many n sessions kept NoMemory rose olds news e (inr h) = inr (h.0 ∙ e, h.1)
+  leaves_so_many n sessions kept Failed rose olds news e h = absurd h.1
+
+  -- memory was wanting before a lane was taken
+  pub none_began : (sessions : ℕ) (kept : List world.Entry) (rose : Type 0) (before after : Option (List L)) → kept ≡ [] → after ≡ before → ServerEnds t start sessions (plain_entries kept) NoMemory rose before after
+  none_began sessions kept rose before after none same = record {
+    olds = [];
+    news = [];
+    fresh = search rules;
+    back = same ∙ sym (back_all before [] refl);
+    leaves = inl (ap plain_entries none, refl);
+  }
+
+  -- the port failed, and the lanes that it gave came back
+  pub port_failed : (sessions : ℕ) (kept : List world.Entry) (rose : Type 0) (lanes : List L) (before after : Option (List L)) → kept ≡ [] → rose
+      → All (λ lane. IsFreshLane (t.over lane) (t.lent lane) (t.faults lane)) lanes → after ≡ append_items before lanes → ServerEnds t start sessions (plain_entries kept) Failed rose before after
+  port_failed sessions kept rose lanes before after none rises fresh back = record {
+    olds = lanes;
+    news = lanes;
+    fresh = fresh;
+    back = back;
+    leaves = ((ap plain_entries none, refl), rises);
+  }
+
+  -- the lanes were served, that were lent for it
+  pub lanes_served : (n sessions : ℕ) (kept : List Entry) (ended : ServerEnd) (rose : Type 0) (lent olds news : List L) (before after : Option (List L)) → n ≡ sessions → lent ≡ olds
+      → All (λ lane. IsFreshLane (t.over lane) (t.lent lane) (t.faults lane)) olds → after ≡ append_items before news → LeavesLanes t start n kept ended ⊥ lent news
+      → ServerEnds t start sessions kept ended rose before after
+  lanes_served n sessions kept ended rose lent olds news before after e same fresh back leaves = record {
+    olds = olds;
+    news = news;
+    fresh = fresh;
+    back = back;
+    leaves = leaves_so_many n sessions kept ended rose olds news e (subst (λ (l : List L). LeavesLanes t start n kept ended ⊥ l news) same leaves);
+  }
+
+-- as many lanes as were lent were served, in a world of the usual limits
+pub lanes_left : {L I S : Type 0} (t : LanesTell L I S) (outbox n : ℕ) (kept : List Entry) (olds news : List L) (limits : Limits) → limits ≡ usual_limits → length olds ≡ n → Headline t (record { outbox = outbox; limits = limits }) kept olds news
+    → ServesLanes t (start_with outbox) n kept olds news
+lanes_left t outbox n kept olds news limits same e h = (e, subst (λ (l : Limits). Headline t (record { outbox = outbox; limits = l }) kept olds news) same h)

@@ -1,0 +1,2 @@
+-- inside: what only private contracts cite.
+pub mod Lanes
