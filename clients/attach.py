@@ -10,7 +10,6 @@ Wants Debian's python3-pynvim.
 """
 
 import os
-import signal
 import sys
 import threading
 
@@ -18,7 +17,7 @@ import pynvim
 
 from follow import Copy
 from grid import Grid
-from rpc import Serve
+from rpc import Serve, limit
 
 TOP = os.path.dirname(os.path.dirname(os.path.abspath(__file__)))
 MOST_SECONDS = 120
@@ -360,7 +359,7 @@ def over_child():
 
 
 def main():
-    signal.alarm(MOST_SECONDS)
+    limit(MOST_SECONDS)
     if sys.argv[1:2] == ["--socket"]:
         over_socket(sys.argv[2])
     elif sys.argv[1:] == ["--serve"]:

@@ -137,24 +137,29 @@ class Page:
             shown.add(status)
             got = ran(bytes.fromhex(data) * int(times or 1))[1:]
             self.same(f"the input {data}", got, (int(status), line))
-        for words, standing in (("a word", {"args": ["now"]}), ("a folder", {"stdin": "/"}), ("a full disk", {"stdout": "/dev/full"})):
-            self.device(words, shown, **standing)
+        told = set(STATUS.findall(self.text))
+        shown.add(self.device("a word that is none", words=("embed", "now")))
+        shown.add(self.device("an input that is a folder", stdin="/"))
+        shown.add(self.device("a full disk", stdout="/dev/full"))
+        if "5" in told:
+            shown.add(self.device("an address in no folder", words=("serve", "--listen", "/nowhere/socket")))
         shown.add(self.overflow())
         # want of memory has no example
-        self.same("statuses without an example", sorted(set(STATUS.findall(self.text)) - shown - {"1"}), [])
+        self.same("statuses without an example", sorted(told - shown - {"1"}), [])
 
-    def device(self, what, shown, args=(), stdin=None, stdout="/dev/null"):
-        """The status that the page has for a read fault, a write fault or wrong words comes for one."""
+    def device(self, what, words=("embed",), stdin=None, stdout="/dev/null"):
+        """A status that comes for these words and devices; its line must stand beside it in the page."""
         call = msgpack.packb([0, 1, "nvim_list_bufs", []])
         source = os.open(stdin, os.O_RDONLY) if stdin else None
         with open(stdout, "wb") as file:
             given = {"stdin": source} if stdin else {"input": call}
-            done = subprocess.run([LAUNCHER, "embed", *args], **given, stdout=file, stderr=subprocess.PIPE)
+            done = subprocess.run([LAUNCHER, *words], **given, stdout=file, stderr=subprocess.PIPE)
         if source is not None:
             os.close(source)
         line = done.stderr.decode().rstrip("\n")
-        self.same(f"the line of {what}", f"| {done.returncode} | " in self.text and f"`{line}`" in self.text, True)
-        shown.add(str(done.returncode))
+        row = re.search(rf"^\| {done.returncode} \| [^|]* \| `{re.escape(line)}` \|$", self.text, re.MULTILINE)
+        self.same(f"the status and the line of {what}", (done.returncode, line) if row is None else "there", "there")
+        return str(done.returncode)
 
     def overflow(self):
         """A call that makes more due than an outbox holds."""

@@ -4,7 +4,10 @@ Wants Debian's python3-msgpack.
 """
 
 import os
+import select
+import signal
 import subprocess
+import sys
 import tempfile
 import time
 
@@ -14,6 +17,22 @@ from server import Ended, socket_at
 
 TOP = os.path.dirname(os.path.dirname(os.path.abspath(__file__)))
 LAUNCHER = os.path.join(TOP, "nvimd")
+
+
+running = []  # the servers that were started here and haven't ended
+
+
+def limit(seconds):
+    """Ends the script, and the servers that it started, where it still runs after so long."""
+
+    def late(*_):
+        print(f"not done after {seconds} seconds", file=sys.stderr)
+        for child in running:
+            child.kill()
+        os._exit(1)
+
+    signal.signal(signal.SIGALRM, late)
+    signal.alarm(seconds)
 
 
 class Refused(Exception):
@@ -40,6 +59,7 @@ class Session:
         self.told = []
         self.replies = {}
         self.msgid = 0
+        self.kept = None  # all bytes that were read, where they are to be kept
 
     def send(self, data):
         """Writes bytes as they are."""
@@ -73,14 +93,29 @@ class Session:
         while True:
             for message in self.messages:
                 return message
-            piece = os.read(self.out, 1 << 20)
+            try:
+                piece = os.read(self.out, 1 << 20)
+            except ConnectionResetError:
+                piece = b""
             if not piece:
                 raise Ended("the server closed the session")
+            if self.kept is not None:
+                self.kept += piece
             self.messages.feed(piece)
 
     def message(self):
         """Reads one message, a reply for `replies` or a notification for `told`."""
-        kind, *rest = self.take()
+        self.sort(self.take())
+
+    def poll(self, seconds):
+        """Reads the messages that are there, or that are there within so long."""
+        if select.select([self.out], [], [], seconds)[0]:
+            self.message()
+        for message in self.messages:
+            self.sort(message)
+
+    def sort(self, message):
+        kind, *rest = message
         if kind == 1:
             self.replies[rest[0]] = rest[1], rest[2]
         else:
@@ -139,37 +174,42 @@ class Client(Session):
 
 
 class Serve:
-    """`nvimd serve` on a socket in a temporary folder."""
+    """`nvimd serve`, or another server of this protocol, on a socket in a temporary folder."""
 
-    def __init__(self, *words, program=(LAUNCHER,)):
+    def __init__(self, *words, command=(LAUNCHER, "serve", "--listen")):
         self.folder = tempfile.TemporaryDirectory(prefix="nvimd")
         self.address = os.path.join(self.folder.name, "socket")
-        self.child = subprocess.Popen([*program, "serve", "--listen", self.address, *words], stdin=subprocess.DEVNULL)
+        self.child = subprocess.Popen([*command, self.address, *words], stdin=subprocess.DEVNULL)
+        running.append(self.child)
         while True:
             try:
                 Client(self.address).close()
                 return
             except Ended:
                 if self.child.poll() is not None:
-                    raise SystemExit(f"the server ended with status {self.child.returncode}")
+                    raise SystemExit(f"the server ended with status {self.child.returncode}") from None
                 time.sleep(0.01)
 
     def client(self, handle=number):
         return Client(self.address, handle)
 
     def quit(self, seconds=60):
-        """Asks it to end; its status."""
+        """Asks it to end; its status, or None where it doesn't."""
         last = self.client()
-        last.call("nvim_command", "qall!")
+        try:
+            last.call("nvim_command", "qall!")
+        except Ended:
+            pass
         last.close()
-        status = self.child.wait(seconds)
+        try:
+            status = self.child.wait(seconds)
+        except subprocess.TimeoutExpired:
+            self.child.kill()
+            self.child.wait()
+            status = None
+        running.remove(self.child)
         self.folder.cleanup()
         return status
-
-    def kill(self):
-        self.child.kill()
-        self.child.wait()
-        self.folder.cleanup()
 
     def descriptors(self):
         return len(os.listdir(f"/proc/{self.child.pid}/fd"))

@@ -245,7 +245,7 @@ class Check(Count):
         served = subprocess.Popen([self.program, "serve", "--listen", path], stderr=subprocess.DEVNULL)
         while not os.path.exists(path):
             if served.poll() is not None:
-                print("view_check: several views: skipped, the program has no `serve`", file=sys.stderr)
+                self.same("a server ended", served.returncode, None)
                 return
             time.sleep(0.05)
         views = [Seen(size, [path]) for size in [(60, 16), (48, 20)]]
