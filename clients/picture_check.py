@@ -16,7 +16,7 @@ import msgpack
 from PIL import Image
 
 from picture import answered, screen_of_server
-from scenes import CLIENTS, FIRST, FLAGS, SECOND, TOP, Bridge, Count, flags_in, write_calls
+from scenes import CLIENTS, FIRST, FLAGS, SECOND, TOP, Bridge, Check, flags_in, write_calls
 from server import Server
 from ui import Ui, calls_in
 
@@ -126,18 +126,8 @@ class Book:
         return path
 
 
-class Check(Count):
-    """The program, and a folder for what is written."""
-
-    def __init__(self, program, folder):
-        super().__init__()
-        self.program = program
-        self.child = ["--", program, "embed"]
-        self.folder = folder
-        self.all = write_calls(self.path("calls"), FIRST + SECOND)
-
-    def path(self, name):
-        return os.path.join(self.folder, name)
+class Pictures(Check):
+    """What pictures the program's screens make."""
 
     def run(self, name, *words):
         """A picture: its path; the program's status and lines are kept."""
@@ -159,7 +149,7 @@ class Check(Count):
         bridge = Bridge([self.program, "embed"], self.path("socket"))
         for size in SIZES:
             word = "{}x{}".format(*size)
-            for name, path, calls in [("early", first, FIRST), ("late", self.all, FIRST + SECOND)]:
+            for name, path, calls in [("early", first, FIRST), ("late", self.calls, FIRST + SECOND)]:
                 made = [
                     self.picture(f"{name} {word} {number}", "--size", word, "--calls", path, words)
                     for number, words in enumerate([self.child, [bridge.address]])
@@ -234,7 +224,7 @@ class Check(Count):
 def main():
     program = sys.argv[1] if len(sys.argv) > 1 else os.path.join(TOP, "nvimd")
     with tempfile.TemporaryDirectory() as folder:
-        check = Check(program, folder)
+        check = Pictures(program, folder)
         for part in (check.cells, check.readme, check.books, check.bad_words):
             part()
     return check.end()

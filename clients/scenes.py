@@ -77,6 +77,20 @@ class Count:
         return 1 if self.failed else 0
 
 
+class Check(Count):
+    """The program, and a folder for what the checks write, with the calls of both scenes."""
+
+    def __init__(self, program, folder):
+        super().__init__()
+        self.program = program
+        self.child = ["--", program, "embed"]
+        self.folder = folder
+        self.calls = write_calls(self.path("calls"), FIRST + SECOND)
+
+    def path(self, name):
+        return os.path.join(self.folder, name)
+
+
 class Bridge:
     """A socket before a program: each connection has a child of its own, and ends behind so many bytes that it was sent."""
 

@@ -22,7 +22,7 @@ import unicodedata
 import pyte
 
 from picture import screen_of_server
-from scenes import CLIENTS, FIRST, FLAGS, SECOND, TOP, Bridge, Count, flags_in, write_calls
+from scenes import CLIENTS, FIRST, FLAGS, SECOND, TOP, Bridge, Check, flags_in, write_calls
 from server import Server
 from ui import Ui
 
@@ -140,15 +140,8 @@ def named(calls):
     return [(name, name, *params) for name, params in calls]
 
 
-class Check(Count):
-    """The program, and a folder for what the checks write."""
-
-    def __init__(self, program, folder):
-        super().__init__()
-        self.program = program
-        self.child = ["--", program, "embed"]
-        self.folder = folder
-        self.calls = write_calls(os.path.join(folder, "calls"), FIRST + SECOND)
+class Views(Check):
+    """What views of the program's screens show."""
 
     def shows(self, what, seen, grid):
         size = (seen.screen.columns, seen.screen.lines)
@@ -269,7 +262,7 @@ class Check(Count):
 def main():
     program = sys.argv[1] if len(sys.argv) > 1 else os.path.join(TOP, "nvimd")
     with tempfile.TemporaryDirectory() as folder:
-        check = Check(program, folder)
+        check = Views(program, folder)
         for part in (check.sizes, check.cuts, check.bad_words, check.bad_terminals, check.several):
             part()
     return check.end()
