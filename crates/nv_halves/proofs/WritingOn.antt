@@ -268,3 +268,8 @@ ends_over cause p q s told out k first before h = half_over cause first q s told
 pub ends_wanting : (p q : WorldPass) (s : ℕ) (told : Told) (out : Option (List ℕ)) → Stays p q → WritesOnce (written.Ends w.NoMemory) p q s told told out out
 ends_wanting p q s told out k first before h =
     half_part w.NoMemory first q s before out tt (part_all first q s told before out (writes_stay first p q s told before out h k))
+
+-- nobody reads, and the session was shut
+pub ends_unread : (p r : WorldPass) (s : ℕ) (told : Told) (out : Option (List ℕ)) (met : Asked) → Shuts met p r s → WritesOnce (written.Ends w.NoMemory) p r s told told out out
+ends_unread p r s told out met k first before h =
+    half_part w.NoMemory first r s before out tt (part_shut first p r s before out met (part_all first p s told before out h) k)

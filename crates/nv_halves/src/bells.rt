@@ -4,6 +4,9 @@
 //! the take gave nothing. Whoever makes something due adds one to the word, and then looks whether
 //! anybody sleeps on it. So no ring is lost, and where nobody sleeps no call of the system is made.
 //! Nothing is proved of any of this but that it is safe: a pause of a second is the net.
+//!
+//! The half that reads says at its bell that it runs. A writer that has nothing to take and isn't
+//! told so for some seconds runs alone, as where the system gave no thread for the other half.
 
 use nv_world::World;
 use std::sync::Wait;
@@ -12,6 +15,9 @@ use std::time::Duration;
 
 // For how many milliseconds a writer sleeps at most.
 const LONGEST_SLEEP: u64 = 1000;
+
+// How often a writer sleeps at most until the half that reads begins.
+const MOST_SLEEPS: u64 = 5;
 
 /// The bell of one lane.
 #[derive(Drop)]
@@ -22,6 +28,8 @@ pub struct Bell {
     asleep: AtomicU64,
     // The session that the lane serves, 0 where it serves none.
     session: AtomicU64,
+    // Whether the half that reads of that session has begun: 1, and else 0.
+    is_read: AtomicU64,
 }
 
 impl Bell {
@@ -31,12 +39,26 @@ impl Bell {
             word: AtomicU64::new(0),
             asleep: AtomicU64::new(0),
             session: AtomicU64::new(0),
+            is_read: AtomicU64::new(0),
         }
     }
 
     /// From now on it rings where something is due to this session; for 0 it rings for none.
     pub fn serve(&self, session: u64) {
+        self.is_read.store(0, Ordering::SeqCst);
         self.session.store(session, Ordering::SeqCst);
+    }
+
+    // Whether the half that reads has begun. Where it hasn't, waits for it, for some seconds.
+    pub(crate) fn is_read<R: Wait>(&self, rt: &R) -> bool {
+        for _ in 0..MOST_SLEEPS {
+            let heard = self.heard();
+            if self.is_read.load(Ordering::SeqCst) != 0 {
+                return true;
+            }
+            self.sleep(rt, heard);
+        }
+        false
     }
 
     // How often it was rung, in the 32 bits on which `sleep` sleeps.
@@ -64,6 +86,16 @@ impl Bell {
     fn is_due(&self, world: &World) -> bool {
         let session = self.session.load(Ordering::SeqCst);
         session != 0 && (world.has_due(session) || world.closed_by(session).is_some())
+    }
+}
+
+/// Says at the bell of this session that the half that reads has begun, and wakes its writer.
+pub(crate) fn begin(bells: &[Bell], session: u64) {
+    for lane in 0..bells.len() {
+        if bells[lane].session.load(Ordering::SeqCst) == session {
+            bells[lane].is_read.store(1, Ordering::SeqCst);
+            bells[lane].ring();
+        }
     }
 }
 

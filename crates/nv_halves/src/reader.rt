@@ -6,7 +6,7 @@ ghost use Rattle.nv_halves.specs.Passes.{plain_pass};
 ghost use Rattle.nv_halves.specs.Halves.{LeavesClosed, ReadsHalf};
 ghost use Rattle.nv_halves.specs.inside.Intakes.{ClosesAfter, IsReadable, IsUnread, end_after_close};
 
-use crate::bells::Bell;
+use crate::bells::{Bell, begin};
 use crate::ends::ReaderEnd;
 use crate::insisting::{Asked, shut};
 use crate::steps::Intake;
@@ -143,6 +143,7 @@ pub fn reader_half<R: Net<Listener = TcpListener, Stream = TcpStream> + Wait, I:
     ensures fault { result.end ≡ ReaderEnd.ReadFault
         → Rose (I.faults input) (I.faults result.input) }
 {
+    begin(bells, session);
     let (pass, end) = read_session(rt, alloc, turn, bells, pass, session, &mut input);
     let (pass, end) = close(rt, turn, bells, pass, session, end);
     ReaderHalf { pass, input, end }

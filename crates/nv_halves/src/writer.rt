@@ -1,8 +1,8 @@
 //! The half that writes: it takes what is due to its session and writes it, until the session is
 //! over.
-ghost use Rattle.std.specs.Prelude.{◌≡◌, ◌<◌, ◌≤◌, length};
+ghost use Rattle.std.specs.Prelude.{◌≡◌, ◌<◌, ◌≤◌, ℕ, List, Option, length};
 ghost use Rattle.nv_io.specs.Faults.{Rose};
-ghost use Rattle.nv_linegrid.specs.Told.{nothing_told};
+ghost use Rattle.nv_linegrid.specs.Told.{Told, nothing_told};
 ghost use Rattle.nv_turn.specs.Passes.{IsSamePass};
 ghost use Rattle.nv_halves.specs.Passes.{plain_pass};
 ghost use Rattle.nv_halves.specs.Halves.{WritesHalf};
@@ -116,8 +116,25 @@ fn write_once<R: Net<Listener = TcpListener, Stream = TcpStream> + Wait, S: Sink
     }
 }
 
+// Closes a session of which nobody reads, as where there was no memory for a thread that does.
+fn shut_unread<R: Wait>(
+    rt: &R,
+    turn: &Turn<World>,
+    bells: &[Bell],
+    pass: Pass<World>,
+    session: u64,
+) -> Pass<World>
+    requires { pass.turn ≡ turn.now.turn }
+    ensures { (told : Told) (out : Option (List ℕ))
+        → WritesOnce (Written.Ends WriterEnd.NoMemory) (plain_pass pass) (plain_pass result)
+        session told told out out }
+{
+    let (pass, _) = shut(rt, turn, bells, pass, session);
+    pass
+}
+
 // Takes and writes what is due to a session, and sleeps where nothing is, until the session is over
-// or writing fails.
+// or writing fails, or it shows that nobody reads.
 fn write_all<R: Net<Listener = TcpListener, Stream = TcpStream> + Wait, S: Sink, V: Voice>(
     rt: &R,
     alloc: Global,
@@ -148,7 +165,15 @@ fn write_all<R: Net<Listener = TcpListener, Stream = TcpStream> + Wait, S: Sink,
         pass = next;
         match written {
             Written::On => {}
-            Written::Idle => bells[lane].sleep(rt, heard),
+            Written::Idle => {
+                if !bells[lane].is_read(rt) {
+                    return (
+                        shut_unread(rt, turn, bells, pass, session),
+                        WriterEnd::NoMemory,
+                    );
+                }
+                bells[lane].sleep(rt, heard);
+            }
             Written::Ends(end) => return (pass, end),
         }
     }
@@ -158,8 +183,9 @@ fn write_all<R: Net<Listener = TcpListener, Stream = TcpStream> + Wait, S: Sink,
 /// Takes what is due to a session, one batch after another, and writes each to `output` as the
 /// voice speaks it, until the session is over. Each batch is taken under the turn; it is spoken and
 /// written outside it. Where nothing is due the half sleeps on the bell of its lane. After a fault
-/// of `output`, or want of memory, it closes the session. On every way out `output` is finished, so
-/// that the half that reads from the same connection finds its end.
+/// of `output`, or want of memory, it closes the session; so it does where the half that reads
+/// hasn't begun after some seconds, since there was no memory for its thread. On every way out
+/// `output` is finished, so that the half that reads from the same connection finds its end.
 pub fn writer_half<
     R: Net<Listener = TcpListener, Stream = TcpStream> + Wait,
     S: Sink,

@@ -14,3 +14,9 @@ pub returns-in-Ends-clause-wrote : goal.returns-in-Ends-clause-wrote
 returns-in-Ends-clause-wrote g c =
     let w = rw c.in-Ends.is at c.write_once-next.ensures.writes in
     w (plain_pass c.args.pass) _ c.takes.invariant.writes
+
+pub returns-then-not-is_read-clause-wrote : goal.returns-then-not-is_read-clause-wrote
+returns-then-not-is_read-clause-wrote g c =
+    let idle = rw c.in-Idle.is at c.write_once-next.ensures.writes in
+    let so = idle (plain_pass c.args.pass) _ c.takes.invariant.writes in
+    c.shut_unread.ensures _ _ (plain_pass c.args.pass) _ so
