@@ -21,9 +21,9 @@ use Rattle.nv_session.specs.Openings.{opening_entry}
 use Rattle.nv_session.specs.Connections.{ServesSession, ServesNone}
 use Rattle.nv_serve.specs.Links.{LanesTell, Link}
 use Rattle.nv_serve.specs.inside.Sharing.{IsIdle, IsOpened, Chain, IsLane}
-use Rattle.nv_serve.specs.inside.Lanes.{session_of_link, one_of_link, other_of_link, IsIdleLink, IsOpenedLink, IsMet, ServesLane, ServesAll, ServesLink, PassesLink, GivesLink, ReturnsLink, StepsLane, LooksOnly}
-use Rattle.nv_serve.specs.declared.lane.Step.{Step}
-use Rattle.nv_serve.specs.declared.lane.Step.TheVariants.{On, Last, Nothing}
+use Rattle.nv_serve.specs.inside.Lanes.{session_of_link, one_of_link, other_of_link, IsIdleLink, IsOpenedLink, IsMet, ServesLane, ServesAll, ServesLink, PassesLink, PassesNone, GivesLink, IfLast, ReturnsLink, StepsLane, LooksOnly}
+use Rattle.nv_serve.specs.declared.job.LaneEnd.{LaneEnd}
+use Rattle.nv_serve.specs.declared.job.LaneEnd.TheVariants as stop
 use Rattle.nv_serve.proofs.Members.{flat-append}
 
 -- ---- passes
@@ -144,9 +144,9 @@ module _ {L I S : Type 0} (t : LanesTell L I S) (start : Option Start) where
   })
 
   -- what a lane did stays so
-  pub lane_on : (n m : ℕ) (old new : L) (a a_later b b_later : List Entry) → IsPrefix a a_later → IsPrefix b b_later → own n a_later ≡ own n a → own m b_later ≡ own m b
-      → ServesAll t start n m old new a b → ServesAll t start n m old new a_later b_later
-  lane_on n m old new a a_later b b_later p q same other_same h = record {
+  pub lane_on : (n m : ℕ) (end : LaneEnd) (old new : L) (a a_later b b_later : List Entry) → IsPrefix a a_later → IsPrefix b b_later → own n a_later ≡ own n a → own m b_later ≡ own m b
+      → ServesAll t start n m end old new a b → ServesAll t start n m end old new a_later b_later
+  lane_on n m end old new a a_later b b_later p q same other_same h = record {
     serves = record {
       links = h.serves.links;
       order = h.serves.order;
@@ -158,7 +158,7 @@ module _ {L I S : Type 0} (t : LanesTell L I S) (start : Option Start) where
       };
       each = each_on (IsMet t start a b) (IsMet t start a_later b_later) h.serves.links (λ x met. met_on a a_later b b_later x p q met) h.serves.each;
     };
-    at_end = h.at_end;
+    ends = h.ends;
   }
 
   -- a lane that served nothing yet
@@ -325,14 +325,24 @@ module _ {L I S : Type 0} (t : LanesTell L I S) where
     later = (let a = later in let b = h.later in omega (arith, a, b));
   }
 
-  pub steps_on : (step : Step) (start : Option Start) (p q p_after q_after : WorldPass) (old given new : L) (input : I) (output : S) → ReturnsLink t start step p q p_after q_after given new input output
+  -- a connection was served and given back, and its lane ended with it or not
+  pub returned : (end : Option LaneEnd) (start : Option Start) (p q p_after q_after : WorldPass) (old new : L) (input input_after : I) (output output_after : S) (s : ℕ) (how : Ended)
+      → (k : Linked start p q p_after q_after input input_after output output_after s how) → GivesLink t start p q p_after q_after old new input output k.link → IfLast end how
+      → ReturnsLink t start end p q p_after q_after old new input output
+  returned end start p q p_after q_after old new input input_after output output_after s how k gives last =
+      (k.link, gives, subst (λ (o : Over I S). IfLast end o.how) (sym k.over_is) last)
+
+  pub steps_on : (end : Option LaneEnd) (start : Option Start) (p q p_after q_after : WorldPass) (old given new : L) (input : I) (output : S) → ReturnsLink t start end p q p_after q_after given new input output
       → t.coming old ≡ prepend_items ((input, output) ∷ []) (t.coming given) → t.over given ≡ t.over old → t.lent given ≡ option_map (λ (n : ℕ). n + 1) (t.lent old) → t.faults old ≤ t.faults given
-      → StepsLane t start step p q p_after q_after old new
-  steps_on On start p q p_after q_after old given new input output h came over lent later =
-      (h.0, h.1.serves, passed start p q p_after q_after old given new input output h.0 h.1 came over lent later)
-  steps_on Last start p q p_after q_after old given new input output h came over lent later =
-      (h.0, h.1.serves, passed start p q p_after q_after old given new input output h.0 h.1 came over lent later, h.2)
-  steps_on Nothing start p q p_after q_after old given new input output h came over lent later = absurd h
+      → StepsLane t start end p q p_after q_after old new
+  steps_on None start p q p_after q_after old given new input output h came over lent later =
+      (h.0, (h.1.serves, passed start p q p_after q_after old given new input output h.0 h.1 came over lent later))
+  steps_on (Some stop.Quit) start p q p_after q_after old given new input output h came over lent later =
+      (h.0, (h.1.serves, passed start p q p_after q_after old given new input output h.0 h.1 came over lent later), h.2)
+  steps_on (Some stop.Spent) start p q p_after q_after old given new input output h came over lent later =
+      (h.0, (h.1.serves, passed start p q p_after q_after old given new input output h.0 h.1 came over lent later), h.2)
+  steps_on (Some stop.Done) start p q p_after q_after old given new input output h came over lent later = absurd h.2
+  steps_on (Some stop.Failed) start p q p_after q_after old given new input output h came over lent later = absurd h.2
 
 -- ---- the loop of a lane
 
@@ -356,50 +366,64 @@ module _ {L I S : Type 0} (t : LanesTell L I S) where
   with_start_passed : (start other : Option Start) (old new : L) (x : Link I S) → other ≡ start → PassesLink t other old new x → PassesLink t start old new x
   with_start_passed start other old new x same h = subst (λ (o : Option Start). PassesLink t o old new x) same h
 
-  pub lane_goes : (p q p_now q_now p_after q_after : PassState WorldEntry Start) (old now new : L) → LaneGoes p q p_now q_now old now
-      → StepsLane t p_now.start On (plain_pass p_now) (plain_pass q_now) (plain_pass p_after) (plain_pass q_after) now new → LaneGoes p q p_after q_after old new
-  lane_goes p q p_now q_now p_after q_after old now new g h = record {
-    first = same_passes p p_now p_after g.first (same_of_plain p_now p_after h.1.first);
-    second = same_passes q q_now q_after g.second (same_of_plain q_now q_after h.1.second);
-    serves = lane_then t p.start p.number q.number old now new (plain_pass p_now) (plain_pass q_now) (plain_pass p_after) (plain_pass q_after) h.0 g.first.number g.second.number g.serves
-        (with_start p.start p_now.start (plain_pass p_now) (plain_pass q_now) (plain_pass p_after) (plain_pass q_after) h.0 g.first.start h.1)
-        (with_start_passed p.start p_now.start now new h.0 g.first.start h.2);
-  }
+  -- with one more connection
+  abbrev goes_then : (p q p_now q_now p_after q_after : PassState WorldEntry Start) (old now new : L) (x : Link I S) → LaneGoes p q p_now q_now old now
+      → ServesLink t p_now.start (plain_pass p_now) (plain_pass q_now) (plain_pass p_after) (plain_pass q_after) x → PassesLink t p_now.start now new x
+      → ServesLane t p.start p.number q.number old new (plain_pass p_after).seen (plain_pass q_after).seen
+  goes_then p q p_now q_now p_after q_after old now new x g serves passes =
+      lane_then t p.start p.number q.number old now new (plain_pass p_now) (plain_pass q_now) (plain_pass p_after) (plain_pass q_after) x g.first.number g.second.number g.serves
+      (with_start p.start p_now.start (plain_pass p_now) (plain_pass q_now) (plain_pass p_after) (plain_pass q_after) x g.first.start serves)
+      (with_start_passed p.start p_now.start now new x g.first.start passes)
 
-  -- the last connection
-  pub lane_stops : (p q p_now q_now p_after q_after : PassState WorldEntry Start) (old now new : L) → LaneGoes p q p_now q_now old now
-      → StepsLane t p_now.start Last (plain_pass p_now) (plain_pass q_now) (plain_pass p_after) (plain_pass q_after) now new
-      → ServesAll t p.start p.number q.number old new (plain_pass p_after).seen (plain_pass q_after).seen
-  lane_stops p q p_now q_now p_after q_after old now new g h = record {
-    serves = lane_then t p.start p.number q.number old now new (plain_pass p_now) (plain_pass q_now) (plain_pass p_after) (plain_pass q_after) h.0 g.first.number g.second.number g.serves
-        (with_start p.start p_now.start (plain_pass p_now) (plain_pass q_now) (plain_pass p_after) (plain_pass q_after) h.0 g.first.start h.1)
-        (with_start_passed p.start p_now.start now new h.0 g.first.start h.2);
-    at_end = inr (inr (g.serves.links, h.0, refl, h.3));
+  pub lane_goes : (p q p_now q_now p_after q_after : PassState WorldEntry Start) (old now new : L) → LaneGoes p q p_now q_now old now
+      → StepsLane t p_now.start None (plain_pass p_now) (plain_pass q_now) (plain_pass p_after) (plain_pass q_after) now new → LaneGoes p q p_after q_after old new
+  lane_goes p q p_now q_now p_after q_after old now new g h = record {
+    first = same_passes p p_now p_after g.first (same_of_plain p_now p_after h.1.0.first);
+    second = same_passes q q_now q_after g.second (same_of_plain q_now q_after h.1.0.second);
+    serves = goes_then p q p_now q_now p_after q_after old now new h.0 g h.1.0 h.1.1;
   }
 
   -- none was given
   rose_on : (a b c : ℕ) → a ≤ b → Rose b c → Rose a c
   rose_on a b c le r = omega (arith, le, r)
 
-  pub lane_ends : (p q p_now q_now p_after q_after : PassState WorldEntry Start) (old now new : L) → LaneGoes p q p_now q_now old now
-      → StepsLane t p_now.start Nothing (plain_pass p_now) (plain_pass q_now) (plain_pass p_after) (plain_pass q_after) now new
-      → ServesAll t p.start p.number q.number old new (plain_pass p_after).seen (plain_pass q_after).seen
-  lane_ends p q p_now q_now p_after q_after old now new g h =
+  abbrev goes_none : (p q p_now q_now p_after q_after : PassState WorldEntry Start) (old now new : L) → LaneGoes p q p_now q_now old now
+      → PassesNone t p_now.start (plain_pass p_now) (plain_pass q_now) (plain_pass p_after) (plain_pass q_after) now new
+      → ServesLane t p.start p.number q.number old new (plain_pass p_after).seen (plain_pass q_after).seen
+  goes_none p q p_now q_now p_after q_after old now new g h =
       let s = g.serves in
       let a = s.later in
       let b = h.later in record {
-        serves = record {
-          links = s.links;
-          order = record {
-            came = s.order.came ∙ ap (prepend_items (map (λ (y : Link I S). (y.input, y.output)) s.links)) (sym h.came);
-            went = h.went ∙ s.order.went;
-            lent = h.lent ∙ s.order.lent;
-          };
-          later = omega (arith, a, b);
-          lane = subst (λ (z : WorldPass). IsLane session_of_link one_of_link other_of_link p.number q.number z.seen (plain_pass q_after).seen s.links) (sym h.first)
-              (subst (λ (z : WorldPass). IsLane session_of_link one_of_link other_of_link p.number q.number (plain_pass p_now).seen z.seen s.links) (sym h.second) s.lane);
-          each = subst (λ (z : WorldPass). ForEachItem (IsMet t p.start z.seen (plain_pass q_after).seen) s.links) (sym h.first)
-              (subst (λ (z : WorldPass). ForEachItem (IsMet t p.start (plain_pass p_now).seen z.seen) s.links) (sym h.second) s.each);
+        links = s.links;
+        order = record {
+          came = s.order.came ∙ ap (prepend_items (map (λ (y : Link I S). (y.input, y.output)) s.links)) (sym h.came);
+          went = h.went ∙ s.order.went;
+          lent = h.lent ∙ s.order.lent;
         };
-        at_end = ⊎_elim (λ none. inl none) (λ rose. inr (inl (rose_on (t.faults old) (t.faults now) (t.faults new) s.later rose))) h.why;
+        later = omega (arith, a, b);
+        lane = subst (λ (z : WorldPass). IsLane session_of_link one_of_link other_of_link p.number q.number z.seen (plain_pass q_after).seen s.links) (sym h.first)
+            (subst (λ (z : WorldPass). IsLane session_of_link one_of_link other_of_link p.number q.number (plain_pass p_now).seen z.seen s.links) (sym h.second) s.lane);
+        each = subst (λ (z : WorldPass). ForEachItem (IsMet t p.start z.seen (plain_pass q_after).seen) s.links) (sym h.first)
+            (subst (λ (z : WorldPass). ForEachItem (IsMet t p.start (plain_pass p_now).seen z.seen) s.links) (sym h.second) s.each);
       }
+
+  -- a lane ended
+  pub lane_ends : (end : LaneEnd) (p q p_now q_now p_after q_after : PassState WorldEntry Start) (old now new : L) → LaneGoes p q p_now q_now old now
+      → StepsLane t p_now.start (Some end) (plain_pass p_now) (plain_pass q_now) (plain_pass p_after) (plain_pass q_after) now new
+      → ServesAll t p.start p.number q.number end old new (plain_pass p_after).seen (plain_pass q_after).seen
+  lane_ends stop.Quit p q p_now q_now p_after q_after old now new g h = record {
+    serves = goes_then p q p_now q_now p_after q_after old now new h.0 g h.1.0 h.1.1;
+    ends = (g.serves.links, h.0, refl, h.2);
+  }
+  lane_ends stop.Spent p q p_now q_now p_after q_after old now new g h = record {
+    serves = goes_then p q p_now q_now p_after q_after old now new h.0 g h.1.0 h.1.1;
+    ends = (g.serves.links, h.0, refl, h.2);
+  }
+  lane_ends stop.Done p q p_now q_now p_after q_after old now new g h = record {
+    serves = goes_none p q p_now q_now p_after q_after old now new g h.0;
+    ends = h.1;
+  }
+  lane_ends stop.Failed p q p_now q_now p_after q_after old now new g h = record {
+    serves = goes_none p q p_now q_now p_after q_after old now new g h.0;
+    ends = rose_on (t.faults old) (t.faults now) (t.faults new) g.serves.later h.1;
+  }

@@ -9,6 +9,7 @@ use Rattle.nv_turn.specs.Story.{Has, HasEachUpTo, entries_by}
 use Rattle.nv_turn.specs.Passes.{PassState, TurnId, first_pass}
 use Rattle.nv_turn.proofs.Entries.{has_one}
 use Rattle.nv_turn.proofs.Prefixes.{prefix_self}
+use Rattle.nv_io.specs.Faults.{Rose}
 use Rattle.nv_io.specs.Known.{ForEachItem}
 use Rattle.nv_io.specs.declared.ending.Ended.{Ended}
 use Rattle.nv_io.specs.declared.ending.Ended.TheVariants.{Quit}
@@ -24,18 +25,21 @@ use Rattle.nv_world.specs.declared.story.Start.{Start}
 use Rattle.nv_halves.specs.Passes.{world_of_run, IsClosedBy}
 use Rattle.nv_halves.specs.Laws.{own_close, SessionsAskInOrder, QuitsAreEnds}
 use Rattle.nv_halves.proofs.Plains.{own_plain, plain_begins}
-use Rattle.nv_session.specs.Openings.{opening_entry}
+use Rattle.nv_session.specs.Openings.{opening_entry, IsWhyUnopened}
 use Rattle.nv_session.specs.Connections.{ConnectionEnds, Traffic, traffic_of}
-use Rattle.nv_serve.specs.Links.{LanesTell, Link, ServesInOrder, IsAtEnd}
+use Rattle.nv_serve.specs.Links.{LanesTell, Link, ServesInOrder, IsAtEnd, IsLastEnd}
 use Rattle.nv_serve.specs.Jobs.{lanes_of}
-use Rattle.nv_serve.specs.Headline.{session_in, WasNoSession, WasSession, Headline}
+use Rattle.nv_serve.specs.Headline.{session_in, WasNoSession, WasSession, Headline, HasEnd, IsServed, AreServed, AreServedOrFailed, HasFault, ServerLeaves}
 use Rattle.nv_serve.specs.declared.job.Job.{Job}
+use Rattle.nv_serve.specs.declared.job.LaneEnd.{LaneEnd}
+use Rattle.nv_serve.specs.declared.job.LaneEnd.TheVariants as stop
 use Rattle.nv_serve.specs.inside.Sharing.{first_number, second_number, HasLaneCaller, IsLane}
-use Rattle.nv_serve.specs.inside.Lanes.{session_of_link, one_of_link, other_of_link, IsLaneOfLinks, MetAsNone, MetAsSession, IsMet, ServesAll}
-use Rattle.nv_serve.specs.inside.Jobs.{caller_of, PassesOf, AreReady, IsDealt, AreDealt, ServesJob, ServesJobs, HavePasses, StartsAsLane, IsJoined, AreJoined}
+use Rattle.nv_serve.specs.inside.Lanes.{session_of_link, one_of_link, other_of_link, IsLaneOfLinks, MetAsNone, MetAsSession, IsMet, IsLastOf, HasLast, EndsLane, ServesAll}
+use Rattle.nv_serve.specs.inside.Jobs.{caller_of, PassesOf, AreReady, IsDealt, AreDealt, ServesJob, ServesJobs, HavePasses, StartsAsLane, IsJoined, AreJoined, is_failed, saw_spent, HasNoneEnded, HasOneEnded}
 use Rattle.nv_serve.proofs.Members.{In, place, at_place}
 use Rattle.nv_serve.proofs.Sharing.{in_own, opened_within, opened_at, apart, owner, takes_are, calls_are}
 use Rattle.nv_serve.proofs.Chaining.{own_seen, lane_on}
+use Rattle.nv_serve.proofs.Ending.{ended_stays}
 
 -- ---- numbers of passes
 
@@ -71,17 +75,20 @@ module _ {L I S : Type 0} (t : LanesTell L I S) where
 
   -- the lane in what the last pass has seen
   lane_shown : (turn : TurnId) (start : Option Start) (i : ℕ) (old dealt run gone : Job L) (last : PassState WorldEntry Start) → IsDealt turn start i old dealt → ServesJob t dealt run → IsJoined run gone last
-      → ServesAll t start (first_number i) (second_number i) old.lane gone.lane (plain_entries last.seen) (plain_entries last.seen)
+      → (end : LaneEnd) × (run.end ≡ Some end) × ServesAll t start (first_number i) (second_number i) end old.lane gone.lane (plain_entries last.seen) (plain_entries last.seen)
   lane_shown turn start i old dealt run gone last d r j =
       let covers = j.covers r.after r.has in
       let one = has_first turn start i old dealt run d r in
       let two = has_second turn start i old dealt run d r in
-      let numbers = subst (λ (b : PassesOf). ServesAll t b.0.start b.0.number b.1.number dealt.lane run.lane (plain_entries r.after.0.seen) (plain_entries r.after.1.seen)) (before_is turn start i old dealt run d r) r.serves in
-      let lanes = subst (λ (l : L). ServesAll t start (first_number i) (second_number i) old.lane l (plain_entries r.after.0.seen) (plain_entries r.after.1.seen)) (sym j.lane_is)
-      (subst (λ (l : L). ServesAll t start (first_number i) (second_number i) l run.lane (plain_entries r.after.0.seen) (plain_entries r.after.1.seen)) d.lane_is numbers) in
-      lane_on t start (first_number i) (second_number i) old.lane gone.lane (plain_entries r.after.0.seen) (plain_entries last.seen) (plain_entries r.after.1.seen) (plain_entries last.seen)
-      (plain_begins r.after.0.seen last.seen covers.one.begins) (plain_begins r.after.1.seen last.seen covers.other.begins)
-      (own_seen (first_number i) r.after.0 last (covers.one.own_entries (first_number i) one)) (own_seen (second_number i) r.after.1 last (covers.other.own_entries (second_number i) two)) lanes
+      let numbers = subst (λ (b : PassesOf). ServesAll t b.0.start b.0.number b.1.number r.end dealt.lane run.lane (plain_entries r.after.0.seen) (plain_entries r.after.1.seen)) (before_is turn start i old dealt run d r) r.serves in
+      let lanes = subst (λ (l : L). ServesAll t start (first_number i) (second_number i) r.end old.lane l (plain_entries r.after.0.seen) (plain_entries r.after.1.seen)) (sym j.lane_is)
+      (subst (λ (l : L). ServesAll t start (first_number i) (second_number i) r.end l run.lane (plain_entries r.after.0.seen) (plain_entries r.after.1.seen)) d.lane_is numbers) in (
+        r.end,
+        r.end_is,
+        lane_on t start (first_number i) (second_number i) r.end old.lane gone.lane (plain_entries r.after.0.seen) (plain_entries last.seen) (plain_entries r.after.1.seen) (plain_entries last.seen)
+            (plain_begins r.after.0.seen last.seen covers.one.begins) (plain_begins r.after.1.seen last.seen covers.other.begins)
+            (own_seen (first_number i) r.after.0 last (covers.one.own_entries (first_number i) one)) (own_seen (second_number i) r.after.1 last (covers.other.own_entries (second_number i) two)) lanes,
+      )
 
   -- ---- all jobs
 
@@ -149,6 +156,11 @@ lane_at [] i d lane h = absurd (none-some lane h)
 lane_at (j ∷ jobs) zero d lane h = (omega arith, same_Some j.lane lane h)
 lane_at (j ∷ jobs) (suc i) d lane h = let k = lane_at jobs i d lane h in let lt = k.0 in (omega (arith, lt), k.1)
 
+lane_there : {L : Type 0} (jobs : List (Job L)) (i : ℕ) (d : Job L) → i < length jobs → slice_get (lanes_of jobs) i ≡ Some (slice_index_or jobs i d).lane
+lane_there [] i d lt = absurd (omega arith)
+lane_there (j ∷ jobs) zero d lt = refl
+lane_there (j ∷ jobs) (suc i) d lt = lane_there jobs i d (omega arith)
+
 lanes_length : {L : Type 0} (jobs : List (Job L)) → length (lanes_of jobs) ≡ length jobs
 lanes_length [] = refl
 lanes_length (j ∷ jobs) = ap suc (lanes_length jobs)
@@ -178,16 +190,44 @@ opened_there start found history w n s law runs p is =
     let x = some_at w.sessions (opened_in 0 found) (omega (arith, below, count)) in
     (x.0, ap (session_of w) is ∙ x.1)
 
+not_true : true ≡ false → ⊥
+not_true e = cc (e)
+
+failed_is : (e : LaneEnd) → is_failed (Some e) ≡ true → e ≡ stop.Failed
+failed_is stop.Done h = absurd (cc (h))
+failed_is stop.Failed h = refl
+failed_is stop.Quit h = absurd (cc (h))
+failed_is stop.Spent h = absurd (cc (h))
+
+-- how a lane ended is an end of a lane
+at_end_of : {L I S : Type 0} (t : LanesTell L I S) (end : LaneEnd) (old new : L) (links : List (Link I S)) → EndsLane t end old new links → IsAtEnd t old new links
+at_end_of t end old new links h = by_end end h
+  where
+    quits : (how : Ended) → IsLastOf stop.Quit how → IsLastEnd how
+    quits how h = subst IsLastEnd (sym h.1) tt
+
+    wants : (how : Ended) → IsLastOf stop.Spent how → IsLastEnd how
+    wants how h = subst IsLastEnd (sym h) tt
+
+    by_end : (end : LaneEnd) → EndsLane t end old new links → IsAtEnd t old new links
+    by_end stop.Done h = inl h
+    by_end stop.Failed h = inr (inl h)
+    by_end stop.Quit h = inr (inr (h.0, h.1, h.2, quits h.1.over.how h.3))
+    by_end stop.Spent h = inr (inr (h.0, h.1, h.2, wants h.1.over.how h.3))
+
 -- ---- the headline
 
-module _ {L I S : Type 0} (t : LanesTell L I S) (start : Start) (kept : List Entry) (olds lasts : List (Job L)) (d : Job L) (len : length lasts ≡ length olds)
-    (each : (i : ℕ) → i < length olds → ServesAll t (Some start) (first_number i) (second_number i) (slice_index_or olds i d).lane (slice_index_or lasts i d).lane kept kept)
+module _ {L I S : Type 0} (t : LanesTell L I S) (start : Start) (kept : List Entry) (olds ran lasts : List (Job L)) (d : Job L) (len : length lasts ≡ length olds) (ran_len : length ran ≡ length olds)
+    (each : (i : ℕ) → i < length olds → (end : LaneEnd) × ((slice_index_or ran i d).end ≡ Some end)
+    × ServesAll t (Some start) (first_number i) (second_number i) end (slice_index_or olds i d).lane (slice_index_or lasts i d).lane kept kept)
     (called : (e : Entry) → In e kept → HasLaneCaller (length olds) e) (world : World) (runs : world_of_run (Some start) kept ≡ Some world)
     (asks : SessionsAskInOrder) (quits : QuitsAreEnds) (counts : HistoriesCount) where
   record Shown (i : ℕ) (links : List (Link I S)) : Type 0 where
     order : ServesInOrder t (slice_index_or olds i d).lane (slice_index_or lasts i d).lane links
     later : t.faults (slice_index_or olds i d).lane ≤ t.faults (slice_index_or lasts i d).lane
-    at_end : IsAtEnd t (slice_index_or olds i d).lane (slice_index_or lasts i d).lane links
+    end : LaneEnd
+    end_is : (slice_index_or ran i d).end ≡ Some end
+    ends : EndsLane t end (slice_index_or olds i d).lane (slice_index_or lasts i d).lane links
     lane : IsLaneOfLinks (first_number i) (second_number i) kept kept links
     each_met : ForEachItem (IsMet t (Some start) kept kept) links
 
@@ -207,8 +247,8 @@ module _ {L I S : Type 0} (t : LanesTell L I S) (start : Start) (kept : List Ent
       by_test : (b : Bool) → nat_lt i (length olds) ≡ b → Chosen i
       by_test true e =
           let h = each i (is_below i (length olds) e) in record {
-            links = h.serves.links;
-            shown = λ _. record { order = h.serves.order; later = h.serves.later; at_end = h.at_end; lane = h.serves.lane; each_met = h.serves.each };
+            links = h.2.serves.links;
+            shown = λ _. record { order = h.2.serves.order; later = h.2.serves.later; end = h.0; end_is = h.1; ends = h.2.ends; lane = h.2.serves.lane; each_met = h.2.serves.each };
           }
       by_test false e = record { links = []; shown = λ lt. absurd (not_below i (length olds) e lt) }
 
@@ -284,7 +324,7 @@ module _ {L I S : Type 0} (t : LanesTell L I S) (start : Start) (kept : List Ent
     links = links;
     lanes = lanes_length lasts ∙ len ∙ sym (lanes_length olds);
     in_order = λ i old new at_old at_new. in_lanes (λ l m. ServesInOrder t l m (links i)) i old new at_old at_new (λ lt. (shown i lt).order);
-    at_end = λ i old new at_old at_new. in_lanes (λ l m. IsAtEnd t l m (links i)) i old new at_old at_new (λ lt. (shown i lt).at_end);
+    at_end = λ i old new at_old at_new. in_lanes (λ l m. IsAtEnd t l m (links i)) i old new at_old at_new (λ lt. let s = shown i lt in at_end_of t s.end (slice_index_or olds i d).lane (slice_index_or lasts i d).lane (links i) s.ends);
     later = λ i old new at_old at_new. in_lanes (λ l m. t.faults l ≤ t.faults m) i old new at_old at_new (λ lt. (shown i lt).later);
     each = λ i k x lt h. each_link i k x (fewer i lt) h;
     apart = λ i j k l x y lt_i lt_j at_x at_y some same. apart_links i j k l x y (fewer i lt_i) (fewer j lt_j) at_x at_y some same;
@@ -297,6 +337,58 @@ module _ {L I S : Type 0} (t : LanesTell L I S) (start : Start) (kept : List Ent
       more : (i : ℕ) → i < length olds → i < length (lanes_of olds)
       more i lt = subst (λ (n : ℕ). i < n) (sym (lanes_length olds)) lt
 
+  -- the end of the world by which the last connection of a lane ended
+  unopened_end : (how : Ended) (entry : ℕ) (seen : List Entry) → how ≡ Quit entry → IsPrefix seen kept → IsWhyUnopened how (Some start) seen → HasEnd t start kept
+  unopened_end how entry seen is begins why =
+      let w = subst (λ (h : Ended). IsWhyUnopened h (Some start) seen) is why in
+      (world, entry, runs, ended_stays (Some start) seen kept w.0 world entry w.1 w.2 begins runs)
+
+  ended_by : (x : Link I S) (entry : ℕ) → x.over.how ≡ Quit entry → WasNoSession t start kept x ⊎ WasSession t start kept world x → HasEnd t start kept
+  ended_by x entry is (inl none) = unopened_end x.over.how entry none.seen is none.begins none.why
+  ended_by x entry is (inr some) = (world, entry, runs, some.quits entry is)
+
+  has_end : (i : ℕ) → i < length olds → HasLast t stop.Quit (links i) → HasEnd t start kept
+  has_end i lt h = ended_by h.1 h.3.0 h.3.1 (each_link i (length h.0) h.1 lt (at_place (links i) h.0 [] h.1 h.2))
+
+  -- how a lane ended, unless for want of memory
+  lane_over : (i : ℕ) → i < length olds → (end : LaneEnd) → EndsLane t end (slice_index_or olds i d).lane (slice_index_or lasts i d).lane (links i) → (end ≡ stop.Spent → ⊥)
+      → ((end ≡ stop.Failed) × Rose (t.faults (slice_index_or olds i d).lane) (t.faults (slice_index_or lasts i d).lane)) ⊎ IsServed t start kept (slice_index_or lasts i d).lane
+  lane_over i lt stop.Done h other = inr (inl h)
+  lane_over i lt stop.Failed h other = inl (refl, h)
+  lane_over i lt stop.Quit h other = inr (inr (has_end i lt h))
+  lane_over i lt stop.Spent h other = absurd (other refl)
+
+  -- a lane that didn't end so
+  not_ended : (so : Option LaneEnd → Bool) (other : LaneEnd) (i : ℕ) → so (Some other) ≡ true → HasNoneEnded so ran → i < length olds → (s : Shown i (links i)) → s.end ≡ other → ⊥
+  not_ended so other i so_is none lt s is =
+      not_true (sym so_is ∙ sym (ap (λ (e : LaneEnd). so (Some e)) is) ∙ sym (ap so s.end_is) ∙ none i d (omega (arith, lt, ran_len)))
+
+  pub are_over : HasNoneEnded saw_spent ran → AreServedOrFailed t start kept (lanes_of olds) (lanes_of lasts)
+  are_over none i old new at_old at_new =
+      in_lanes (λ l m. Rose (t.faults l) (t.faults m) ⊎ IsServed t start kept m) i old new at_old at_new (λ lt. let s = shown i lt in ⊎_elim (λ f. inl f.1) (λ h. inr h) (lane_over i lt s.end s.ends (not_ended saw_spent stop.Spent i refl none lt s)))
+
+  pub are_served : HasNoneEnded saw_spent ran → HasNoneEnded is_failed ran → AreServed t start kept (lanes_of lasts)
+  are_served none well i new at_new =
+      let b = lane_at lasts i d new at_new in
+      let lt : i < length olds = (let below = b.0 in omega (arith, below, len)) in
+      let s = shown i lt in
+      subst (IsServed t start kept) b.1 (⊎_elim (λ f. absurd (not_ended is_failed stop.Failed i refl well lt s f.0)) (λ h. h) (lane_over i lt s.end s.ends (not_ended saw_spent stop.Spent i refl none lt s)))
+
+  pub has_fault : HasOneEnded is_failed ran → HasFault t start kept (lanes_of olds) (lanes_of lasts)
+  has_fault some =
+      let i = some.0 in
+      let below = some.1 in
+      let lt : i < length olds = omega (arith, below, ran_len) in
+      let s = shown i lt in
+      let is : s.end ≡ stop.Failed = failed_is s.end (sym (ap is_failed s.end_is) ∙ some.2 d) in (
+        i,
+        (slice_index_or olds i d).lane,
+        (slice_index_or lasts i d).lane,
+        lane_there olds i d lt,
+        lane_there lasts i d (omega (arith, lt, len)),
+        subst (λ (e : LaneEnd). EndsLane t e (slice_index_or olds i d).lane (slice_index_or lasts i d).lane (links i)) is s.ends,
+      )
+
 -- ---- and all together
 
 runs_as : (k : WorldRecord) (start : Start) (seen : List WorldEntry) → IsSome (model_of k) → k.history ≡ seen → record { outbox = k.capacity; limits = k.limits } ≡ start
@@ -306,24 +398,33 @@ runs_as k start seen some history is =
     (w.0, ap (λ (s : Start). world_of_run (Some s) (plain_entries seen)) (sym is) ∙ ap (λ (l : List WorldEntry). world_of_run (Some (record { outbox = k.capacity; limits = k.limits })) (plain_entries l)) (sym history) ∙ w.1)
 
 module _ {L I S : Type 0} (t : LanesTell L I S) where
-  shows_with : (turn : TurnId) (start : Start) (olds dealt run lasts : List (Job L)) (d : Job L) (last : PassState WorldEntry Start) (k : WorldRecord) → 0 < length olds → length dealt ≡ length olds → length run ≡ length dealt → length lasts ≡ length run
-      → AreDealt turn (Some start) olds dealt → ServesJobs t dealt run → AreJoined run lasts last → ((e : Job L) → StartsAsLane (slice_index_or run 0 e) last)
+  shows_with : (turn : TurnId) (start : Start) (olds dealt run lasts : List (Job L)) (d : Job L) (last : PassState WorldEntry Start) (k : WorldRecord) (spent failed : Bool) → 0 < length olds → length dealt ≡ length olds
+      → length run ≡ length dealt → length lasts ≡ length run → AreDealt turn (Some start) olds dealt → ServesJobs t dealt run → AreJoined run lasts last → ((e : Job L) → StartsAsLane (slice_index_or run 0 e) last)
       → ((c : ℕ) → (c ≡ 0) ⊎ (2 * length olds < c) → entries_by caller_of c last.seen ≡ []) → k.history ≡ last.seen → last.start ≡ Some (record { outbox = k.capacity; limits = k.limits }) → IsSome (model_of k)
-      → SessionsAskInOrder → QuitsAreEnds → HistoriesCount → Headline t start (plain_entries last.seen) (lanes_of olds) (lanes_of lasts)
-  shows_with turn start olds dealt run lasts d last k some len run_len last_len deals serves joined begins callers history begun model asks quits counts =
+      → SessionsAskInOrder → QuitsAreEnds → HistoriesCount → (spent ≡ false → HasNoneEnded saw_spent run) → (failed ≡ false → HasNoneEnded is_failed run) → (failed ≡ true → HasOneEnded is_failed run)
+      → ServerLeaves t start (plain_entries last.seen) spent failed (lanes_of olds) (lanes_of lasts)
+  shows_with turn start olds dealt run lasts d last k spent failed some len run_len last_len deals serves joined begins callers history begun model asks quits counts no_spent no_failed has_failed =
       let first_dealt = deals 0 d some in
       let first_served = serves 0 d (omega (arith, some, len)) in
       let first_start = begins d first_served.after first_served.has ∙ first_served.first.start
       ∙ ap (λ (b : PassesOf). b.0.start) (before_is t turn (Some start) 0 (slice_index_or olds 0 d) (slice_index_or dealt 0 d) (slice_index_or run 0 d) first_dealt first_served) in
       let start_is : record { outbox = k.capacity; limits = k.limits } ≡ start = same_Some (record { outbox = k.capacity; limits = k.limits }) start (sym begun ∙ first_start) in
       let w = runs_as k start last.seen model history start_is in
-      headline t start (plain_entries last.seen) olds lasts d (last_len ∙ run_len ∙ len)
-      (λ i lt. lane_shown t turn (Some start) i (slice_index_or olds i d) (slice_index_or dealt i d) (slice_index_or run i d) (slice_index_or lasts i d) last (deals i d lt) (serves i d (omega (arith, lt, len))) (joined i d (omega (arith, lt, len, run_len))))
-      (called_by (length olds) last callers) w.0 w.1 asks quits counts
+      let all = last_len ∙ run_len ∙ len in
+      let ran = run_len ∙ len in
+      let each = λ (i : ℕ) (lt : i < length olds). lane_shown t turn (Some start) i (slice_index_or olds i d) (slice_index_or dealt i d) (slice_index_or run i d) (slice_index_or lasts i d) last
+      (deals i d lt) (serves i d (omega (arith, lt, len))) (joined i d (omega (arith, lt, len, run_len))) in
+      let called = called_by (length olds) last callers in record {
+        served = headline t start (plain_entries last.seen) olds run lasts d all ran each called w.0 w.1 asks quits counts;
+        over = λ e. are_over t start (plain_entries last.seen) olds run lasts d all ran each called w.0 w.1 asks quits counts (no_spent e);
+        well = λ e f. are_served t start (plain_entries last.seen) olds run lasts d all ran each called w.0 w.1 asks quits counts (no_spent e) (no_failed f);
+        fault = λ f. has_fault t start (plain_entries last.seen) olds run lasts d all ran each called w.0 w.1 asks quits counts (has_failed f);
+      }
 
-  pub shows : (turn : TurnId) (start : Start) (olds dealt run lasts : List (Job L)) (last : PassState WorldEntry Start) (k : WorldRecord) → 0 < length olds → length dealt ≡ length olds → length run ≡ length dealt → length lasts ≡ length run
-      → AreDealt turn (Some start) olds dealt → ServesJobs t dealt run → AreJoined run lasts last → ((e : Job L) → StartsAsLane (slice_index_or run 0 e) last)
+  pub shows : (turn : TurnId) (start : Start) (olds dealt run lasts : List (Job L)) (last : PassState WorldEntry Start) (k : WorldRecord) (spent failed : Bool) → 0 < length olds → length dealt ≡ length olds
+      → length run ≡ length dealt → length lasts ≡ length run → AreDealt turn (Some start) olds dealt → ServesJobs t dealt run → AreJoined run lasts last → ((e : Job L) → StartsAsLane (slice_index_or run 0 e) last)
       → ((c : ℕ) → (c ≡ 0) ⊎ (2 * length olds < c) → entries_by caller_of c last.seen ≡ []) → k.history ≡ last.seen → last.start ≡ Some (record { outbox = k.capacity; limits = k.limits }) → IsSome (model_of k)
-      → SessionsAskInOrder → QuitsAreEnds → HistoriesCount → Headline t start (plain_entries last.seen) (lanes_of olds) (lanes_of lasts)
-  shows turn start [] dealt run lasts last k some = absurd (omega arith)
-  shows turn start (d ∷ olds) dealt run lasts last k some = shows_with turn start (d ∷ olds) dealt run lasts d last k some
+      → SessionsAskInOrder → QuitsAreEnds → HistoriesCount → (spent ≡ false → HasNoneEnded saw_spent run) → (failed ≡ false → HasNoneEnded is_failed run) → (failed ≡ true → HasOneEnded is_failed run)
+      → ServerLeaves t start (plain_entries last.seen) spent failed (lanes_of olds) (lanes_of lasts)
+  shows turn start [] dealt run lasts last k spent failed some = absurd (omega arith)
+  shows turn start (d ∷ olds) dealt run lasts last k spent failed some = shows_with turn start (d ∷ olds) dealt run lasts d last k spent failed some

@@ -1,5 +1,5 @@
 -- Lanes and their passes: dealing them, joining them, and what the one history shows then.
-use Rattle.std.proofs.Common.{◌≡◌, ◌≢◌, inl, inr, ⊎_elim, ℕ, zero, suc, ◌+◌, ◌<◌, ◌≤◌, List, [], ◌∷◌, ◌++◌, length, slice_index_or, slice_set, Option, Some, refl, ap, sym, ◌∙◌, subst, arith}
+use Rattle.std.proofs.Common.{◌≡◌, ◌≢◌, inl, inr, ⊎_elim, ℕ, zero, suc, ◌+◌, ◌<◌, ◌≤◌, Bool, false, List, [], ◌∷◌, ◌++◌, length, slice_index_or, slice_set, Option, Some, refl, ap, sym, ◌∙◌, subst, arith}
 use mathlib.Core.Logic.{dite}
 use native.Mathlib.Decide.{ℕ_discrete}
 use Rattle.nv_turn.specs.Story.{Has}
@@ -9,6 +9,7 @@ use Rattle.nv_turn.proofs.Prefixes.{prefix_trans}
 use Rattle.nv_world.specs.declared.entry.Entry.{Entry as WorldEntry}
 use Rattle.nv_world.specs.declared.story.Start.{Start}
 use Rattle.nv_serve.specs.declared.job.Job.{Job}
+use Rattle.nv_serve.specs.declared.job.LaneEnd.{LaneEnd}
 use Rattle.nv_serve.specs.inside.Sharing.{first_number, second_number}
 use Rattle.nv_serve.specs.inside.Jobs.{caller_of, IsDealt, Covers, StartsAsLane, IsJoined}
 
@@ -35,6 +36,22 @@ set_beside (x ∷ xs) zero zero v d ne = absurd (ne refl)
 set_beside (x ∷ xs) zero (suc i) v d ne = refl
 set_beside (x ∷ xs) (suc k) zero v d ne = refl
 set_beside (x ∷ xs) (suc k) (suc i) v d ne = set_beside xs k i v d (λ e. ne (ap suc e))
+
+-- ---- how lanes ended
+
+-- none of the lanes up to this one ended so
+pub none_next : {L : Type 0} (so : Option LaneEnd → Bool) (jobs : List (Job L)) (k : ℕ) (item : Job L) → k < length jobs → item ≡ slice_index_or jobs k item → so item.end ≡ false
+    → ((i : ℕ) (d : Job L) → i < k → so (slice_index_or jobs i d).end ≡ false) → (i : ℕ) (d : Job L) → i < k + 1 → so (slice_index_or jobs i d).end ≡ false
+none_next {L} so jobs k item below here not_so before i d lt = dite (ℕ_discrete i k) at beside
+  where
+    at : i ≡ k → so (slice_index_or jobs i d).end ≡ false
+    at e = subst (λ (n : ℕ). so (slice_index_or jobs n d).end ≡ false) (sym e) (ap (λ (j : Job L). so j.end) (index_same jobs k d item below ∙ sym here) ∙ not_so)
+
+    beside : (i ≡ k → ⊥) → so (slice_index_or jobs i d).end ≡ false
+    beside ne = before i d (fewer i k lt ne)
+      where
+        fewer : (i k : ℕ) → i < k + 1 → (i ≡ k → ⊥) → i < k
+        fewer i k lt ne = dite (ℕ_discrete i k) (λ e. absurd (ne e)) (λ other. omega (arith, lt, other))
 
 -- ---- dealing
 

@@ -1,8 +1,9 @@
--- What a server did: each connection of each lane in the one history that was kept (own rule;
--- MessagePack-RPC specification).
-use Rattle.std.specs.Prelude.{◌≡◌, ◌≢◌, ◌⊎◌, ℕ, suc, ◌<◌, ◌≤◌, List, ◌∷◌, ◌++◌, length, map, slice_get, Some}
+-- What a server did: each connection of each lane in the one history that was kept, and how the
+-- lanes ended (own rule; MessagePack-RPC specification).
+use Rattle.std.specs.Prelude.{◌≡◌, ◌≢◌, ◌⊎◌, Bool, true, false, ℕ, suc, ◌<◌, ◌≤◌, List, ◌∷◌, ◌++◌, length, map, slice_get, Some}
 use mathlib.Core.List.{IsPrefix}
 use Rattle.nv_io.specs.Faults.{Rose}
+use Rattle.nv_io.specs.Known.{IsNoItem}
 use Rattle.nv_io.specs.Streams.{Gave}
 use Rattle.nv_io.specs.declared.ending.Ended.TheVariants.{ReadFault, WriteFault, Quit}
 use Rattle.nv_history.specs.Events.{Event, open_session, request_of, take_of, close_of, Entry}
@@ -78,3 +79,38 @@ module _ {L I S : Type 0} (t : LanesTell L I S) (start : Start) (kept : List Ent
         → (i : ℕ) × (k : ℕ) × (x : Link I S) × (i < length olds)
         × (slice_get (links i) k ≡ Some x)
         × (x.over.session ≡ session_in (opened_in 0 front) e.event)
+
+  -- ---- how the lanes ended
+
+  -- an entry of the history that was kept ended the world
+  abbrev pub HasEnd : Type 0
+  HasEnd =
+      (world : World) × (entry : ℕ) × (world_of_run (Some start) kept ≡ Some world)
+      × (world.ended ≡ Some entry)
+
+  -- a lane was served to the end: no connection is to come, where it tells that, or the world ended
+  abbrev pub IsServed : L → Type 0
+  IsServed lane = IsNoItem (t.coming lane) ⊎ HasEnd
+
+  abbrev pub AreServed : List L → Type 0
+  AreServed news = (i : ℕ) (new : L) → slice_get news i ≡ Some new → IsServed new
+
+  -- each lane was served to the end, or its count of faults rose
+  abbrev pub AreServedOrFailed : List L → List L → Type 0
+  AreServedOrFailed olds news = (i : ℕ) (old new : L) → slice_get olds i ≡ Some old
+      → slice_get news i ≡ Some new → Rose (t.faults old) (t.faults new) ⊎ IsServed new
+
+  -- the count of faults of a lane rose
+  abbrev pub HasFault : List L → List L → Type 0
+  HasFault olds news =
+      (i : ℕ) × (old : L) × (new : L) × (slice_get olds i ≡ Some old)
+      × (slice_get news i ≡ Some new) × Rose (t.faults old) (t.faults new)
+
+  -- How lanes are left that were served, where it is told whether memory was wanting to the world,
+  -- and whether a lane failed. Unless memory was wanting, each lane was served to the end or has a
+  -- fault; and each was served to the end where none failed.
+  pub record ServerLeaves (spent failed : Bool) (olds news : List L) : Type 0 where
+    pub served : Headline olds news
+    pub over : spent ≡ false → AreServedOrFailed olds news
+    pub well : spent ≡ false → failed ≡ false → AreServed news
+    pub fault : failed ≡ true → HasFault olds news

@@ -3,9 +3,9 @@ ghost use Rattle.std.specs.Prelude.{◌≡◌, ◌<◌, ◌≤◌, length, true}
 ghost use Rattle.nv_io.specs.Known.{IsOut};
 ghost use Rattle.nv_turn.specs.Passes.{IsSamePass};
 ghost use Rattle.nv_halves.specs.Passes.{plain_pass};
-ghost use Rattle.nv_serve.specs.Links.{IsLastEnd};
-ghost use Rattle.nv_serve.specs.inside.Lanes.{ArePassesOf, ReturnsLink, LooksOnly, ServesAll, StepsLane};
+ghost use Rattle.nv_serve.specs.inside.Lanes.{ArePassesOf, IfLast, ReturnsLink, LooksOnly, ServesAll, StepsLane};
 
+use crate::job::LaneEnd;
 use nv_halves::Bell;
 use nv_io::{Accepted, Ended, Lane};
 use nv_session::serve_one;
@@ -15,17 +15,6 @@ use std::alloc::Global;
 use std::net::{Net, TcpListener, TcpStream};
 use std::sync::Wait;
 use std::thread::Threads;
-
-/// What one accept of a lane came to.
-#[derive(Clone, Copy, Debug, PartialEq, Eq)]
-pub enum Step {
-    /// A connection was served.
-    On,
-    /// A connection was served, and it is the last one.
-    Last,
-    /// None was given.
-    Nothing,
-}
 
 // Whether memory was wanting to the world.
 fn is_spent<R: Wait>(rt: &R, turn: &Turn<World>, pass: Pass<World>) -> (Pass<World>, bool)
@@ -38,22 +27,25 @@ fn is_spent<R: Wait>(rt: &R, turn: &Turn<World>, pass: Pass<World>) -> (Pass<Wor
     (pass, spent)
 }
 
-// Whether a lane ends where its connection ended so: with the world, or where memory was wanting to
-// the world.
-fn is_last<R: Wait>(
+// How a lane ends whose connection ended so, where it does: with the world, or where memory was
+// wanting to the world.
+fn end_after<R: Wait>(
     rt: &R,
     turn: &Turn<World>,
     pass: Pass<World>,
     how: Ended,
-) -> (Pass<World>, bool)
+) -> (Pass<World>, Option<LaneEnd>)
     requires { pass.turn ≡ turn.now.turn }
     ensures looks { LooksOnly (plain_pass pass) (plain_pass result.0) }
-    ensures last { result.1 ≡ true → IsLastEnd how }
+    ensures last { IfLast result.1 how }
 {
     match how {
-        Ended::Quit(_) => (pass, true),
-        Ended::NoMemory => is_spent(rt, turn, pass),
-        _ => (pass, false),
+        Ended::Quit(_) => (pass, Some(LaneEnd::Quit)),
+        Ended::NoMemory => match is_spent(rt, turn, pass) {
+            (pass, true) => (pass, Some(LaneEnd::Spent)),
+            (pass, false) => (pass, None),
+        },
+        _ => (pass, None),
     }
 }
 
@@ -69,7 +61,7 @@ fn serve_link<R: Net<Listener = TcpListener, Stream = TcpStream> + Threads + Wai
     passes: (Pass<World>, Pass<World>),
     input: L::In,
     output: L::Out,
-) -> ((Pass<World>, Pass<World>), Step)
+) -> ((Pass<World>, Pass<World>), Option<LaneEnd>)
     requires turn { (passes.0.turn ≡ turn.now.turn) × (passes.1.turn ≡ turn.now.turn) }
     requires start { passes.1.start ≡ passes.0.start }
     requires number { number < length bells.now }
@@ -91,13 +83,13 @@ fn serve_link<R: Net<Listener = TcpListener, Stream = TcpStream> + Threads + Wai
 {
     let served = serve_one(rt, alloc, turn, bells, number, passes, input, output);
     let (first, second) = served.passes;
-    let (first, is_last) = is_last(rt, turn, first, served.how);
+    let (first, end) = end_after(rt, turn, first, served.how);
     lane.ended(served.input, served.output, served.session, served.how);
-    if is_last {
+    if end.is_some() {
         lane.wake(rt);
-        return ((first, second), Step::Last);
+        return ((first, second), end);
     }
-    ((first, second), Step::On)
+    ((first, second), end)
 }
 
 // Waits for the next connection of a lane, and serves it.
@@ -109,7 +101,7 @@ fn serve_next<R: Net<Listener = TcpListener, Stream = TcpStream> + Threads + Wai
     number: usize,
     lane: &mut L,
     passes: (Pass<World>, Pass<World>),
-) -> ((Pass<World>, Pass<World>), Step)
+) -> ((Pass<World>, Pass<World>), Option<LaneEnd>)
     requires turn { (passes.0.turn ≡ turn.now.turn) × (passes.1.turn ≡ turn.now.turn) }
     requires start { passes.1.start ≡ passes.0.start }
     requires number { number < length bells.now }
@@ -132,13 +124,14 @@ fn serve_next<R: Net<Listener = TcpListener, Stream = TcpStream> + Threads + Wai
         Accepted::Conn(input, output) => serve_link(
             rt, alloc, turn, bells, number, lane, passes, input, output,
         ),
-        Accepted::Done => (passes, Step::Nothing),
-        Accepted::Failed => (passes, Step::Nothing),
+        Accepted::Done => (passes, Some(LaneEnd::Done)),
+        Accepted::Failed => (passes, Some(LaneEnd::Failed)),
     }
 }
 
 /// Serves the connections of a lane, which has the bell of its number, one after another, until
-/// none is to come, its accept fails, or the world has ended or is spent.
+/// none is to come, its accept fails, or the world has ended or is spent. Gives its passes, and how
+/// it ended.
 pub(crate) fn serve_lane<
     R: Net<Listener = TcpListener, Stream = TcpStream> + Threads + Wait + Sync,
     L: Lane,
@@ -150,11 +143,11 @@ pub(crate) fn serve_lane<
     number: usize,
     lane: &mut L,
     passes: (Pass<World>, Pass<World>),
-) -> (Pass<World>, Pass<World>)
+) -> ((Pass<World>, Pass<World>), LaneEnd)
     requires passes { ArePassesOf turn.now.turn passes.0 passes.1 }
     requires number { number < length bells.now }
-    ensures first { IsSamePass passes.0 result.0 }
-    ensures second { IsSamePass passes.1 result.1 }
+    ensures first { IsSamePass passes.0 result.0.0 }
+    ensures second { IsSamePass passes.1 result.0.1 }
     ensures serves { ServesAll (record {
       ends = record {
         taken = L.In.taken;
@@ -167,17 +160,16 @@ pub(crate) fn serve_lane<
       over = L.over;
       lent = L.lent;
       faults = L.faults;
-    }) passes.0.start passes.0.number passes.1.number lane.old lane.new
-        (plain_pass result.0).seen (plain_pass result.1).seen }
+    }) passes.0.start passes.0.number passes.1.number result.1 lane.old lane.new
+        (plain_pass result.0.0).seen (plain_pass result.0.1).seen }
 {
     let mut passes = passes;
     'links: for _ in rt.forever() {
-        let (next, step) = serve_next(rt, alloc, turn, bells, number, lane, passes);
+        let (next, end) = serve_next(rt, alloc, turn, bells, number, lane, passes);
         passes = next;
-        match step {
-            Step::On => {}
-            Step::Last => return passes,
-            Step::Nothing => return passes,
+        match end {
+            None => {}
+            Some(end) => return (passes, end),
         }
     }
     unreachable!()

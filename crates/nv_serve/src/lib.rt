@@ -6,9 +6,13 @@
 #![tactic(auto)]
 
 mod dealing;
+#[cfg(test)]
+mod held_devices;
 mod job;
 mod lane;
 mod serving;
+#[cfg(test)]
+mod slow_reader_tests;
 #[cfg(test)]
 mod tests;
 

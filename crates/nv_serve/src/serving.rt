@@ -1,15 +1,15 @@
 // All lanes at once.
-ghost use Rattle.std.specs.Prelude.{◌≡◌, ◌<◌, ◌≤◌, ◌*◌, length, vec_len, IfOk, OnErr, Some};
+ghost use Rattle.std.specs.Prelude.{◌≡◌, ◌<◌, ◌≤◌, ◌*◌, ◌||◌, length, vec_len, IfOk, OnErr, Some, true, false};
 ghost use Rattle.std.specs.Thread.{IsSync};
 ghost use denote.Param.Send.{IsSend};
 ghost use Rattle.nv_turn.specs.Passes.{first_passes};
 ghost use Rattle.nv_world.specs.Contents.{plain_entries};
 ghost use Rattle.nv_serve.specs.Jobs.{lanes_of};
-ghost use Rattle.nv_serve.specs.Headline.{Headline};
-ghost use Rattle.nv_serve.specs.inside.Jobs.{AreReady, IsReadyJob, ServesJob, ServesJobs};
+ghost use Rattle.nv_serve.specs.Headline.{ServerLeaves};
+ghost use Rattle.nv_serve.specs.inside.Jobs.{AreReady, HasNoneEnded, HasOneEnded, IsReadyJob, ServesJob, ServesJobs, is_failed, saw_spent};
 
 use crate::dealing::{deal, join_all};
-use crate::job::Job;
+use crate::job::{Job, LaneEnd};
 use crate::lane::serve_lane;
 use nv_halves::{Bell, asking_law, quitting_law};
 use nv_history::count_laws;
@@ -22,12 +22,13 @@ use std::net::{Net, TcpListener, TcpStream};
 use std::sync::Wait;
 use std::thread::{self, Threads};
 
-/// What is left of a server that ended: the one history of all its sessions, and whether memory was
-/// wanting to the world.
+/// What is left of a server that ended: the one history of all its sessions, whether memory was
+/// wanting to the world, and whether the accept of a lane failed.
 #[derive(Drop)]
 pub struct Kept {
     pub history: History,
     pub spent: bool,
+    pub failed: bool,
 }
 
 // As many bells as there are lanes.
@@ -69,8 +70,9 @@ fn serve_job<R: Net<Listener = TcpListener, Stream = TcpStream> + Threads + Wait
     let Some(passes) = job.passes.take() else {
         unreachable!()
     };
-    let passes = serve_lane(rt, alloc, turn, bells, number, &mut job.lane, passes);
+    let (passes, end) = serve_lane(rt, alloc, turn, bells, number, &mut job.lane, passes);
     job.passes = Some(passes);
+    job.end = Some(end);
 }
 
 // Serves all lanes at once, each by a thread of its own.
@@ -121,6 +123,64 @@ fn run_lanes<
     );
 }
 
+// Whether a lane failed.
+fn is_failed(end: Option<LaneEnd>) -> bool
+    ensures { result ≡ is_failed end }
+{
+    match end {
+        Some(LaneEnd::Failed) => true,
+        Some(LaneEnd::Done | LaneEnd::Quit | LaneEnd::Spent) => false,
+        None => false,
+    }
+}
+
+// Whether a lane of these failed.
+fn has_failed<L>(jobs: &[Job<L>]) -> bool
+    ensures some { result ≡ true → HasOneEnded is_failed jobs.now }
+    ensures none { result ≡ false → HasNoneEnded is_failed jobs.now }
+{
+    for job in jobs {
+        if is_failed(job.end) {
+            return true;
+        }
+    }
+    false
+}
+
+// Whether a lane saw that memory was wanting to the world.
+fn saw_spent(end: Option<LaneEnd>) -> bool
+    ensures { result ≡ saw_spent end }
+{
+    match end {
+        Some(LaneEnd::Spent) => true,
+        Some(LaneEnd::Done | LaneEnd::Failed | LaneEnd::Quit) => false,
+        None => false,
+    }
+}
+
+// Whether a lane of these saw that.
+fn has_seen_spent<L>(jobs: &[Job<L>]) -> bool
+    ensures { result ≡ false → HasNoneEnded saw_spent jobs.now }
+{
+    for job in jobs {
+        if saw_spent(job.end) {
+            return true;
+        }
+    }
+    false
+}
+
+// Whether memory was wanting to a world: it says so, or a lane saw it so.
+fn was_spent(world: &World, seen: bool) -> bool
+    ensures spent { result ≡ (seen || world.now.spent) }
+    ensures none { result ≡ false → seen ≡ false }
+{
+    if seen {
+        return true;
+    }
+    world.spent()
+}
+
 // Serves all lanes on the world behind a turn, and closes it.
 fn serve_world<
     R: Net<Listener = TcpListener, Stream = TcpStream> + Threads + Wait + Sync,
@@ -140,7 +200,7 @@ fn serve_world<
         ≡ first_passes turn.turn (Some start) (2 * length jobs.old)) }
     ensures { (start : _) → passes.items
         ≡ first_passes turn.turn (Some start) (2 * length jobs.old)
-        → Headline (record {
+        → ServerLeaves (record {
           ends = record {
             taken = L.In.taken;
             left = L.In.left;
@@ -152,20 +212,23 @@ fn serve_world<
           over = L.over;
           lent = L.lent;
           faults = L.faults;
-        }) start (plain_entries result.history.entries) (lanes_of jobs.old)
-        (lanes_of jobs.new) }
+        }) start (plain_entries result.history.entries) result.spent result.failed
+        (lanes_of jobs.old) (lanes_of jobs.new) }
 {
     asking_law();
     quitting_law();
     count_laws();
     deal(&turn, passes, jobs);
     run_lanes(rt, alloc, &turn, bells, jobs);
+    let failed = has_failed(jobs);
+    let seen = has_seen_spent(jobs);
     let last = join_all(&turn, jobs);
     let world = turn.close(last);
-    let spent = world.spent();
+    let spent = was_spent(&world, seen);
     Kept {
         history: world.into_history(),
         spent,
+        failed,
     }
 }
 
@@ -184,7 +247,7 @@ pub fn serve<
     requires lanes { (0 < length jobs.old) × (length jobs.old ≤ 256) }
     requires outbox { (16 ≤ outbox) × (outbox ≤ 1048576) }
     requires entries { 1 ≤ limits.entries }
-    ensures served { IfOk result (λ kept. Headline (record {
+    ensures served { IfOk result (λ kept. ServerLeaves (record {
       ends = record {
         taken = L.In.taken;
         left = L.In.left;
@@ -197,7 +260,7 @@ pub fn serve<
       lent = L.lent;
       faults = L.faults;
     }) (record { outbox = outbox; limits = limits }) (plain_entries kept.history.entries)
-        (lanes_of jobs.old) (lanes_of jobs.new)) }
+        kept.spent kept.failed (lanes_of jobs.old) (lanes_of jobs.new)) }
     ensures none { OnErr result (jobs.new ≡ jobs.old) }
 {
     let count = jobs.len();

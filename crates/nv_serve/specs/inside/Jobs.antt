@@ -1,5 +1,5 @@
 -- inside: lanes with their passes.
-use Rattle.std.specs.Prelude.{◌≡◌, ◌⊎◌, ℕ, ◌*◌, ◌<◌, List, length, slice_index_or, Option, Some}
+use Rattle.std.specs.Prelude.{◌≡◌, ◌⊎◌, ℕ, ◌*◌, ◌<◌, Bool, true, false, List, length, slice_index_or, Option, Some, None}
 use Rattle.nv_turn.specs.Story.{Has}
 use Rattle.nv_turn.specs.Passes.{IsSamePass, SeesMore, PassState, TurnId, first_pass, first_passes}
 use Rattle.nv_world.specs.declared.entry.Entry.{Entry as WorldEntry}
@@ -7,11 +7,28 @@ use Rattle.nv_world.specs.declared.story.Start.{Start}
 use Rattle.nv_halves.specs.Passes.{plain_pass}
 use Rattle.nv_serve.specs.Links.{LanesTell}
 use Rattle.nv_serve.specs.declared.job.Job.{Job}
+use Rattle.nv_serve.specs.declared.job.LaneEnd.{LaneEnd}
+use Rattle.nv_serve.specs.declared.job.LaneEnd.TheVariants.{Done, Failed, Quit, Spent}
 use Rattle.nv_serve.specs.inside.Sharing.{first_number, second_number}
 use Rattle.nv_serve.specs.inside.Lanes.{ServesAll}
 
 abbrev pub caller_of : WorldEntry → ℕ
 caller_of e = e.caller
+
+-- whether a lane failed, and whether it saw that memory was wanting to the world
+abbrev pub is_failed : Option LaneEnd → Bool
+is_failed None = false
+is_failed (Some Done) = false
+is_failed (Some Failed) = true
+is_failed (Some Quit) = false
+is_failed (Some Spent) = false
+
+abbrev pub saw_spent : Option LaneEnd → Bool
+saw_spent None = false
+saw_spent (Some Done) = false
+saw_spent (Some Failed) = false
+saw_spent (Some Quit) = false
+saw_spent (Some Spent) = true
 
 -- the passes of a lane, where they are there
 abbrev pub PassesOf : Type 0
@@ -51,15 +68,17 @@ module _ {L : Type 0} where
   AreReady turn jobs =
       (i : ℕ) (d : Job L) → i < length jobs → IsReadyJob turn i (slice_index_or jobs i d)
 
--- a lane was served, by passes that it still has
+-- a lane was served, by passes that it still has, and ended
 pub record ServesJob {L I S : Type 0} (t : LanesTell L I S) (old new : Job L) : Type 0 where
   pub before : PassesOf
   pub after : PassesOf
   pub had : old.passes ≡ Some before
   pub has : new.passes ≡ Some after
+  pub end : LaneEnd
+  pub end_is : new.end ≡ Some end
   pub first : IsSamePass before.0 after.0
   pub second : IsSamePass before.1 after.1
-  pub serves : ServesAll t before.0.start before.0.number before.1.number old.lane new.lane
+  pub serves : ServesAll t before.0.start before.0.number before.1.number end old.lane new.lane
       (plain_pass after.0).seen (plain_pass after.1).seen
 
 -- each of them
@@ -100,3 +119,12 @@ module _ {L : Type 0} where
   AreJoined olds news r =
       (i : ℕ) (d : Job L) → i < length olds
       → IsJoined (slice_index_or olds i d) (slice_index_or news i d) r
+
+  -- a lane of these ended so, and none of them did
+  abbrev pub HasOneEnded : (Option LaneEnd → Bool) → List (Job L) → Type 0
+  HasOneEnded so jobs =
+      (i : ℕ) × (i < length jobs) × ((d : Job L) → so (slice_index_or jobs i d).end ≡ true)
+
+  abbrev pub HasNoneEnded : (Option LaneEnd → Bool) → List (Job L) → Type 0
+  HasNoneEnded so jobs =
+      (i : ℕ) (d : Job L) → i < length jobs → so (slice_index_or jobs i d).end ≡ false

@@ -1,12 +1,13 @@
 -- inside: what a lane's connections came to, in each history that goes on from what its passes have
 -- seen.
-use Rattle.std.specs.Prelude.{◌≡◌, ◌≢◌, ◌⊎◌, ℕ, ◌+◌, ◌≤◌, List, [], ◌∷◌, ◌++◌, Option, option_map}
+use Rattle.std.specs.Prelude.{◌≡◌, ◌≢◌, ◌⊎◌, ℕ, ◌+◌, ◌≤◌, List, [], ◌∷◌, ◌++◌, Option, Some, None, option_map, ⊤}
 use mathlib.Core.List.{IsPrefix}
 use Rattle.nv_turn.specs.Passes.{IsSamePass, PassState, TurnId}
 use Rattle.nv_io.specs.Faults.{Rose}
 use Rattle.nv_io.specs.Known.{append_items, prepend_items, IsNoItem, ForEachItem}
 use Rattle.nv_io.specs.Streams.{Gave}
-use Rattle.nv_io.specs.declared.ending.Ended.TheVariants.{ReadFault, WriteFault}
+use Rattle.nv_io.specs.declared.ending.Ended.{Ended}
+use Rattle.nv_io.specs.declared.ending.Ended.TheVariants.{ReadFault, WriteFault, Quit, NoMemory}
 use Rattle.nv_history.specs.Events.{Entry}
 use Rattle.nv_history.specs.Asking.{own, takes_by, calls_of}
 use Rattle.nv_world.specs.declared.entry.Entry.{Entry as WorldEntry}
@@ -14,10 +15,21 @@ use Rattle.nv_world.specs.declared.story.Start.{Start}
 use Rattle.nv_halves.specs.Passes.{WorldPass, OfEach}
 use Rattle.nv_session.specs.Openings.{IsWhyUnopened}
 use Rattle.nv_session.specs.Connections.{ConnectionEnds, traffic_of}
-use Rattle.nv_serve.specs.Links.{LanesTell, Link, ServesInOrder, IsAtEnd, IsLastEnd}
+use Rattle.nv_serve.specs.Links.{LanesTell, Link, ServesInOrder}
 use Rattle.nv_serve.specs.inside.Sharing.{IsIdle, IsOpened, IsLane}
-use Rattle.nv_serve.specs.declared.lane.Step.{Step}
-use Rattle.nv_serve.specs.declared.lane.Step.TheVariants.{On, Last, Nothing}
+use Rattle.nv_serve.specs.declared.job.LaneEnd.{LaneEnd}
+use Rattle.nv_serve.specs.declared.job.LaneEnd.TheVariants as stop
+
+-- the connection ended so with which a lane ended: with the world, or for want of memory
+abbrev pub IsLastOf : LaneEnd → Ended → Type 0
+IsLastOf stop.Done how = ⊥
+IsLastOf stop.Failed how = ⊥
+IsLastOf stop.Quit how = (entry : ℕ) × (how ≡ Quit entry)
+IsLastOf stop.Spent how = how ≡ NoMemory
+
+abbrev pub IfLast : Option LaneEnd → Ended → Type 0
+IfLast None how = ⊤
+IfLast (Some end) how = IsLastOf end how
 
 -- what a connection is to a shared history
 module _ {I S : Type 0} where
@@ -38,6 +50,21 @@ module _ {I S : Type 0} where
 
   abbrev pub IsLaneOfLinks : ℕ → ℕ → List Entry → List Entry → List (Link I S) → Type 0
   IsLaneOfLinks = IsLane session_of_link one_of_link other_of_link
+
+module _ {L I S : Type 0} (t : LanesTell L I S) where
+  -- the last of these connections is the one with which a lane ended
+  abbrev pub HasLast : LaneEnd → List (Link I S) → Type 0
+  HasLast end links =
+      (front : List (Link I S)) × (x : Link I S) × (links ≡ front ++ x ∷ [])
+      × IsLastOf end x.over.how
+
+  -- A lane, before and after, that served these connections ended so: none is to come, its accept
+  -- failed, or its last connection ended it.
+  abbrev pub EndsLane : LaneEnd → L → L → List (Link I S) → Type 0
+  EndsLane stop.Done old new links = IsNoItem (t.coming new)
+  EndsLane stop.Failed old new links = Rose (t.faults old) (t.faults new)
+  EndsLane stop.Quit old new links = HasLast stop.Quit links
+  EndsLane stop.Spent old new links = HasLast stop.Spent links
 
 module _ {L I S : Type 0} (t : LanesTell L I S) (start : Option Start) where
   -- a connection never was a session, since of what its first pass has seen
@@ -82,10 +109,11 @@ module _ {L I S : Type 0} (t : LanesTell L I S) (start : Option Start) where
       pub lane : IsLaneOfLinks n m first_seen second_seen links
       pub each : ForEachItem (IsMet first_seen second_seen) links
 
-  -- and then it serves no more
-  pub record ServesAll (n m : ℕ) (old new : L) (first_seen second_seen : List Entry) : Type 0 where
+  -- and then it ended so
+  pub record ServesAll (n m : ℕ) (end : LaneEnd) (old new : L)
+      (first_seen second_seen : List Entry) : Type 0 where
     pub serves : ServesLane n m old new first_seen second_seen
-    pub at_end : IsAtEnd t old new serves.links
+    pub ends : EndsLane t end old new serves.links
 
   -- ---- one connection
 
@@ -115,7 +143,6 @@ module _ {L I S : Type 0} (t : LanesTell L I S) (start : Option Start) where
     pub went : t.over new ≡ t.over old
     pub lent : t.lent new ≡ t.lent old
     pub later : t.faults old ≤ t.faults new
-    pub why : IsNoItem (t.coming new) ⊎ Rose (t.faults old) (t.faults new)
 
   -- a connection with these ends was served by two passes, and given back to its lane
   pub record GivesLink (p q p_after q_after : WorldPass) (old new : L) (input : I) (output : S)
@@ -128,23 +155,31 @@ module _ {L I S : Type 0} (t : LanesTell L I S) (start : Option Start) where
     pub lent : t.lent old ≡ option_map (λ n. n + 1) (t.lent new)
     pub later : t.faults old ≤ t.faults new
 
-  abbrev pub ReturnsLink : Step → WorldPass → WorldPass → WorldPass → WorldPass → L → L → I → S
-      → Type 0
-  ReturnsLink On p q p_after q_after old new input output =
-      (x : Link I S) × GivesLink p q p_after q_after old new input output x
-  ReturnsLink Last p q p_after q_after old new input output =
-      (x : Link I S) × GivesLink p q p_after q_after old new input output x
-      × IsLastEnd x.over.how
-  ReturnsLink Nothing p q p_after q_after old new input output = ⊥
+  -- and with it the lane ended, where it did
+  abbrev pub ReturnsLink : Option LaneEnd → WorldPass → WorldPass → WorldPass → WorldPass → L → L
+      → I → S → Type 0
+  ReturnsLink end p q p_after q_after old new input output =
+      (x : Link I S) × GivesLink p q p_after q_after old new input output x × IfLast end x.over.how
 
-  -- what one accept of a lane came to: a connection was served, the last one or another, or none
-  abbrev pub StepsLane : Step → WorldPass → WorldPass → WorldPass → WorldPass → L → L → Type 0
-  StepsLane On p q p_after q_after old new =
-      (x : Link I S) × ServesLink p q p_after q_after x × PassesLink old new x
-  StepsLane Last p q p_after q_after old new =
-      (x : Link I S) × ServesLink p q p_after q_after x × PassesLink old new x
-      × IsLastEnd x.over.how
-  StepsLane Nothing p q p_after q_after old new = PassesNone p q p_after q_after old new
+  -- a lane gave a connection, which was served, and took it back
+  abbrev pub ServesOne : WorldPass → WorldPass → WorldPass → WorldPass → L → L → Link I S → Type 0
+  ServesOne p q p_after q_after old new x =
+      ServesLink p q p_after q_after x × PassesLink old new x
+
+  -- what one accept of a lane came to: a connection was served, with which the lane ended or not;
+  -- or none was given, since none is to come, or the accept failed
+  abbrev pub StepsLane : Option LaneEnd → WorldPass → WorldPass → WorldPass → WorldPass → L → L
+      → Type 0
+  StepsLane None p q p_after q_after old new =
+      (x : Link I S) × ServesOne p q p_after q_after old new x
+  StepsLane (Some stop.Quit) p q p_after q_after old new =
+      (x : Link I S) × ServesOne p q p_after q_after old new x × IsLastOf stop.Quit x.over.how
+  StepsLane (Some stop.Spent) p q p_after q_after old new =
+      (x : Link I S) × ServesOne p q p_after q_after old new x × IsLastOf stop.Spent x.over.how
+  StepsLane (Some stop.Done) p q p_after q_after old new =
+      PassesNone p q p_after q_after old new × IsNoItem (t.coming new)
+  StepsLane (Some stop.Failed) p q p_after q_after old new =
+      PassesNone p q p_after q_after old new × Rose (t.faults old) (t.faults new)
 
 -- a pass that came in and added nothing
 pub record LooksOnly (p q : WorldPass) : Type 0 where

@@ -1,10 +1,10 @@
-use Rattle.std.proofs.Common.{ap, subst}
+use Rattle.std.proofs.Common.{ap, subst, Option}
 use Rattle.nv_world.specs.Contents.{plain_entries}
 use Rattle.nv_halves.specs.Passes.{plain_pass}
 use Rattle.nv_serve.specs.Links.{LanesTell}
 use Rattle.nv_serve.specs.inside.Lanes.{StepsLane}
-use Rattle.nv_serve.specs.declared.lane.Step.{Step}
-use Rattle.nv_serve.proofs.Chaining.{same_self, lane_begun, lane_goes, lane_stops}
+use Rattle.nv_serve.specs.declared.job.LaneEnd.{LaneEnd}
+use Rattle.nv_serve.proofs.Chaining.{same_self, lane_begun, lane_goes, lane_ends}
 use Rattle.nv_serve.proofs.lane.serve_lane.Goals as goal
 
 pub links-init : goal.links-init
@@ -35,13 +35,13 @@ links-preserved g c =
     } in
     let i = c.links.invariant in
     let n = c.serve_next-next in
-    let step = subst (λ (s : Step). StepsLane t c.links.passes.0.start s (plain_pass c.links.passes.0) (plain_pass c.links.passes.1) (plain_pass n.result.0.0) (plain_pass n.result.0.1) c.links.lane n.new.lane)
-    c.in-On.is n.ensures in
+    let step = subst (λ (s : Option LaneEnd). StepsLane t c.links.passes.0.start s (plain_pass c.links.passes.0) (plain_pass c.links.passes.1) (plain_pass n.result.0.0) (plain_pass n.result.0.1) c.links.lane n.new.lane)
+    c.in-None-end.is n.ensures in
     let r = lane_goes t c.args.passes.0 c.args.passes.1 c.links.passes.0 c.links.passes.1 n.result.0.0 n.result.0.1 c.args.lane.now c.links.lane n.new.lane (record { first = i.first; second = i.second; serves = i.serves }) step in
     record { first = r.first; second = r.second; serves = r.serves }
 
-pub returns-in-Last-clause-serves : goal.returns-in-Last-clause-serves
-returns-in-Last-clause-serves g c =
+pub returns-in-Some-end-clause-serves : goal.returns-in-Some-end-clause-serves
+returns-in-Some-end-clause-serves g c =
     let t : LanesTell _ _ _ = record {
       ends = record { taken = g.L.In.Source.taken; left = g.L.In.Source.left; sent = g.L.Out.Sink.taken; faults = g.L.Out.Sink.faults };
       read_faults = g.L.In.Source.faults;
@@ -52,6 +52,6 @@ returns-in-Last-clause-serves g c =
     } in
     let i = c.links.invariant in
     let n = c.serve_next-next in
-    let step = subst (λ (s : Step). StepsLane t c.links.passes.0.start s (plain_pass c.links.passes.0) (plain_pass c.links.passes.1) (plain_pass n.result.0.0) (plain_pass n.result.0.1) c.links.lane n.new.lane)
-    c.in-Last.is n.ensures in
-    lane_stops t c.args.passes.0 c.args.passes.1 c.links.passes.0 c.links.passes.1 n.result.0.0 n.result.0.1 c.args.lane.now c.links.lane n.new.lane (record { first = i.first; second = i.second; serves = i.serves }) step
+    let step = subst (λ (s : Option LaneEnd). StepsLane t c.links.passes.0.start s (plain_pass c.links.passes.0) (plain_pass c.links.passes.1) (plain_pass n.result.0.0) (plain_pass n.result.0.1) c.links.lane n.new.lane)
+    c.in-Some-end.is n.ensures in
+    lane_ends t c.in-Some-end.end c.args.passes.0 c.args.passes.1 c.links.passes.0 c.links.passes.1 n.result.0.0 n.result.0.1 c.args.lane.now c.links.lane n.new.lane (record { first = i.first; second = i.second; serves = i.serves }) step

@@ -4,7 +4,7 @@ use Rattle.nv_world.specs.Contents.{plain_entries}
 use Rattle.nv_world.specs.declared.entry.Entry.{Entry}
 use Rattle.nv_serve.specs.Links.{LanesTell}
 use Rattle.nv_serve.specs.Jobs.{lanes_of}
-use Rattle.nv_serve.specs.Headline.{Headline}
+use Rattle.nv_serve.specs.Headline.{ServerLeaves}
 use Rattle.nv_serve.proofs.Headlining.{all_ready, have_passes, has_all, shows}
 use Rattle.nv_serve.proofs.serving.serve_world.Goals as goal
 
@@ -61,7 +61,8 @@ returns g c start is =
     } in
     let j = c.join_all-last in
     let w = c.close-world in
-    subst (λ (l : List Entry). Headline t start (plain_entries l) (lanes_of c.args.jobs.now) (lanes_of j.new.jobs)) (sym (c.into_history.ensures.history ∙ w.ensures.seen))
-    (shows t c.args.turn.turn start c.args.jobs.now c.deal.new.jobs c.run_lanes.new.jobs j.new.jobs j.result w.result c.requires.some c.deal.ensures.length c.run_lanes.ensures.length j.ensures.length
+    subst (λ (l : List Entry). ServerLeaves t start (plain_entries l) c.was_spent-spent.result c.has_failed-failed.result (lanes_of c.args.jobs.now) (lanes_of j.new.jobs)) (sym (c.into_history.ensures.history ∙ w.ensures.seen))
+    (shows t c.args.turn.turn start c.args.jobs.now c.deal.new.jobs c.run_lanes.new.jobs j.new.jobs j.result w.result c.was_spent-spent.result c.has_failed-failed.result c.requires.some c.deal.ensures.length c.run_lanes.ensures.length j.ensures.length
     (c.deal.ensures.deals (Some start) is) c.run_lanes.ensures.serves j.ensures.joined j.ensures.start (λ n out. w.ensures.callers n (subst (λ (m : ℕ). (n ≡ 0) ⊎ (m < n)) (sym c.requires.count.0) out)) w.ensures.seen w.ensures.start
-    c.into_history.ensures.runs c.asking_law.ensures c.quitting_law.ensures c.count_laws.ensures.histories)
+    c.into_history.ensures.runs c.asking_law.ensures c.quitting_law.ensures c.count_laws.ensures.histories
+    (λ none. c.has_seen_spent-seen.ensures (c.was_spent-spent.ensures.none none)) c.has_failed-failed.ensures.none c.has_failed-failed.ensures.some)
