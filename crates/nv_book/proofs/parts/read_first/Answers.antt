@@ -1,0 +1,32 @@
+use Rattle.std.proofs.Common.{◌++◌, sym}
+use Rattle.std.proofs.lemmas.Result.{err_from_is_err_and}
+use Rattle.nv_value.specs.View.{content}
+use Rattle.nv_book.specs.inside.Parts.{IsNoFirst}
+use Rattle.nv_book.proofs.Backs.{outbox_told}
+use Rattle.nv_book.proofs.Standing.{gave_then, stops_any, told_value, here}
+use Rattle.nv_book.proofs.parts.read_first.Goals as goal
+
+pub returns-in_err-value-clause-reads : goal.returns-in_err-value-clause-reads
+returns-in_err-value-clause-reads g c =
+    let v = c.in_err-value.ensures.takes in
+    let p = err_from_is_err_and c.from_residual.result c.from_residual.ensures.1 in
+    (v.0, v.1, λ fed values h. rw (p.1, p.2) (stops_any _ _ values IsNoFirst _ (v.2 fed values h)))
+
+pub returns-in-Some-clause-reads : goal.returns-in-Some-clause-reads
+returns-in-Some-clause-reads g c =
+    let v = c.in_ok-value.ensures.takes in
+    (v.0, v.1, λ fed values h. record { t = content c.in_ok-value.value; given = v.2 fed values h; is = sym c.in-Some.ensures })
+
+pub returns-in-Some-clause-fair : goal.returns-in-Some-clause-fair
+returns-in-Some-clause-fair g c = (outbox_told (content c.in_ok-value.value) c.in-Some.outbox (sym c.in-Some.ensures)).fair
+
+pub returns-in-None-clause-reads : goal.returns-in-None-clause-reads
+returns-in-None-clause-reads g c =
+    let v = c.in_ok-value.ensures.takes in
+    let m = c.malformed.ensures.tells in (
+      v.0 ++ m.0,
+      gave_then _ _ _ _ _ _ v.0 m.0 v.1 m.1,
+      λ fed values h.
+          told_value fed v.0 m.0 _ values (content c.in_ok-value.value) c.place-place.result c.args.intake.now.stream.held c.value.new.self IsNoFirst c.malformed.result
+          (here fed values _ c.place-place.result c.args.intake.now.stream h c.place-place.ensures) (v.2 fed values h) (sym c.in-None.ensures) m.2,
+    )

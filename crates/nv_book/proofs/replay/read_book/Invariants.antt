@@ -1,0 +1,16 @@
+use Rattle.std.proofs.Common.{◌≡◌, ℕ, ◌-◌, ◌^◌, ◌≤◌, List, length}
+use Rattle.nv_io.specs.Streams.{Gave}
+use Rattle.nv_book.specs.Books.{Recorded}
+use Rattle.nv_book.specs.Reading.{IsReplaying}
+use Rattle.nv_book.proofs.replay.read_book.Given as goal
+
+abbrev pub invariant-loop-replay : goal.invariant-loop-replay
+invariant-loop-replay g l = record {
+  replays : (bytes : List ℕ) × Gave (g.S.Source.taken l.fn.source) (g.S.Source.taken l.source) (g.S.Source.left l.fn.source) (g.S.Source.left l.source) bytes
+      × ((records played : List Recorded) × IsReplaying bytes records played l.replay);
+  limits : l.replay.start.limits ≡ l.fn.limits;
+  later : g.S.Source.faults l.fn.source ≤ g.S.Source.faults l.source;
+}
+
+abbrev pub decreases-loop-replay : goal.decreases-loop-replay
+decreases-loop-replay g l = 2 ^ 63 - length l.replay.world.history

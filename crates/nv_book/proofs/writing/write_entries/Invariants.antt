@@ -1,0 +1,12 @@
+use Rattle.std.proofs.Common.{◌≡◌, ◌≤◌, take}
+use Rattle.nv_world.specs.Contents.{plain_entries}
+use Rattle.nv_book.specs.inside.Steps.{HasWritten}
+use Rattle.nv_book.proofs.writing.write_entries.Given as goal
+
+abbrev pub invariant-loop-entry : goal.invariant-loop-entry
+invariant-loop-entry g l = record {
+  number : l.at ≡ l.entry-index;
+  written : HasWritten l.fn.start l.form (plain_entries (take l.entry-index l.entries)) l.player.world l.player.painters.items
+      (g.S.Sink.taken l.initial.sink) (g.S.Sink.taken l.sink);
+  later : g.S.Sink.faults l.initial.sink ≤ g.S.Sink.faults l.sink;
+}

@@ -1,0 +1,289 @@
+//! The values of a book, taken from a source piece by piece.
+ghost use Rattle.std.specs.Prelude.{◌≡◌, ◌^◌, ◌<◌, ◌≤◌, ℕ, List, ◌++◌, length, IfOk, IfSome, OnOk, Ok, Err, None};
+ghost use Rattle.nv_io.specs.Faults.{Rose};
+ghost use Rattle.nv_io.specs.Streams.{Gave};
+ghost use Rattle.nv_value.specs.Content.{Tree};
+ghost use Rattle.nv_value.specs.View.{content};
+ghost use Rattle.nv_args.specs.Weight.{weight};
+ghost use Rattle.nv_stream.specs.Answers.{NeedsMore};
+ghost use Rattle.nv_book.specs.Books.{most_value};
+ghost use Rattle.nv_book.specs.Reading.{HasGiven};
+ghost use Rattle.nv_book.specs.inside.Intakes.{IsFreshIntake, Fills, GetsMore, IsDrained, AreAll, ReadsPiece, Skips, GivesOne, TakesValue, TellsPlace};
+
+use crate::faults::Unread;
+use nv_io::{Got, Source};
+use nv_msgpack::Bounds;
+use nv_stream::{Next, Stream};
+use nv_value::Value;
+use std::alloc::{AllocError, Global};
+use std::marker::Model;
+use std::net::{Net, TcpListener, TcpStream};
+
+/// What the values of a book may be.
+const BOUNDS: Bounds = Bounds {
+    depth: 64,
+    bytes: 67_109_120,
+};
+
+/// The bytes that are read at once.
+const PIECE: usize = 65_536;
+
+/// A source from which so many bytes were taken counts as ended.
+const MOST_TAKEN: u64 = 1 << 62;
+
+/// The values of a book, taken from a source piece by piece.
+#[derive(Drop)]
+pub struct Intake {
+    stream: Stream,
+    buffer: Vec<u8>,
+    // The bytes taken from the source.
+    taken: u64,
+}
+
+impl Model for Intake {
+    ghost use Rattle.std.specs.Prelude.{◌+◌, ◌^◌, ◌≤◌, ◌≡◌, length, vec_len};
+    ghost use Rattle.nv_book.specs.Books.{most_nested, most_value};
+    ghost use Rattle.nv_book.specs.inside.Intakes.{Intaking};
+
+    ghost Value = { Intaking };
+
+    ghost view = { λ i. record { taken = i.taken; stream = i.stream } };
+
+    ghost invariant = { λ i. (vec_len i.buffer ≡ 65536) × (i.stream.depth ≡ most_nested)
+        × (i.stream.most ≡ most_value) × (i.stream.start + length i.stream.held ≤ i.taken)
+        × (i.taken ≤ 2 ^ 62 + 65536) };
+}
+
+// Reads once, where so many bytes were taken before, and answers how many bytes came: none where
+// the source is at its end.
+fn read_piece<R: Net<Listener = TcpListener, Stream = TcpStream>, S: Source>(
+    rt: &R,
+    source: &mut S,
+    taken: u64,
+    buffer: &mut [u8],
+) -> Result<usize, Unread>
+    requires { length buffer.old ≡ 65536 }
+    ensures reads { (bytes : List ℕ)
+        × Gave (S.taken source.old) (S.taken source.new) (S.left source.old)
+        (S.left source.new) bytes
+        × ReadsPiece taken buffer.new bytes (S.left source.new) result }
+    ensures later { S.faults source.old ≤ S.faults source.new }
+    ensures fault { result ≡ Err Unread.ReadFault
+        → Rose (S.faults source.old) (S.faults source.new) }
+{
+    if taken >= MOST_TAKEN {
+        return Ok(0);
+    }
+    match source.read(rt, buffer) {
+        Got::Bytes(count) => Ok(count),
+        Got::End => Ok(0),
+        Got::Failed => Err(Unread::ReadFault),
+    }
+}
+
+impl Intake {
+    /// One to which no byte has come.
+    pub fn new(alloc: Global) -> Result<Intake, AllocError>
+        ensures { IfOk result IsFreshIntake }
+    {
+        Ok(Intake {
+            stream: Stream::new(alloc, BOUNDS)?,
+            buffer: vec![in alloc; 0; PIECE]?,
+            taken: 0,
+        })
+    }
+
+    /// The place behind the values given so far.
+    pub fn place(&self) -> u64
+        ensures { result ≡ self.now.stream.start }
+    {
+        self.stream.start()
+    }
+
+    // Reads a piece, which is kept. `false` where the source is at its end.
+    fn fill<R: Net<Listener = TcpListener, Stream = TcpStream>, S: Source>(
+        &mut self,
+        rt: &R,
+        source: &mut S,
+    ) -> Result<bool, Unread>
+        ensures fills { (bytes : List ℕ)
+            × Gave (S.taken source.old) (S.taken source.new) (S.left source.old)
+            (S.left source.new) bytes
+            × Fills bytes (S.left source.new) result self.old self.new }
+        ensures later { S.faults source.old ≤ S.faults source.new }
+        ensures fault { result ≡ Err Unread.ReadFault
+            → Rose (S.faults source.old) (S.faults source.new) }
+    {
+        let count = read_piece(rt, source, self.taken, &mut self.buffer)?;
+        if count == 0 {
+            return Ok(false);
+        }
+        self.stream.feed(&self.buffer[..count])?;
+        self.taken += count as u64;
+        Ok(true)
+    }
+
+    // Reads a piece, which isn't kept. `false` where the source is at its end.
+    fn skip<R: Net<Listener = TcpListener, Stream = TcpStream>, S: Source>(
+        &mut self,
+        rt: &R,
+        source: &mut S,
+    ) -> Result<bool, Unread>
+        ensures skips { (bytes : List ℕ)
+            × Gave (S.taken source.old) (S.taken source.new) (S.left source.old)
+            (S.left source.new) bytes
+            × Skips bytes (S.left source.new) result self.old self.new }
+        ensures later { S.faults source.old ≤ S.faults source.new }
+        ensures fault { result ≡ Err Unread.ReadFault
+            → Rose (S.faults source.old) (S.faults source.new) }
+    {
+        let count = read_piece(rt, source, self.taken, &mut self.buffer)?;
+        self.taken += count as u64;
+        Ok(count > 0)
+    }
+
+    // Reads what is left of the source.
+    fn drain<R: Net<Listener = TcpListener, Stream = TcpStream>, S: Source>(
+        &mut self,
+        rt: &R,
+        source: &mut S,
+    ) -> Result<(), Unread>
+        ensures drains { (bytes : List ℕ)
+            × Gave (S.taken source.old) (S.taken source.new) (S.left source.old)
+            (S.left source.new) bytes
+            × OnOk result (IsDrained bytes (S.left source.new) self.old) }
+        ensures no_place { (n : ℕ) → result ≡ Err (Unread.Malformed n) → ⊥ }
+        ensures later { S.faults source.old ≤ S.faults source.new }
+        ensures fault { result ≡ Err Unread.ReadFault
+            → Rose (S.faults source.old) (S.faults source.new) }
+    {
+        while self.skip(rt, source)? {}
+        Ok(())
+    }
+
+    /// That the value at a place is wrong, once the source was read to its end.
+    pub fn malformed<R: Net<Listener = TcpListener, Stream = TcpStream>, S: Source>(
+        &mut self,
+        rt: &R,
+        source: &mut S,
+        place: u64,
+    ) -> Unread
+        ensures tells { (bytes : List ℕ)
+            × Gave (S.taken source.old) (S.taken source.new) (S.left source.old)
+            (S.left source.new) bytes
+            × TellsPlace bytes (S.left source.new) place self.old result }
+        ensures later { S.faults source.old ≤ S.faults source.new }
+        ensures fault { result ≡ Unread.ReadFault
+            → Rose (S.faults source.old) (S.faults source.new) }
+    {
+        match self.drain(rt, source) {
+            Ok(()) => Unread::Malformed(place),
+            Err(fault) => fault,
+        }
+    }
+
+    // Reads a piece more of a value that isn't whole.
+    fn more<R: Net<Listener = TcpListener, Stream = TcpStream>, S: Source>(
+        &mut self,
+        rt: &R,
+        source: &mut S,
+    ) -> Result<(), Unread>
+        requires { NeedsMore self.old.stream }
+        ensures steps { (bytes : List ℕ)
+            × Gave (S.taken source.old) (S.taken source.new) (S.left source.old)
+            (S.left source.new) bytes
+            × ((fed : List ℕ) (values : List Tree)
+            → HasGiven fed values self.old.taken self.old.stream
+            → GetsMore (fed ++ bytes) (S.left source.new) values result self.new) }
+        ensures progress { OnOk result ((self.old.taken < 2 ^ 62)
+            × (self.old.taken < self.new.taken)) }
+        ensures later { S.faults source.old ≤ S.faults source.new }
+        ensures fault { result ≡ Err Unread.ReadFault
+            → Rose (S.faults source.old) (S.faults source.new) }
+    {
+        if self.fill(rt, source)? {
+            return Ok(());
+        }
+        Err(Unread::Malformed(self.stream.start()))
+    }
+
+    // Gives the next value of what is held, or reads a piece more.
+    fn step<R: Net<Listener = TcpListener, Stream = TcpStream>, S: Source>(
+        &mut self,
+        rt: &R,
+        source: &mut S,
+    ) -> Result<Option<Value>, Unread>
+        ensures steps { (bytes : List ℕ)
+            × Gave (S.taken source.old) (S.taken source.new) (S.left source.old)
+            (S.left source.new) bytes
+            × ((fed : List ℕ) (values : List Tree)
+            → HasGiven fed values self.old.taken self.old.stream
+            → GivesOne (fed ++ bytes) (S.left source.new) values result self.new) }
+        ensures light { IfOk result (λ found. IfSome found (λ v. weight (content v) ≤ most_value)) }
+        ensures progress { result ≡ Ok None → (self.old.taken < 2 ^ 62)
+            × (self.old.taken < self.new.taken) }
+        ensures later { S.faults source.old ≤ S.faults source.new }
+        ensures fault { result ≡ Err Unread.ReadFault
+            → Rose (S.faults source.old) (S.faults source.new) }
+    {
+        match self.stream.next()? {
+            Next::Value(value) => Ok(Some(value)),
+            Next::More => {
+                self.more(rt, source)?;
+                Ok(None)
+            }
+            Next::Flaw(_) => {
+                let place = self.stream.start();
+                Err(self.malformed(rt, source, place))
+            }
+        }
+    }
+
+    /// The next value. Where it is cut or missing, the source was read to its end.
+    pub fn value<R: Net<Listener = TcpListener, Stream = TcpStream>, S: Source>(
+        &mut self,
+        rt: &R,
+        source: &mut S,
+    ) -> Result<Value, Unread>
+        ensures takes { (bytes : List ℕ)
+            × Gave (S.taken source.old) (S.taken source.new) (S.left source.old)
+            (S.left source.new) bytes
+            × ((fed : List ℕ) (values : List Tree)
+            → HasGiven fed values self.old.taken self.old.stream
+            → TakesValue (fed ++ bytes) (S.left source.new) values result self.new) }
+        ensures light { IfOk result (λ v. weight (content v) ≤ most_value) }
+        ensures later { S.faults source.old ≤ S.faults source.new }
+        ensures fault { result ≡ Err Unread.ReadFault
+            → Rose (S.faults source.old) (S.faults source.new) }
+    {
+        loop {
+            if let Some(value) = self.step(rt, source)? {
+                return Ok(value);
+            }
+        }
+    }
+
+    /// Whether nothing is behind the values given so far, neither held nor left.
+    pub fn is_over<R: Net<Listener = TcpListener, Stream = TcpStream>, S: Source>(
+        &mut self,
+        rt: &R,
+        source: &mut S,
+    ) -> Result<bool, Unread>
+        ensures over { (bytes : List ℕ)
+            × Gave (S.taken source.old) (S.taken source.new) (S.left source.old)
+            (S.left source.new) bytes
+            × ((fed : List ℕ) (values : List Tree)
+            → HasGiven fed values self.old.taken self.old.stream
+            → AreAll (fed ++ bytes) (S.left source.new) values result self.new) }
+        ensures no_place { (n : ℕ) → result ≡ Err (Unread.Malformed n) → ⊥ }
+        ensures later { S.faults source.old ≤ S.faults source.new }
+        ensures fault { result ≡ Err Unread.ReadFault
+            → Rose (S.faults source.old) (S.faults source.new) }
+    {
+        if self.stream.held_len() > 0 {
+            return Ok(false);
+        }
+        let came = self.fill(rt, source)?;
+        Ok(!came)
+    }
+}
