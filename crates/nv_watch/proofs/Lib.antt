@@ -1,0 +1,15 @@
+pub mod AllMarks
+pub mod Checked
+pub mod Counted
+pub mod Folded
+pub mod GridClients
+pub mod GridFolds
+pub mod GridSteps
+pub mod Handles
+pub mod Mirrored
+pub mod Numbers
+pub mod Readings
+pub mod SameLines
+pub mod SeenEditors
+pub mod Shown
+pub mod Verdicts

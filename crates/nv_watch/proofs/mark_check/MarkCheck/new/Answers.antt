@@ -1,0 +1,6 @@
+use Rattle.std.proofs.Common.{refl}
+use Rattle.nv_watch.proofs.Checked.{none_checked}
+use Rattle.nv_watch.proofs.mark_check.MarkCheck.new.Goals as goal
+
+pub returns : goal.returns
+returns c = none_checked _ refl

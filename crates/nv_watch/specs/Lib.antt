@@ -1,0 +1,11 @@
+pub mod Counting
+pub mod Folding
+pub mod Folds
+pub mod GridClients
+pub mod Grids
+pub mod MarkEnds
+pub mod MarkRule
+pub mod SeenWorlds
+pub mod SentParts
+pub mod Verdicts
+pub mod inside

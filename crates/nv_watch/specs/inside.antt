@@ -1,0 +1,9 @@
+-- What private contracts alone cite.
+pub mod Checked
+pub mod Counts
+pub mod Folded
+pub mod GridsFolded
+pub mod GridsTaken
+pub mod Mirroring
+pub mod Parts
+pub mod Shown

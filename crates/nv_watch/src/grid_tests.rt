@@ -1,0 +1,111 @@
+//! A watcher of redraw events that is shown steps, true ones and altered ones.
+ghost use Rattle.std.specs.Prelude.{IfOk};
+ghost use Rattle.nv_world.specs.Contents.{plain_event};
+ghost use Rattle.nv_world.specs.Worlds.{IsLightEvent};
+
+use crate::{GridFold, Verdict, Watcher};
+use nv_dispatch::usual_limits;
+use nv_rpc::Frame;
+use nv_value::{Bytes, Pair, Value};
+use nv_world::{Event, Step, World};
+use std::alloc::{AllocError, Global};
+use std::test::Fail;
+
+// What a session is sent that attaches a UI of 12 columns and 4 rows, written by hand: the reply,
+// and the first batch.
+const FIRST: &[u8] = b"\x94\x01\x01\xc0\xc0\x93\x02\xa6redraw\x97\
+    \x92\xabgrid_resize\x93\x01\x0c\x04\
+    \x92\xb2default_colors_set\x95\xce\x00\xff\xff\xff\x00\xce\x00\xff\x00\x00\x00\x00\
+    \x93\xaehl_attr_define\x94\x01\x81\xa4bold\xc3\x81\xa4bold\xc3\x90\
+    \x94\x02\x82\xa7reverse\xc3\xa4bold\xc3\x82\xa7reverse\xc3\xa4bold\xc3\x90\
+    \x92\xaagrid_clear\x91\x01\
+    \x93\xa9grid_line\x95\x01\x01\x00\x91\x92\xa1~\x01\xc2\
+    \x95\x01\x02\x00\x9a\x92\xa1[\x02\x91\xa1N\x91\xa1o\x91\xa1 \x91\xa1N\x91\xa1a\x91\xa1m\
+    \x91\xa1e\x91\xa1]\x93\xa1 \x02\x03\xc2\
+    \x92\xb0grid_cursor_goto\x93\x01\x00\x00\
+    \x92\xa5flush\x90";
+
+// A session attaches a UI.
+fn attach(alloc: Global, session: u64) -> Result<Event, AllocError>
+    ensures { IfOk result (λ event. IsLightEvent (plain_event event)) }
+{
+    let method = Bytes::from_slice(alloc, b"nvim_ui_attach")?;
+    let options = vec![in alloc;
+        Pair {
+            key: Value::Text(Bytes::from_slice(alloc, b"ext_linegrid")?),
+            value: Value::Truth(true),
+        },
+    ]?;
+    let params = vec![in alloc; Value::Int(12), Value::Int(4), Value::Pairs(options)]?;
+    let frame = Frame::Request {
+        msgid: 1,
+        method,
+        params,
+    };
+    Ok(Event::Request { session, frame })
+}
+
+// A session opens, attaches a UI, and takes what is due.
+fn attach_and_take(alloc: Global, world: &mut World) -> Result<(), AllocError> {
+    let _ = world.apply(0, Event::Open);
+    let _ = world.apply(0, attach(alloc, 1)?);
+    let _ = world.apply(0, Event::Take { session: 1 });
+    Ok(())
+}
+
+// The watcher sees a step of the session that is sent these bytes.
+fn show(
+    alloc: Global,
+    fold: &mut GridFold,
+    world: &World,
+    at: u64,
+    sent: &[u8],
+) -> Result<(), AllocError> {
+    let step = Step {
+        at,
+        caller: 0,
+        session: 1,
+        sent: Bytes::from_slice(alloc, sent)?,
+        splices: Vec::new(alloc),
+    };
+    fold.see(world, &step)
+}
+
+// What a watcher says where the session is sent the first batch with this byte at a place.
+fn verdict(alloc: Global, world: &World, place: usize, byte: u8) -> Result<Verdict, AllocError> {
+    let mut sent = Vec::new(alloc);
+    sent.extend_from_slice(FIRST)?;
+    if place < sent.len() {
+        sent[place] = byte;
+    }
+    let mut fold = GridFold::new(alloc);
+    show(alloc, &mut fold, world, 0, b"")?;
+    show(alloc, &mut fold, world, 1, b"")?;
+    show(alloc, &mut fold, world, 2, sent.as_slice())?;
+    show(alloc, &mut fold, world, 3, b"")?;
+    Ok(fold.verdict())
+}
+
+// The true batch, one with another letter, one with another default colour, one with the cursor in
+// another row, and one with the cursor in a row that isn't there.
+fn verdicts(alloc: Global, world: &World) -> Result<[Verdict; 5], AllocError> {
+    Ok([
+        verdict(alloc, world, 166, b'~')?,
+        verdict(alloc, world, 166, b'x')?,
+        verdict(alloc, world, 55, 0xfe)?,
+        verdict(alloc, world, 228, 1)?,
+        verdict(alloc, world, 228, 9)?,
+    ])
+}
+
+#[test]
+fn grid_folds_say_no(rt: HostRuntime) -> Result<(), Fail> {
+    let mut world = World::new(rt.alloc(), usual_limits(), 16)?;
+    attach_and_take(rt.alloc(), &mut world)?;
+    let no = Verdict::No(2);
+    assert_eq!(rt;
+        verdicts(rt.alloc(), &world)?,
+        [Verdict::Yes, no, no, no, no]
+    );
+    Ok(())
+}

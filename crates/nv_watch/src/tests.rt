@@ -1,0 +1,87 @@
+//! A watcher that is shown steps, true ones and altered ones.
+ghost use Rattle.std.specs.Prelude.{IfOk};
+ghost use Rattle.nv_world.specs.Contents.{plain_event};
+ghost use Rattle.nv_world.specs.Worlds.{IsLightEvent};
+
+use crate::{Counter, Verdict, Watcher};
+use nv_dispatch::usual_limits;
+use nv_rpc::Frame;
+use nv_value::{Bytes, Value};
+use nv_world::{Event, Step, World};
+use std::alloc::{AllocError, Global};
+use std::test::Fail;
+
+// A session asks for the number of lines.
+fn line_count(alloc: Global, session: u64) -> Result<Event, AllocError>
+    ensures { IfOk result (λ event. IsLightEvent (plain_event event)) }
+{
+    let method = Bytes::from_slice(alloc, b"nvim_buf_line_count")?;
+    let params = vec![in alloc; Value::Int(0)]?;
+    let frame = Frame::Request {
+        msgid: 1,
+        method,
+        params,
+    };
+    Ok(Event::Request { session, frame })
+}
+
+// A session opens, and asks once.
+fn ask_once(alloc: Global, world: &mut World) -> Result<(), AllocError> {
+    let _ = world.apply(0, Event::Open);
+    let _ = world.apply(0, line_count(alloc, 1)?);
+    Ok(())
+}
+
+// The counter sees a step of the session that is sent these bytes.
+fn show(
+    alloc: Global,
+    counter: &mut Counter,
+    world: &World,
+    at: u64,
+    sent: &[u8],
+) -> Result<(), AllocError> {
+    let step = Step {
+        at,
+        caller: 0,
+        session: 1,
+        sent: Bytes::from_slice(alloc, sent)?,
+        splices: Vec::new(alloc),
+    };
+    counter.see(world, &step)
+}
+
+// What a counter says where the session is sent these bytes after its request.
+fn verdict(alloc: Global, world: &World, sent: &[u8]) -> Result<Verdict, AllocError> {
+    let mut counter = Counter::new(alloc);
+    show(alloc, &mut counter, world, 0, b"")?;
+    show(alloc, &mut counter, world, 1, b"")?;
+    show(alloc, &mut counter, world, 2, sent)?;
+    show(alloc, &mut counter, world, 3, b"")?;
+    Ok(counter.verdict())
+}
+
+// One reply, a redraw notification and a reply, two replies, a message that is cut, and another
+// notification.
+fn verdicts(alloc: Global, world: &World) -> Result<[Verdict; 5], AllocError> {
+    let twice = b"\x94\x01\x01\xc0\x01\x94\x01\x01\xc0\x01";
+    let redraw = b"\x93\x02\xa6redraw\x90\x94\x01\x01\xc0\x01";
+    Ok([
+        verdict(alloc, world, b"\x94\x01\x01\xc0\x01")?,
+        verdict(alloc, world, redraw)?,
+        verdict(alloc, world, twice)?,
+        verdict(alloc, world, b"\x94\x01\x01\xc0\x01\x94\x01")?,
+        verdict(alloc, world, b"\x93\x02\xa6redrew\x90")?,
+    ])
+}
+
+#[test]
+fn watchers_say_no(rt: HostRuntime) -> Result<(), Fail> {
+    let mut world = World::new(rt.alloc(), usual_limits(), 16)?;
+    ask_once(rt.alloc(), &mut world)?;
+    let no = Verdict::No(2);
+    assert_eq!(rt;
+        verdicts(rt.alloc(), &world)?,
+        [Verdict::Yes, Verdict::Yes, no, no, no]
+    );
+    Ok(())
+}
