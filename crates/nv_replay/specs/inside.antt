@@ -1,0 +1,5 @@
+-- What private contracts alone cite.
+pub mod Endings
+pub mod Offering
+pub mod Tallies
+pub mod Watching

@@ -1,0 +1,188 @@
+//! A book that is played again, compared and watched.
+ghost use Rattle.std.specs.Prelude.{◌≡◌, ◌≤◌, ◌∷◌, ◌++◌, ◌↔◌, ℕ, [], List, length, slice_get, Some, OnOk, Err};
+ghost use Rattle.nv_io.specs.Faults.{Rose};
+ghost use Rattle.nv_io.specs.Streams.{Gave};
+ghost use Rattle.nv_dispatch.specs.Runs.{usual_limits};
+ghost use Rattle.nv_world.specs.Contents.{plain_entries};
+ghost use Rattle.nv_book.specs.Reading.{IsReplaying};
+ghost use Rattle.nv_watch.specs.Verdicts.{IsVerdict, Sight, sight};
+ghost use Rattle.nv_watch.specs.declared.verdict.Verdict.{Verdict as PlainVerdict};
+ghost use Rattle.nv_replay.specs.Ends.{CheckEnds};
+ghost use Rattle.nv_replay.specs.inside.Endings.{Concludes, SaysNoFirst};
+ghost use Rattle.nv_replay.specs.inside.Tallies.{GoesOverAll};
+
+use crate::ending::{ReplayEnd, end_of_unread};
+use crate::saying::first_no;
+use crate::summary::summary;
+use crate::tallying::{Tally, compare_next};
+use nv_book::{Replay, Unread};
+use nv_dispatch::usual_limits;
+use nv_io::{Sink, Source, put_all};
+use nv_watch::{Watcher, drive};
+use nv_world::{History, Step, World};
+use std::alloc::{AllocError, Global};
+use std::net::{Net, TcpListener, TcpStream};
+
+/// A book that was gone over: its history, and what was counted and compared.
+#[derive(Drop)]
+pub struct GoneOver {
+    pub history: History,
+    pub tally: Tally,
+}
+
+// Shows a step to the watchers.
+fn watch<W: Watcher>(watchers: &mut Vec<W>, world: &World, step: Step) -> Result<(), AllocError>
+    ensures count { OnOk result (length watchers.new.items ≡ length watchers.old.items) }
+    ensures seen { OnOk result ((i : ℕ) (old new : W) (seen : List Sight)
+        → slice_get watchers.old.items i ≡ Some old → slice_get watchers.new.items i ≡ Some new
+        → W.HasSeen old seen → W.HasSeen new (seen ++ sight world.now step ∷ [])) }
+    ensures rule { OnOk result ((i : ℕ) (old new : W) (seen : List Sight) (x : Sight)
+        → slice_get watchers.old.items i ≡ Some old → slice_get watchers.new.items i ≡ Some new
+        → W.Breaks old seen x ↔ W.Breaks new seen x) }
+{
+    drive(watchers, world, &step)
+}
+
+// Goes over all entries of a book, from its first on.
+fn go_over<R: Net<Listener = TcpListener, Stream = TcpStream>, I: Source, W: Watcher>(
+    rt: &R,
+    replay: &mut Replay,
+    source: &mut I,
+    watchers: &mut Vec<W>,
+) -> Result<Tally, Unread>
+    ensures goes { (bytes : List ℕ)
+        × Gave (I.taken source.old) (I.taken source.new) (I.left source.old) (I.left source.new)
+        bytes
+        × (seen : List Sight)
+        × ((fed : List ℕ) → IsReplaying fed [] [] replay.old
+        → GoesOverAll (fed ++ bytes) (I.left source.new) seen result replay.new)
+        × OnOk result ((i : ℕ) (old new : W) (before : List Sight)
+        → slice_get watchers.old.items i ≡ Some old → slice_get watchers.new.items i ≡ Some new
+        → W.HasSeen old before → W.HasSeen new (before ++ seen)) }
+    ensures count { OnOk result (length watchers.new.items ≡ length watchers.old.items) }
+    ensures rule { OnOk result ((i : ℕ) (old new : W) (before : List Sight) (x : Sight)
+        → slice_get watchers.old.items i ≡ Some old → slice_get watchers.new.items i ≡ Some new
+        → W.Breaks old before x ↔ W.Breaks new before x) }
+    ensures same { replay.new.start ≡ replay.old.start }
+    ensures later { I.faults source.old ≤ I.faults source.new }
+    ensures fault { result ≡ Err Unread.ReadFault
+        → Rose (I.faults source.old) (I.faults source.new) }
+{
+    let mut tally = Tally {
+        bytes: 0,
+        differs: None,
+    };
+    for _round in 0..u64::MAX {
+        match compare_next(rt, replay, source, &mut tally)? {
+            Some(step) => watch(watchers, replay.world(), step)?,
+            None => return Ok(tally),
+        }
+    }
+    Err(Unread::NoMemory)
+}
+
+// Tells what came of it, and keeps the history.
+fn conclude<R: Net<Listener = TcpListener, Stream = TcpStream>, S: Sink>(
+    rt: &R,
+    alloc: Global,
+    gone: GoneOver,
+    no: Option<(u64, u64)>,
+    output: &mut S,
+    kept: &mut History,
+) -> ReplayEnd
+    ensures concludes { (count : ℕ) (verdicts : List PlainVerdict) → SaysNoFirst count verdicts no
+        → Concludes gone result (plain_entries kept.old.entries) (plain_entries kept.new.entries)
+        (S.taken output.old) (S.taken output.new) count verdicts }
+    ensures later { S.faults output.old ≤ S.faults output.new }
+    ensures fault { result ≡ ReplayEnd.WriteFault
+        → Rose (S.faults output.old) (S.faults output.new) }
+{
+    let GoneOver { history, tally } = gone;
+    let Ok(line) = summary(alloc, history.entries(), tally.bytes) else {
+        return ReplayEnd::NoMemory;
+    };
+    *kept = history;
+    if let Some(entry) = tally.differs {
+        return ReplayEnd::Differs(entry);
+    }
+    if let Some((watcher, entry)) = no {
+        return ReplayEnd::Objects { watcher, entry };
+    }
+    if put_all(rt, output, &line) {
+        ReplayEnd::Done
+    } else {
+        ReplayEnd::WriteFault
+    }
+}
+
+// Goes over a book from its first entry on, and tells what came of it.
+fn check_replay<R: Net<Listener = TcpListener, Stream = TcpStream>, I: Source, S: Sink, W: Watcher>(
+    rt: &R,
+    alloc: Global,
+    replay: Replay,
+    source: &mut I,
+    watchers: &mut Vec<W>,
+    output: &mut S,
+    kept: &mut History,
+) -> ReplayEnd
+    ensures ends { (bytes : List ℕ)
+        × Gave (I.taken source.old) (I.taken source.new) (I.left source.old) (I.left source.new)
+        bytes
+        × (seen : List Sight) × (verdicts : List PlainVerdict)
+        × ((fed : List ℕ) → IsReplaying fed [] [] replay
+        → CheckEnds replay.start.limits result (fed ++ bytes) (I.left source.new)
+        (plain_entries kept.old.entries) (plain_entries kept.new.entries) (S.taken output.old)
+        (S.taken output.new) (length watchers.old.items) seen verdicts)
+        × ((i : ℕ) (w : W) (v : PlainVerdict) (before : List Sight)
+        → slice_get watchers.old.items i ≡ Some w → slice_get verdicts i ≡ Some v
+        → W.HasSeen w before → IsVerdict (W.Breaks w) (before ++ seen) v) }
+    ensures read_later { I.faults source.old ≤ I.faults source.new }
+    ensures read { result ≡ ReplayEnd.ReadFault → Rose (I.faults source.old) (I.faults source.new) }
+    ensures write_later { S.faults output.old ≤ S.faults output.new }
+    ensures write { result ≡ ReplayEnd.WriteFault
+        → Rose (S.faults output.old) (S.faults output.new) }
+{
+    let mut replay = replay;
+    match go_over(rt, &mut replay, source, watchers) {
+        Ok(tally) => {
+            let no = first_no(watchers);
+            let history = replay.into_history();
+            conclude(rt, alloc, GoneOver { history, tally }, no, output, kept)
+        }
+        Err(fault) => end_of_unread(fault),
+    }
+}
+
+/// Plays a book again entry by entry, compares each output that it holds with the one that the
+/// entry gives, and shows each step to all watchers, in their order. All of the book is read: a
+/// malformed one is told before a difference, and a difference before what a watcher says. Where
+/// all is well a line with what was counted is written. The book's history is left in `kept`.
+pub fn check<R: Net<Listener = TcpListener, Stream = TcpStream>, I: Source, S: Sink, W: Watcher>(
+    rt: &R,
+    alloc: Global,
+    source: &mut I,
+    watchers: &mut Vec<W>,
+    output: &mut S,
+    kept: &mut History,
+) -> ReplayEnd
+    ensures ends { (bytes : List ℕ)
+        × Gave (I.taken source.old) (I.taken source.new) (I.left source.old) (I.left source.new)
+        bytes
+        × (seen : List Sight) × (verdicts : List PlainVerdict)
+        × CheckEnds usual_limits result bytes (I.left source.new) (plain_entries kept.old.entries)
+        (plain_entries kept.new.entries) (S.taken output.old) (S.taken output.new)
+        (length watchers.old.items) seen verdicts
+        × ((i : ℕ) (w : W) (v : PlainVerdict) (before : List Sight)
+        → slice_get watchers.old.items i ≡ Some w → slice_get verdicts i ≡ Some v
+        → W.HasSeen w before → IsVerdict (W.Breaks w) (before ++ seen) v) }
+    ensures read_later { I.faults source.old ≤ I.faults source.new }
+    ensures read { result ≡ ReplayEnd.ReadFault → Rose (I.faults source.old) (I.faults source.new) }
+    ensures write_later { S.faults output.old ≤ S.faults output.new }
+    ensures write { result ≡ ReplayEnd.WriteFault
+        → Rose (S.faults output.old) (S.faults output.new) }
+{
+    match Replay::open(rt, alloc, usual_limits(), source) {
+        Ok(replay) => check_replay(rt, alloc, replay, source, watchers, output, kept),
+        Err(fault) => end_of_unread(fault),
+    }
+}

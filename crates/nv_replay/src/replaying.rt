@@ -1,0 +1,76 @@
+//! A book that is played again, and its outputs written.
+ghost use Rattle.std.specs.Prelude.{◌≡◌, ◌≤◌, ℕ, [], List, IsSome};
+ghost use Rattle.nv_io.specs.Faults.{Rose};
+ghost use Rattle.nv_io.specs.Streams.{Gave};
+ghost use Rattle.nv_history.specs.Runs.{run};
+ghost use Rattle.nv_dispatch.specs.Runs.{usual_limits};
+ghost use Rattle.nv_world.specs.Contents.{plain_entries};
+ghost use Rattle.nv_book.specs.Reading.{AreWritable};
+ghost use Rattle.nv_replay.specs.Ends.{ReplayEnds};
+ghost use Rattle.nv_replay.specs.inside.Endings.{WritesOutputs};
+
+use crate::ending::{ReplayEnd, end_of_unread};
+use nv_book::{Book, BookFault, read_book, write_replay};
+use nv_dispatch::usual_limits;
+use nv_io::{Sink, Source};
+use nv_world::History;
+use std::alloc::Global;
+use std::net::{Net, TcpListener, TcpStream};
+
+// Writes the outputs of a book's history, which is kept.
+fn write_outputs<R: Net<Listener = TcpListener, Stream = TcpStream>, S: Sink>(
+    rt: &R,
+    alloc: Global,
+    book: Book,
+    output: &mut S,
+    kept: &mut History,
+) -> ReplayEnd
+    requires outbox { (16 ≤ book.start.outbox) × (book.start.outbox ≤ 1048576) }
+    requires limits { 1 ≤ book.start.limits.entries }
+    requires runs { IsSome (run book.start.outbox book.start.limits
+        (plain_entries book.history.entries)) }
+    requires fit { AreWritable (plain_entries book.history.entries) }
+    ensures kept { kept.new.entries ≡ book.history.entries }
+    ensures writes { WritesOutputs book.start result (plain_entries book.history.entries)
+        (S.taken output.old) (S.taken output.new) }
+    ensures later { S.faults output.old ≤ S.faults output.new }
+    ensures fault { result ≡ ReplayEnd.WriteFault
+        → Rose (S.faults output.old) (S.faults output.new) }
+{
+    let written = write_replay(rt, alloc, book.start, &book.history, output);
+    *kept = book.history;
+    match written {
+        Ok(()) => ReplayEnd::Done,
+        Err(BookFault::NoMemory) => ReplayEnd::NoMemory,
+        Err(BookFault::WriteFault) => ReplayEnd::WriteFault,
+        Err(BookFault::Unfit(_)) => unreachable!(),
+    }
+}
+
+/// Reads a book whole and plays it, and then writes the outputs of its takes, each piece of them
+/// with the number of its entry and its session; the book's history is left in `kept`. Nothing is
+/// written where what was read is no book.
+pub fn replay<R: Net<Listener = TcpListener, Stream = TcpStream>, I: Source, S: Sink>(
+    rt: &R,
+    alloc: Global,
+    source: &mut I,
+    output: &mut S,
+    kept: &mut History,
+) -> ReplayEnd
+    ensures ends { (bytes : List ℕ)
+        × Gave (I.taken source.old) (I.taken source.new) (I.left source.old) (I.left source.new)
+        bytes
+        × ReplayEnds usual_limits result bytes (I.left source.new)
+        (plain_entries kept.old.entries) (plain_entries kept.new.entries) (S.taken output.old)
+        (S.taken output.new) }
+    ensures read_later { I.faults source.old ≤ I.faults source.new }
+    ensures read { result ≡ ReplayEnd.ReadFault → Rose (I.faults source.old) (I.faults source.new) }
+    ensures write_later { S.faults output.old ≤ S.faults output.new }
+    ensures write { result ≡ ReplayEnd.WriteFault
+        → Rose (S.faults output.old) (S.faults output.new) }
+{
+    match read_book(rt, alloc, usual_limits(), source) {
+        Ok(book) => write_outputs(rt, alloc, book, output, kept),
+        Err(fault) => end_of_unread(fault),
+    }
+}

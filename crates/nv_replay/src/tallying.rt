@@ -1,0 +1,61 @@
+//! What is counted and compared while a history is gone over.
+ghost use Rattle.std.specs.Prelude.{◌≡◌, ◌≤◌, ◌++◌, ℕ, List, Err};
+ghost use Rattle.nv_io.specs.Faults.{Rose};
+ghost use Rattle.nv_io.specs.Streams.{Gave};
+ghost use Rattle.nv_book.specs.Books.{Recorded};
+ghost use Rattle.nv_watch.specs.Verdicts.{Sight};
+ghost use Rattle.nv_replay.specs.inside.Tallies.{GoesOver, IsGoingOver, tally_with};
+
+use nv_book::{Replay, Unread};
+use nv_io::Source;
+use nv_world::Step;
+use std::net::{Net, TcpListener, TcpStream};
+
+/// How many bytes the outputs have, up to the end of 64 bits, and the number of the first entry
+/// whose output in the book isn't the one that it gives.
+#[derive(Clone, Copy)]
+pub struct Tally {
+    pub bytes: u64,
+    pub differs: Option<u64>,
+}
+
+impl Tally {
+    // Looks at the entry of a number: its output in the book, and the one that it gives.
+    fn add(&mut self, at: u64, recorded: &[u8], given: &[u8])
+        ensures { self.new ≡ tally_with self.old at recorded.now given.now }
+    {
+        self.bytes = self.bytes.saturating_add(given.len() as u64);
+        if self.differs.is_none() && recorded != given {
+            self.differs = Some(at);
+        }
+    }
+}
+
+/// Plays the next entry of a book, and compares its output with the book's. `None` at the end of
+/// the book.
+pub fn compare_next<R: Net<Listener = TcpListener, Stream = TcpStream>, I: Source>(
+    rt: &R,
+    replay: &mut Replay,
+    source: &mut I,
+    tally: &mut Tally,
+) -> Result<Option<Step>, Unread>
+    ensures goes { (bytes : List ℕ)
+        × Gave (I.taken source.old) (I.taken source.new) (I.left source.old) (I.left source.new)
+        bytes
+        × ((fed : List ℕ) (records played : List Recorded) (seen : List Sight)
+        → IsGoingOver fed records played seen tally.old replay.old
+        → GoesOver (fed ++ bytes) (I.left source.new) records played seen result tally.new
+        replay.new) }
+    ensures same { replay.new.start ≡ replay.old.start }
+    ensures later { I.faults source.old ≤ I.faults source.new }
+    ensures fault { result ≡ Err Unread.ReadFault
+        → Rose (I.faults source.old) (I.faults source.new) }
+{
+    match replay.next(rt, source)? {
+        Some(step) => {
+            tally.add(step.at, replay.recorded(), step.sent.as_slice());
+            Ok(Some(step))
+        }
+        None => Ok(None),
+    }
+}
