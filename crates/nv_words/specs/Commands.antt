@@ -1,12 +1,14 @@
 -- The words of the command line, as `clap` reads them (own rule; documentation of `clap`).
-use Rattle.std.specs.Prelude.{◌≡◌, ◌≤◌, ℕ, true, List, [], ◌∷◌, codes, Option, Some, None, if◌then◌else◌}
+use Rattle.std.specs.Prelude.{◌≡◌, ◌≤◌, ⊤, ℕ, Bool, true, false, List, [], ◌∷◌, codes, Option, Some, None, if◌then◌else◌}
+use Rattle.std.specs.Option.{option_map}
 use Rattle.std.specs.Str.{bytes_eq}
 use Rattle.std.specs.Str.Parse.{digits_value, without_leading_plus}
 use Rattle.clap.specs.Words.{App, Row, Rule, Shape, Text, fault_of, first_of, new_app, new_rule, one_of, subcommand_of, with_rule, with_subcommand}
 use Rattle.clap.specs.Simple.{on_top}
+use Rattle.clap.specs.declared.builder.action.ArgAction.TheVariants.{SetTrue}
 use Rattle.clap.specs.declared.builder.value_parser.ValueParser.TheVariants as vp
 use Rattle.nv_words.specs.declared.command.Command.{Command}
-use Rattle.nv_words.specs.declared.command.Command.TheVariants.{Embed, Serve}
+use Rattle.nv_words.specs.declared.command.Command.TheVariants.{Embed, Serve, Replay, Generate}
 
 -- `--outbox N`: how many messages an outbox holds
 abbrev pub outbox_rule : Rule
@@ -31,15 +33,45 @@ listen_rule = record (new_rule (codes "listen")) {
   required = true;
 }
 
+-- `--book F`: the file that the book goes to
+abbrev pub book_rule : Rule
+book_rule = record (new_rule (codes "book")) { long = Some (codes "book") }
+
+-- `F`, which must be there: the file that holds the book
+abbrev pub file_rule : Rule
+file_rule = record (new_rule (codes "file")) { required = true }
+
+-- `--check`: what is kept in the book is compared
+abbrev pub check_rule : Rule
+check_rule = record (new_rule (codes "check")) {
+  long = Some (codes "check");
+  action = Some SetTrue;
+}
+
+-- `N`, which must be there: the number of a script
+abbrev pub number_rule : Rule
+number_rule = record (new_rule (codes "number")) {
+  parser = Some (vp.Unsigned 0 18446744073709551615);
+  required = true;
+}
+
 -- `embed [--outbox N]`
 abbrev pub embed_app : App
 embed_app = with_rule (new_app (codes "embed")) outbox_rule
 
--- `serve --listen A [--sessions N] [--outbox N]`
+-- `serve --listen A [--sessions N] [--outbox N] [--book F]`
 abbrev pub serve_app : App
 serve_app =
-    with_rule (with_rule (with_rule (new_app (codes "serve")) listen_rule) sessions_rule)
-    outbox_rule
+    with_rule (with_rule (with_rule (with_rule (new_app (codes "serve")) listen_rule)
+    sessions_rule) outbox_rule) book_rule
+
+-- `replay F [--check]`
+abbrev pub replay_app : App
+replay_app = with_rule (with_rule (new_app (codes "replay")) file_rule) check_rule
+
+-- `generate N`
+abbrev pub generate_app : App
+generate_app = with_rule (new_app (codes "generate")) number_rule
 
 -- one of these, without the program's name before it
 abbrev pub required_subcommand : Shape → Shape
@@ -49,28 +81,38 @@ required_subcommand s = record s { no_binary_name = true; subcommand_required = 
 abbrev pub program_app : App
 program_app =
     on_top required_subcommand
-    (with_subcommand (with_subcommand (new_app (codes "nvimd")) embed_app.top) serve_app.top)
+    (with_subcommand (with_subcommand (with_subcommand (with_subcommand (new_app (codes "nvimd"))
+    embed_app.top) serve_app.top) replay_app.top) generate_app.top)
 
 -- `clap` takes these words: it refuses them for want of memory alone
 abbrev pub AreWords : List Text → Type 0
 AreWords words = fault_of program_app words ≡ []
 
--- A command with its values: how many messages an outbox holds; and before it, for `serve`, the
--- address and how many sessions run at once.
+-- A command with its values. `embed`: how many messages an outbox holds. `serve`: the address, how
+-- many sessions run at once, how many messages an outbox holds, the book's file. `replay`: the
+-- file, and whether to compare. `generate`: the number.
 pub data PlainCommand : Type 0 where
   embeds : ℕ → PlainCommand
-  serves : Text → ℕ → ℕ → PlainCommand
+  serves : Text → ℕ → ℕ → Option Text → PlainCommand
+  replays : Text → Bool → PlainCommand
+  generates : ℕ → PlainCommand
 
 -- what a command holds
 abbrev pub plain_command : Command → PlainCommand
 plain_command (Embed outbox) = embeds outbox
-plain_command (Serve address sessions outbox) = serves address.now sessions outbox
+plain_command (Serve address sessions outbox book) =
+    serves address.now sessions outbox (option_map (λ name. name.now) book)
+plain_command (Replay file check) = replays file.now check
+plain_command (Generate number) = generates number
 
--- an outbox holds from 16 to 1,048,576 messages, and from 1 to 256 sessions run at once
+-- an outbox holds from 16 to 1,048,576 messages, and from 1 to 256 sessions run at once; the number
+-- of a script is below 2^64
 abbrev pub HasFairNumbers : PlainCommand → Type 0
 HasFairNumbers (embeds outbox) = (16 ≤ outbox) × (outbox ≤ 1048576)
-HasFairNumbers (serves address sessions outbox) =
+HasFairNumbers (serves address sessions outbox book) =
     (1 ≤ sessions) × (sessions ≤ 256) × (16 ≤ outbox) × (outbox ≤ 1048576)
+HasFairNumbers (replays file check) = ⊤
+HasFairNumbers (generates number) = number ≤ 18446744073709551615
 
 -- the number that a value spells
 abbrev pub number_spelled : Option Text → ℕ
@@ -82,19 +124,32 @@ abbrev pub text_given : Option Text → Text
 text_given None = []
 text_given (Some text) = text
 
+-- a flag is set where its value is `true`
+abbrev pub is_flagged : Option Text → Bool
+is_flagged None = false
+is_flagged (Some text) = bytes_eq text (codes "true")
+
 -- the command of `serve` with its values
 abbrev pub serve_of_rows : List Row → PlainCommand
 serve_of_rows rows =
     serves (text_given (first_of (codes "listen") rows))
     (number_spelled (one_of (codes "sessions") rows))
-    (number_spelled (one_of (codes "outbox") rows))
+    (number_spelled (one_of (codes "outbox") rows)) (first_of (codes "book") rows)
+
+-- the command of `replay` with its values
+abbrev pub replay_of_rows : List Row → PlainCommand
+replay_of_rows rows =
+    replays (text_given (first_of (codes "file") rows)) (is_flagged (first_of (codes "check") rows))
 
 -- the command of a subcommand's name with its values
 abbrev pub command_of_name : Text → List Row → Option PlainCommand
 command_of_name name rows =
     if bytes_eq name (codes "embed")
     then Some (embeds (number_spelled (one_of (codes "outbox") rows)))
-    else if bytes_eq name (codes "serve") then Some (serve_of_rows rows) else None
+    else if bytes_eq name (codes "serve") then Some (serve_of_rows rows)
+    else if bytes_eq name (codes "replay") then Some (replay_of_rows rows)
+    else if bytes_eq name (codes "generate")
+    then Some (generates (number_spelled (one_of (codes "number") rows))) else None
 
 abbrev pub command_of_rows : Option (Text × List Row) → Option PlainCommand
 command_of_rows None = None

@@ -8,11 +8,22 @@ pub enum Command<'a> {
         outbox: u32,
     },
     /// Sessions over the connections to an address: a path that begins with `/`, or `host:port`.
-    /// At most so many sessions run at once, from 1 to 256; an outbox is as for `Embed`.
+    /// At most so many sessions run at once, from 1 to 256; an outbox is as for `Embed`. The book
+    /// of the run goes to the file `book`.
     Serve {
         address: &'a str,
         sessions: usize,
         outbox: u32,
+        book: Option<&'a str>,
+    },
+    /// The book in a file played again; `check` asks for the comparison with what it holds.
+    Replay {
+        file: &'a str,
+        check: bool,
+    },
+    /// The book of the script that a number draws.
+    Generate {
+        number: u64,
     },
 }
 

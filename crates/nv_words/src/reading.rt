@@ -1,11 +1,12 @@
 //! Reads the words of the command line.
 ghost use Rattle.std.specs.Prelude.{◌≡◌, ◌≤◌, Err, IfErr, IfOk, OnOk, Some, None, map, IfSome, codes, false};
+ghost use Rattle.std.specs.Option.{option_map};
 ghost use Rattle.clap.specs.Words.{app_of, fault_of, first_of, found_of, kind_of, one_of, rows_of, rule_of, subcommand_rows_of};
-ghost use Rattle.nv_words.specs.Commands.{AreWords, HasFairNumbers, command_asked, command_of_name, command_of_rows, number_spelled, outbox_rule, plain_command, program_app, sessions_rule, text_given};
+ghost use Rattle.nv_words.specs.Commands.{AreWords, HasFairNumbers, check_rule, command_asked, command_of_name, command_of_rows, embed_app, generate_app, is_flagged, number_rule, number_spelled, outbox_rule, plain_command, program_app, replay_app, replay_of_rows, serve_app, serve_of_rows, sessions_rule, text_given};
 
 use crate::command::{Command, Refusal};
 use clap::error::ErrorKind;
-use clap::{Arg, ArgMatches, Error, value_parser};
+use clap::{Arg, ArgAction, ArgMatches, Error, value_parser};
 use std::alloc::{AllocError, Global};
 
 // `--outbox N`, as `clap` builds it.
@@ -30,19 +31,72 @@ fn sessions<'a>(alloc: Global) -> Arg<'a>
         .default_value("64")
 }
 
+// `--check`, as `clap` builds it.
+fn check<'a>(alloc: Global) -> Arg<'a>
+    ensures rule { rule_of result ≡ check_rule }
+    ensures local { result.global ≡ false }
+{
+    Arg::new(alloc, "check")
+        .long("check")
+        .action(ArgAction::SetTrue)
+}
+
+// The `N` of `generate`, as `clap` builds it.
+fn number<'a>(alloc: Global) -> Arg<'a>
+    ensures rule { rule_of result ≡ number_rule }
+    ensures local { result.global ≡ false }
+{
+    Arg::new(alloc, "number")
+        .value_parser(value_parser!(u64))
+        .required(true)
+}
+
+// `embed`, as `clap` builds it.
+fn embed<'a>(alloc: Global) -> Result<clap::Command<'a>, AllocError>
+    ensures { IfOk result (λ command. app_of command ≡ embed_app) }
+{
+    clap::Command::new(alloc, "embed").arg(outbox(alloc))
+}
+
+// `serve`, as `clap` builds it.
+fn serve<'a>(alloc: Global) -> Result<clap::Command<'a>, AllocError>
+    ensures { IfOk result (λ command. app_of command ≡ serve_app) }
+{
+    let listen = Arg::new(alloc, "listen").long("listen").required(true);
+    let book = Arg::new(alloc, "book").long("book");
+    clap::Command::new(alloc, "serve")
+        .arg(listen)?
+        .arg(sessions(alloc))?
+        .arg(outbox(alloc))?
+        .arg(book)
+}
+
+// `replay`, as `clap` builds it.
+fn replay<'a>(alloc: Global) -> Result<clap::Command<'a>, AllocError>
+    ensures { IfOk result (λ command. app_of command ≡ replay_app) }
+{
+    let file = Arg::new(alloc, "file").required(true);
+    clap::Command::new(alloc, "replay")
+        .arg(file)?
+        .arg(check(alloc))
+}
+
+// `generate`, as `clap` builds it.
+fn generate<'a>(alloc: Global) -> Result<clap::Command<'a>, AllocError>
+    ensures { IfOk result (λ command. app_of command ≡ generate_app) }
+{
+    clap::Command::new(alloc, "generate").arg(number(alloc))
+}
+
 // The command line of the program, as `clap` builds it.
 fn program<'a>(alloc: Global) -> Result<clap::Command<'a>, AllocError>
     ensures { IfOk result (λ command. app_of command ≡ program_app) }
 {
-    let embed = clap::Command::new(alloc, "embed").arg(outbox(alloc))?;
-    let listen = Arg::new(alloc, "listen").long("listen").required(true);
-    let serve = clap::Command::new(alloc, "serve")
-        .arg(listen)?
-        .arg(sessions(alloc))?
-        .arg(outbox(alloc))?;
     let whole = clap::Command::new(alloc, "nvimd")
-        .subcommand(embed)?
-        .subcommand(serve)?;
+        .subcommand(embed(alloc)?)?
+        .subcommand(serve(alloc)?)?
+        .subcommand(replay(alloc)?)?
+        .subcommand(generate(alloc)?)?;
     Ok(whole.no_binary_name(true).subcommand_required(true))
 }
 
@@ -100,12 +154,75 @@ fn sessions_of(matches: &ArgMatches<'_>) -> Option<usize>
     Some(number as usize)
 }
 
+// The number of a script.
+fn number_of(matches: &ArgMatches<'_>) -> Option<u64>
+    ensures { IfSome result (λ number. number
+        ≡ number_spelled (one_of (codes "number") (rows_of (found_of matches.now)))) }
+{
+    matches.get_one::<u64>("number")
+}
+
 // The address to listen on.
 fn address_of<'a>(matches: &ArgMatches<'a>) -> Option<&'a str>
     ensures { IfSome result (λ address. address.now
         ≡ text_given (first_of (codes "listen") (rows_of (found_of matches.now)))) }
 {
     matches.get_str("listen")
+}
+
+// The file that holds the book.
+fn file_of<'a>(matches: &ArgMatches<'a>) -> Option<&'a str>
+    ensures { IfSome result (λ file. file.now
+        ≡ text_given (first_of (codes "file") (rows_of (found_of matches.now)))) }
+{
+    matches.get_str("file")
+}
+
+// The file that the book goes to, where one is named.
+fn book_of<'a>(matches: &ArgMatches<'a>) -> Option<&'a str>
+    ensures { option_map (λ name. name.now) result
+        ≡ first_of (codes "book") (rows_of (found_of matches.now)) }
+{
+    matches.get_str("book")
+}
+
+// Whether `--check` is among the words.
+fn has_check(matches: &ArgMatches<'_>) -> bool
+    ensures { result ≡ is_flagged (first_of (codes "check") (rows_of (found_of matches.now))) }
+{
+    match matches.get_str("check") {
+        Some(text) => text == "true",
+        None => false,
+    }
+}
+
+// `serve` with its values.
+fn serve_of<'a>(found: &ArgMatches<'a>) -> Option<Command<'a>>
+    ensures command { IfSome result (λ command.
+        plain_command command ≡ serve_of_rows (rows_of (found_of found.now))) }
+    ensures range { IfSome result (λ command. HasFairNumbers (plain_command command)) }
+{
+    let address = address_of(found)?;
+    let sessions = sessions_of(found)?;
+    let outbox = outbox_of(found)?;
+    Some(Command::Serve {
+        address,
+        sessions,
+        outbox,
+        book: book_of(found),
+    })
+}
+
+// `replay` with its values.
+fn replay_of<'a>(found: &ArgMatches<'a>) -> Option<Command<'a>>
+    ensures command { IfSome result (λ command.
+        plain_command command ≡ replay_of_rows (rows_of (found_of found.now))) }
+    ensures range { IfSome result (λ command. HasFairNumbers (plain_command command)) }
+{
+    Some(Command::Replay {
+        file: file_of(found)?,
+        check: has_check(found),
+    })
 }
 
 // The command of a subcommand's name with its values.
@@ -118,17 +235,17 @@ fn command_of<'a>(name: &str, found: &ArgMatches<'a>) -> Option<Command<'a>>
         let outbox = outbox_of(found)?;
         return Some(Command::Embed { outbox });
     }
-    if name != "serve" {
+    if name == "serve" {
+        return serve_of(found);
+    }
+    if name == "replay" {
+        return replay_of(found);
+    }
+    if name != "generate" {
         return None;
     }
-    let address = address_of(found)?;
-    let sessions = sessions_of(found)?;
-    let outbox = outbox_of(found)?;
-    Some(Command::Serve {
-        address,
-        sessions,
-        outbox,
-    })
+    let number = number_of(found)?;
+    Some(Command::Generate { number })
 }
 
 /// The command that the words ask for; they are without the program's name. Words that `clap`

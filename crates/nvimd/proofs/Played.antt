@@ -1,8 +1,9 @@
 -- What a run over known bytes says of its end.
-use Rattle.std.proofs.Common.{◌≡◌, ◌⊎◌, ℕ, ◌<◌, List, ◌++◌, length, Option, Some, None, sym, ap, ◌∙◌, subst, arith, length-append, inl, inr}
+use Rattle.std.proofs.Common.{◌≡◌, ◌⊎◌, ℕ, ◌<◌, List, ◌++◌, length, Option, Some, None, refl, sym, ap, ◌∙◌, subst, arith, length-append, inl, inr}
 use Rattle.std.specs.Prelude.{◌^◌}
 use Rattle.std.proofs.lemmas.List.{append-nil}
 use Rattle.std.specs.Io.KnownBytes.{prepend_known}
+use Rattle.nv_io.specs.Faults.{Rose}
 use Rattle.nv_io.specs.declared.ending.Flaw.{Flaw}
 use Rattle.nv_io.specs.declared.ending.Ended.{Ended}
 use Rattle.nv_io.specs.declared.ending.Ended.TheVariants.{Closed, Malformed, Overflowed, ReadFault, WriteFault, Quit, NoMemory}
@@ -55,3 +56,16 @@ ended_badly start (Overflowed entry) all read left kept before after e h z = cc
 ended_badly start ReadFault all read left kept before after e h z = cc
 ended_badly start WriteFault all read left kept before after e h z = cc
 ended_badly start NoMemory all read left kept before after e h z = cc
+
+-- what status 3 says, over a source that counts no fault
+pub is_read_fault : (ended : Ended) → status_of ended ≡ 3 → ended ≡ ReadFault
+is_read_fault Closed z = cc
+is_read_fault (Malformed flaw) z = cc
+is_read_fault (Overflowed entry) z = cc
+is_read_fault ReadFault z = refl
+is_read_fault WriteFault z = cc
+is_read_fault (Quit entry) z = cc
+is_read_fault NoMemory z = cc
+
+pub never_rose : Rose 0 0 → ⊥
+never_rose h = omega (arith, h)

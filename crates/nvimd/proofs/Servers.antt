@@ -1,6 +1,6 @@
 -- What is left of a server.
 use Rattle.std.proofs.Common.{◌≡◌, ◌⊎◌, ℕ, ◌+◌, ◌≤◌, List, [], ◌∷◌, ◌++◌, length, take, drop, All, Option, Some, None, refl, sym, ap, ◌∙◌, subst, arith, rules, inl, inr}
-use Rattle.std.specs.Prelude.{IsSome, option_map, min, ◌-◌, ◌^◌}
+use Rattle.std.specs.Prelude.{Bool, true, false, IsSome, option_map, min, ◌-◌, ◌^◌}
 use Rattle.std.proofs.lemmas.List.{take-append-le, take_all}
 use Rattle.nv_io.specs.Faults.{Rose}
 use Rattle.nv_io.specs.Known.{append_items}
@@ -12,14 +12,15 @@ use Rattle.nv_world.specs.declared.story.Start.{Start}
 use Rattle.nv_session.specs.Sending.{world_after}
 use Rattle.nv_model.specs.declared.parts.Limits.{Limits}
 use Rattle.nv_dispatch.specs.Runs.{usual_limits}
-use Rattle.nv_serve.specs.Headline.{Headline}
+use Rattle.nv_serve.specs.Headline.{ServerLeaves}
 use Rattle.nv_serve.specs.Jobs.{lanes_of}
 use Rattle.nv_serve.specs.Links.{LanesTell}
 use Rattle.nv_serve.specs.declared.job.Job.{Job}
-use Rattle.nvimd.specs.Commands.{start_with}
-use Rattle.nvimd.specs.Serving.{LeavesLanes, ServerEnds, ServesLanes, ServesNobody}
+use Rattle.nvimd.specs.Commands.{usual_start}
+use Rattle.nvimd.specs.Serving.{LeavesLanes, ServerEnds, ServesLanes, ServesNobody, ServesWell, ServesWithFault}
+use Rattle.nvimd.specs.inside.Ends.{IsLater}
 use Rattle.nvimd.specs.declared.serving.ServerEnd.{ServerEnd}
-use Rattle.nvimd.specs.declared.serving.ServerEnd.TheVariants.{Done, Failed, NoMemory}
+use Rattle.nvimd.specs.declared.serving.ServerEnd.TheVariants.{Done, Failed, NoMemory, WriteFault}
 use Rattle.nvimd.proofs.LanesBack.{back_all}
 
 some_there : {A : Type 0} (o : Option A) (x : A) → o ≡ Some x → IsSome o
@@ -56,21 +57,69 @@ module _ {L I S : Type 0} (t : LanesTell L I S) (start : Start) where
   nobody_runs sessions kept olds news h = subst (λ (l : List Entry). IsSome (world_after start l)) (sym h.0) (search rules)
 
   pub leaves_run : (sessions : ℕ) (kept : List Entry) (ended : ServerEnd) (rose : Type 0) (olds news : List L) → LeavesLanes t start sessions kept ended rose olds news → IsSome (world_after start kept)
-  leaves_run sessions kept Done rose olds news h = lanes_run sessions kept olds news h
+  leaves_run sessions kept Done rose olds news h = lanes_run sessions kept olds news h.0
   leaves_run sessions kept NoMemory rose olds news (inl h) = nobody_runs sessions kept olds news h
   leaves_run sessions kept NoMemory rose olds news (inr h) = lanes_run sessions kept olds news h
-  leaves_run sessions kept Failed rose olds news h = nobody_runs sessions kept olds news h.0
+  leaves_run sessions kept Failed rose olds news (inl h) = nobody_runs sessions kept olds news h.0
+  leaves_run sessions kept Failed rose olds news (inr h) = lanes_run sessions kept olds news h.0
+  leaves_run sessions kept WriteFault rose olds news (inl h) = nobody_runs sessions kept olds news h
+  leaves_run sessions kept WriteFault rose olds news (inr h) = lanes_run sessions kept olds news h.0
 
   -- as many lanes as were to be taken, whose port didn't fail
   pub leaves_so_many : (n sessions : ℕ) (kept : List Entry) (ended : ServerEnd) (rose : Type 0) (olds news : List L) → n ≡ sessions → LeavesLanes t start n kept ended ⊥ olds news → LeavesLanes t start sessions kept ended rose olds news
-  leaves_so_many n sessions kept Done rose olds news e h = (h.0 ∙ e, h.1)
+  leaves_so_many n sessions kept Done rose olds news e h = ((h.0.0 ∙ e, h.0.1), h.1)
   leaves_so_many n sessions kept NoMemory rose olds news e (inl h) = inl h
   leaves_so_many n sessions kept NoMemory rose olds news e (inr h) = inr (h.0 ∙ e, h.1)
-  leaves_so_many n sessions kept Failed rose olds news e h = absurd h.1
+  leaves_so_many n sessions kept Failed rose olds news e (inl h) = absurd h.1
+  leaves_so_many n sessions kept Failed rose olds news e (inr h) = inr ((h.0.0 ∙ e, h.0.1), h.1, h.2)
+  leaves_so_many n sessions kept WriteFault rose olds news e (inl h) = inl h
+  leaves_so_many n sessions kept WriteFault rose olds news e (inr h) = inr ((h.0.0 ∙ e, h.0.1), h.1)
 
-  -- memory was wanting before a lane was taken
+  -- whatever lanes left, they served or nobody was served
+  some_served : (sessions : ℕ) (kept : List Entry) (ended : ServerEnd) (rose : Type 0) (olds news : List L) → LeavesLanes t start sessions kept ended rose olds news
+      → ServesNobody t start sessions kept olds news ⊎ ServesLanes t start sessions kept olds news
+  some_served sessions kept Done rose olds news h = inr h.0
+  some_served sessions kept NoMemory rose olds news h = h
+  some_served sessions kept Failed rose olds news (inl h) = inl h.0
+  some_served sessions kept Failed rose olds news (inr h) = inr h.0
+  some_served sessions kept WriteFault rose olds news (inl h) = inl h
+  some_served sessions kept WriteFault rose olds news (inr h) = inr h.0
+
+  leaves_later : (sessions : ℕ) (kept : List Entry) (ended later : ServerEnd) (rose : Type 0) (olds news : List L) → IsLater ended later → LeavesLanes t start sessions kept ended rose olds news
+      → LeavesLanes t start sessions kept later rose olds news
+  leaves_later sessions kept ended later rose olds news (inl same) h = subst (λ (e : ServerEnd). LeavesLanes t start sessions kept e rose olds news) (sym same) h
+  leaves_later sessions kept ended later rose olds news (inr (inl memory)) h =
+      subst (λ (e : ServerEnd). LeavesLanes t start sessions kept e rose olds news) (sym memory) (some_served sessions kept ended rose olds news h)
+  leaves_later sessions kept ended later rose olds news (inr (inr fault)) h =
+      subst (λ (e : ServerEnd). LeavesLanes t start sessions kept e rose olds news) (sym fault.1)
+      (inr (subst (λ (e : ServerEnd). LeavesLanes t start sessions kept e rose olds news) fault.0 h))
+
+  -- a server whose book was written, or wasn't
+  pub ends_later : (sessions : ℕ) (kept : List Entry) (ended later : ServerEnd) (rose : Type 0) (before after : Option (List L)) → IsLater ended later
+      → ServerEnds t start sessions kept ended rose before after → ServerEnds t start sessions kept later rose before after
+  ends_later sessions kept ended later rose before after is h = record {
+    olds = h.olds;
+    news = h.news;
+    fresh = h.fresh;
+    back = h.back;
+    leaves = leaves_later sessions kept ended later rose h.olds h.news is h.leaves;
+  }
+
+  pub ends_run : (sessions : ℕ) (kept : List Entry) (ended : ServerEnd) (rose : Type 0) (before after : Option (List L)) → ServerEnds t start sessions kept ended rose before after → IsSome (world_after start kept)
+  ends_run sessions kept ended rose before after h = leaves_run sessions kept ended rose h.olds h.news h.leaves
+
+  -- memory was wanting before a lane was taken, or there was no file for the book
   pub none_began : (sessions : ℕ) (kept : List world.Entry) (rose : Type 0) (before after : Option (List L)) → kept ≡ [] → after ≡ before → ServerEnds t start sessions (plain_entries kept) NoMemory rose before after
   none_began sessions kept rose before after none same = record {
+    olds = [];
+    news = [];
+    fresh = search rules;
+    back = same ∙ sym (back_all before [] refl);
+    leaves = inl (ap plain_entries none, refl);
+  }
+
+  pub none_opened : (sessions : ℕ) (kept : List world.Entry) (rose : Type 0) (before after : Option (List L)) → kept ≡ [] → after ≡ before → ServerEnds t start sessions (plain_entries kept) WriteFault rose before after
+  none_opened sessions kept rose before after none same = record {
     olds = [];
     news = [];
     fresh = search rules;
@@ -86,7 +135,7 @@ module _ {L I S : Type 0} (t : LanesTell L I S) (start : Start) where
     news = lanes;
     fresh = fresh;
     back = back;
-    leaves = ((ap plain_entries none, refl), rises);
+    leaves = inl ((ap plain_entries none, refl), rises);
   }
 
   -- the lanes were served, that were lent for it
@@ -101,7 +150,16 @@ module _ {L I S : Type 0} (t : LanesTell L I S) (start : Start) where
     leaves = leaves_so_many n sessions kept ended rose olds news e (subst (λ (l : List L). LeavesLanes t start n kept ended ⊥ l news) same leaves);
   }
 
--- as many lanes as were lent were served, in a world of the usual limits
-pub lanes_left : {L I S : Type 0} (t : LanesTell L I S) (outbox n : ℕ) (kept : List Entry) (olds news : List L) (limits : Limits) → limits ≡ usual_limits → length olds ≡ n → Headline t (record { outbox = outbox; limits = limits }) kept olds news
-    → ServesLanes t (start_with outbox) n kept olds news
-lanes_left t outbox n kept olds news limits same e h = (e, subst (λ (l : Limits). Headline t (record { outbox = outbox; limits = l }) kept olds news) same h)
+module _ {L I S : Type 0} (t : LanesTell L I S) (outbox n : ℕ) (kept : List Entry) (spent failed : Bool) (olds news : List L) where
+  left_so : (start : Start) (ended : ServerEnd) → length olds ≡ n → ServerLeaves t start kept spent failed olds news → (ended ≡ Done → (spent ≡ false) × (failed ≡ false)) → (ended ≡ Failed → (spent ≡ false) × (failed ≡ true))
+      → (ended ≡ WriteFault → ⊥) → LeavesLanes t start n kept ended ⊥ olds news
+  left_so start Done e h done fault other = let d = done refl in ((e, h.served), h.well d.0 d.1)
+  left_so start NoMemory e h done fault other = inr (e, h.served)
+  left_so start Failed e h done fault other = let f = fault refl in inr ((e, h.served), h.over f.0, h.fault f.1)
+  left_so start WriteFault e h done fault other = absurd (other refl)
+
+  -- what lanes left that were served in a world of the usual limits, by how they ended
+  pub lanes_left : (limits : Limits) (ended : ServerEnd) → limits ≡ usual_limits → length olds ≡ n → ServerLeaves t (record { outbox = outbox; limits = limits }) kept spent failed olds news
+      → (ended ≡ Done → (spent ≡ false) × (failed ≡ false)) → (ended ≡ Failed → (spent ≡ false) × (failed ≡ true)) → (ended ≡ WriteFault → ⊥) → LeavesLanes t (usual_start outbox) n kept ended ⊥ olds news
+  lanes_left limits ended same e h done fault other =
+      subst (λ (l : Limits). LeavesLanes t (record { outbox = outbox; limits = l }) n kept ended ⊥ olds news) same (left_so (record { outbox = outbox; limits = limits }) ended e h done fault other)

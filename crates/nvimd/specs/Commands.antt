@@ -1,40 +1,65 @@
 -- What the words of the command line ask of the program.
-use Rattle.std.specs.Prelude.{◌≡◌, ℕ, List, Option, Some, None, ⊤}
+use Rattle.std.specs.Prelude.{◌≡◌, ℕ, Bool, IsSome, List, Option, Some, None, ⊤}
 use Rattle.nv_dispatch.specs.Runs.{usual_limits}
+use Rattle.nv_history.specs.Events.{Entry}
 use Rattle.nv_world.specs.declared.story.Start.{Start}
-use Rattle.nv_words.specs.Commands.{PlainCommand, embeds, serves, command_asked}
+use Rattle.nv_session.specs.Sending.{world_after}
+use Rattle.nv_words.specs.Commands.{PlainCommand, embeds, serves, replays, generates}
 
 -- a world of the usual limits, whose outboxes hold so many messages
-abbrev pub start_with : ℕ → Start
-start_with outbox = record { outbox = outbox; limits = usual_limits }
+abbrev pub usual_start : ℕ → Start
+usual_start outbox = record { outbox = outbox; limits = usual_limits }
 
--- what the world begins with that a command makes
-abbrev pub start_of_command : PlainCommand → Start
-start_of_command (embeds outbox) = start_with outbox
-start_of_command (serves address sessions outbox) = start_with outbox
+-- A fact of a command, where it is asked for. `embed`: of how many messages an outbox holds.
+-- `serve`: of how many sessions run at once, how many messages an outbox holds, and the name of the
+-- file for the book. `replay`: of whether the book is checked. `generate`: of the script's number.
+abbrev pub IfEmbed : Option PlainCommand → (ℕ → Type 0) → Type 0
+IfEmbed None P = ⊤
+IfEmbed (Some (embeds outbox)) P = P outbox
+IfEmbed (Some (serves address sessions outbox book)) P = ⊤
+IfEmbed (Some (replays name check)) P = ⊤
+IfEmbed (Some (generates number)) P = ⊤
 
-abbrev pub start_if_asked : Option PlainCommand → Start
-start_if_asked None = start_with 4096
-start_if_asked (Some command) = start_of_command command
-
--- what the world begins with that words ask for
-abbrev pub start_of_words : List (List ℕ) → Start
-start_of_words words = start_if_asked (command_asked words)
-
--- a command is no server
-abbrev pub IsNoServer : Option PlainCommand → Type 0
-IsNoServer None = ⊤
-IsNoServer (Some (embeds outbox)) = ⊤
-IsNoServer (Some (serves address sessions outbox)) = ⊥
-
--- a fact of how many sessions a server runs at once, and of how many messages an outbox of it
--- holds, where the command is one
-abbrev pub IfServer : Option PlainCommand → (ℕ → ℕ → Type 0) → Type 0
+abbrev pub IfServer : Option PlainCommand → (ℕ → ℕ → Option (List ℕ) → Type 0) → Type 0
 IfServer None P = ⊤
 IfServer (Some (embeds outbox)) P = ⊤
-IfServer (Some (serves address sessions outbox)) P = P sessions outbox
+IfServer (Some (serves address sessions outbox book)) P = P sessions outbox book
+IfServer (Some (replays name check)) P = ⊤
+IfServer (Some (generates number)) P = ⊤
+
+abbrev pub IfReplay : Option PlainCommand → (Bool → Type 0) → Type 0
+IfReplay None P = ⊤
+IfReplay (Some (embeds outbox)) P = ⊤
+IfReplay (Some (serves address sessions outbox book)) P = ⊤
+IfReplay (Some (replays name check)) P = P check
+IfReplay (Some (generates number)) P = ⊤
+
+abbrev pub IfGenerate : Option PlainCommand → (ℕ → Type 0) → Type 0
+IfGenerate None P = ⊤
+IfGenerate (Some (embeds outbox)) P = ⊤
+IfGenerate (Some (serves address sessions outbox book)) P = ⊤
+IfGenerate (Some (replays name check)) P = ⊤
+IfGenerate (Some (generates number)) P = P number
+
+-- the history that a command left runs in the world that it makes; that of a book begins as the
+-- book says
+abbrev pub RunsAs : Option PlainCommand → List Entry → Type 0
+RunsAs None kept = IsSome (world_after (usual_start 4096) kept)
+RunsAs (Some (embeds outbox)) kept = IsSome (world_after (usual_start outbox) kept)
+RunsAs (Some (serves address sessions outbox book)) kept =
+    IsSome (world_after (usual_start outbox) kept)
+RunsAs (Some (replays name check)) kept =
+    (outbox : ℕ) × IsSome (world_after (usual_start outbox) kept)
+RunsAs (Some (generates number)) kept = IsSome (world_after (usual_start 4096) kept)
 
 -- a port may be asked to listen on the address of a command, where it has one
 abbrev pub MayListen : (List ℕ → Type 0) → Option PlainCommand → Type 0
-MayListen may asked = (address : List ℕ) (sessions outbox : ℕ)
-    → asked ≡ Some (serves address sessions outbox) → may address
+MayListen may asked = (address : List ℕ) (sessions outbox : ℕ) (book : Option (List ℕ))
+    → asked ≡ Some (serves address sessions outbox book) → may address
+
+-- and files for the name of a command, where it has one
+abbrev pub MayOpen : (List ℕ → Type 0) → Option PlainCommand → Type 0
+MayOpen may asked =
+    ((address : List ℕ) (sessions outbox : ℕ) (name : List ℕ)
+    → asked ≡ Some (serves address sessions outbox (Some name)) → may name)
+    × ((name : List ℕ) (check : Bool) → asked ≡ Some (replays name check) → may name)

@@ -3,6 +3,10 @@ use Rattle.std.specs.Prelude.{ℕ, ◌==◌, if◌then◌else◌, List, [], ◌+
 use Rattle.nv_io.specs.declared.ending.Flaw.TheVariants.{Bad, TooDeep, TooLong, Inside, NoCall}
 use Rattle.nv_io.specs.declared.ending.Ended.{Ended}
 use Rattle.nv_io.specs.declared.ending.Ended.TheVariants.{Closed, Malformed, Overflowed, ReadFault, WriteFault, Quit, NoMemory}
+use Rattle.nv_replay.specs.declared.ending.ReplayEnd.{ReplayEnd}
+use Rattle.nv_replay.specs.declared.ending.ReplayEnd.TheVariants as replay
+use Rattle.nv_replay.specs.declared.ending.WriteEnd.{WriteEnd}
+use Rattle.nv_replay.specs.declared.ending.WriteEnd.TheVariants as write
 use Rattle.nvimd.specs.declared.serving.ServerEnd.{ServerEnd}
 use Rattle.nvimd.specs.declared.serving.ServerEnd.TheVariants as server
 
@@ -46,8 +50,44 @@ abbrev pub status_of_server : ServerEnd → ℕ
 status_of_server server.Done = 0
 status_of_server server.NoMemory = 1
 status_of_server server.Failed = 5
+status_of_server server.WriteFault = 4
 
 abbrev pub line_of_server : ServerEnd → List ℕ
 line_of_server server.Done = []
 line_of_server server.NoMemory = line_of NoMemory
 line_of_server server.Failed = codes "nvimd: listener fault\n"
+line_of_server server.WriteFault = line_of WriteFault
+
+-- the status and the line that tell how a replay ended
+abbrev pub status_of_replay : ReplayEnd → ℕ
+status_of_replay replay.Done = 0
+status_of_replay replay.NoMemory = 1
+status_of_replay replay.ReadFault = 3
+status_of_replay replay.WriteFault = 4
+status_of_replay (replay.Malformed place) = 6
+status_of_replay (replay.Differs entry) = 8
+status_of_replay (replay.Objects watcher entry) = 8
+
+abbrev pub line_of_replay : ReplayEnd → List ℕ
+line_of_replay replay.Done = []
+line_of_replay replay.NoMemory = line_of NoMemory
+line_of_replay replay.ReadFault = line_of ReadFault
+line_of_replay replay.WriteFault = line_of WriteFault
+line_of_replay (replay.Malformed place) =
+    codes "nvimd: malformed book at " ++ (decimal place ++ codes "\n")
+line_of_replay (replay.Differs entry) =
+    codes "nvimd: check differs at entry " ++ (decimal entry ++ codes "\n")
+line_of_replay (replay.Objects watcher entry) =
+    codes "nvimd: watcher " ++ (decimal watcher
+    ++ (codes " says no at entry " ++ (decimal entry ++ codes "\n")))
+
+-- and those that tell how the writing of a script's book ended
+abbrev pub status_of_script : WriteEnd → ℕ
+status_of_script write.Done = 0
+status_of_script write.NoMemory = 1
+status_of_script write.WriteFault = 4
+
+abbrev pub line_of_script : WriteEnd → List ℕ
+line_of_script write.Done = []
+line_of_script write.NoMemory = line_of NoMemory
+line_of_script write.WriteFault = line_of WriteFault

@@ -1,2 +1,3 @@
 -- inside: what only private contracts cite.
+pub mod Ends
 pub mod Lanes

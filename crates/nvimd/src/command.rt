@@ -1,30 +1,44 @@
 //! The command line: what the program does for its words.
-ghost use Rattle.std.specs.Prelude.{◌≡◌, ◌≤◌, ◌⊎◌, ℕ, List, [], IsSome, Some, map};
+ghost use Rattle.std.specs.Prelude.{◌≡◌, ◌≤◌, ◌⊎◌, ◌++◌, ℕ, List, [], IsSome, None, Some, length, map, slice_get};
 ghost use Rattle.nv_io.specs.Faults.{Rose};
 ghost use Rattle.nv_io.specs.Streams.{Gave, Tells};
 ghost use Rattle.nv_io.specs.declared.ending.Ended.{Ended};
+ghost use Rattle.nv_dispatch.specs.Runs.{usual_limits};
+ghost use Rattle.nv_history.specs.Worlds.{fresh_world};
+ghost use Rattle.nv_gen.specs.Story.{script_of};
+ghost use Rattle.nv_watch.specs.Verdicts.{IsVerdict, Sight};
+ghost use Rattle.nv_watch.specs.declared.verdict.Verdict.{Verdict};
+ghost use Rattle.nv_replay.specs.Ends.{IsNothingDone, WriteEnds};
+ghost use Rattle.nv_replay.specs.Entering.{entered};
 ghost use Rattle.nv_words.specs.Commands.{AreWords, HasFairNumbers, command_asked, plain_command};
 ghost use Rattle.nv_world.specs.Contents.{plain_entries};
 ghost use Rattle.nv_session.specs.Ends.{SessionEnds};
 ghost use Rattle.nv_session.specs.Sending.{world_after, HasSession};
-ghost use Rattle.nvimd.specs.Commands.{IfServer, IsNoServer, MayListen, start_of_command, start_of_words, start_with};
+ghost use Rattle.nvimd.specs.Commands.{IfEmbed, IfGenerate, IfReplay, IfServer, MayListen, MayOpen, RunsAs, usual_start};
 ghost use Rattle.nvimd.specs.Following.{HasMarksInPlace, IsFolded, IsShown};
-ghost use Rattle.nvimd.specs.Serving.{ServerEnds};
-ghost use Rattle.nvimd.specs.Statuses.{line_of, line_of_refusal, line_of_server, status_of, status_of_server};
+ghost use Rattle.nvimd.specs.Replaying.{LeavesFile, PlaysBook};
+ghost use Rattle.nvimd.specs.Serving.{IfBook, LeavesBook, ServerEnds};
+ghost use Rattle.nvimd.specs.Statuses.{line_of, line_of_refusal, line_of_replay, line_of_script, line_of_server, status_of, status_of_replay, status_of_script, status_of_server};
 ghost use Rattle.nvimd.specs.declared.serving.ServerEnd.{ServerEnd};
 
+use crate::replaying::replay;
 use crate::serving::serve;
-use crate::telling::{status_of, status_of_server, tell, tell_end, tell_server};
+use crate::telling::{
+    status_of, status_of_replay, status_of_script, status_of_server, tell, tell_end, tell_replay,
+    tell_script, tell_server,
+};
 use nv_dispatch::usual_limits;
 use nv_history::{fold_law, mark_law, screen_law};
-use nv_io::{Ended, Lane, Port, Sink, Source};
+use nv_io::{Ended, Files, Lane, Port, Sink, Source};
+use nv_replay::{ReplayEnd, WriteEnd, generate};
 use nv_session::alone;
+use nv_watch::Watcher;
 use nv_words::{Command, Refusal, read_words};
-use nv_world::{History, World};
+use nv_world::{History, Start, World};
 use std::alloc::Global;
 use std::fs::File;
 use std::net::{Net, TcpListener, TcpStream};
-use std::rt::Files;
+use std::rt::Files as SystemFiles;
 use std::sync::Wait;
 use std::thread::Threads;
 
@@ -64,11 +78,11 @@ fn embed<R: Net<Listener = TcpListener, Stream = TcpStream>, I: Source, S: Sink>
     requires empty { kept.old.entries ≡ [] }
     ensures ends { (bytes : List ℕ)
         × Gave (I.taken input.old) (I.taken input.new) (I.left input.old) (I.left input.new) bytes
-        × SessionEnds (start_with outbox) result bytes (I.left input.new)
+        × SessionEnds (usual_start outbox) result bytes (I.left input.new)
         (plain_entries kept.new.entries) (S.taken output.old) (S.taken output.new) }
     ensures has { (kept.new.entries ≡ [])
-        ⊎ HasSession (start_with outbox) (plain_entries kept.new.entries) }
-    ensures runs { IsSome (world_after (start_with outbox) (plain_entries kept.new.entries)) }
+        ⊎ HasSession (usual_start outbox) (plain_entries kept.new.entries) }
+    ensures runs { IsSome (world_after (usual_start outbox) (plain_entries kept.new.entries)) }
     ensures read { result ≡ Ended.ReadFault → Rose (I.faults input.old) (I.faults input.new) }
     ensures write { result ≡ Ended.WriteFault → Rose (S.faults output.old) (S.faults output.new) }
 {
@@ -82,11 +96,17 @@ fn embed<R: Net<Listener = TcpListener, Stream = TcpStream>, I: Source, S: Sink>
 
 // Does what a command asks for, and answers the status.
 fn perform<
-    R: Files<File = File> + Net<Listener = TcpListener, Stream = TcpStream> + Threads + Wait + Sync,
+    R: SystemFiles<File = File>
+        + Net<Listener = TcpListener, Stream = TcpStream>
+        + Threads
+        + Wait
+        + Sync,
     I: Source,
     S: Sink,
     E: Sink,
+    F: Files,
     P: Port,
+    W: Watcher,
 >(
     rt: &R,
     alloc: Global,
@@ -94,25 +114,27 @@ fn perform<
     input: &mut I,
     output: &mut S,
     errors: &mut E,
+    files: &mut F,
     port: &mut P,
+    watchers: Vec<W>,
     kept: &mut History,
 ) -> u8
     requires numbers { HasFairNumbers (plain_command command) }
     requires may { MayListen P.may (Some (plain_command command)) }
+    requires open { MayOpen F.may (Some (plain_command command)) }
     requires empty { kept.old.entries ≡ [] }
     ensures other { result ≡ 2 → ⊥ }
-    ensures read { result ≡ 3 → Rose (I.faults input.old) (I.faults input.new) }
-    ensures write { result ≡ 4 → Rose (S.faults output.old) (S.faults output.new) }
-    ensures session { IsNoServer (Some (plain_command command.entry))
-        → (ended : Ended) × (bytes : List ℕ) × (result ≡ status_of ended)
+    ensures session { IfEmbed (Some (plain_command command.entry)) (λ outbox.
+        (ended : Ended) × (bytes : List ℕ) × (result ≡ status_of ended)
         × Gave (I.taken input.old) (I.taken input.new) (I.left input.old) (I.left input.new) bytes
-        × SessionEnds (start_of_command (plain_command command.entry)) ended bytes
-        (I.left input.new) (plain_entries kept.new.entries) (S.taken output.old)
-        (S.taken output.new)
+        × SessionEnds (usual_start outbox) ended bytes (I.left input.new)
+        (plain_entries kept.new.entries) (S.taken output.old) (S.taken output.new)
+        × (ended ≡ Ended.ReadFault → Rose (I.faults input.old) (I.faults input.new))
+        × (ended ≡ Ended.WriteFault → Rose (S.faults output.old) (S.faults output.new))
+        × (files.new ≡ files.old) × (port.new ≡ port.old)
         × Tells (line_of ended) (E.taken errors.old) (E.taken errors.new) (E.faults errors.old)
-        (E.faults errors.new) }
-    ensures idle { IsNoServer (Some (plain_command command.entry)) → port.new ≡ port.old }
-    ensures server { IfServer (Some (plain_command command.entry)) (λ sessions outbox.
+        (E.faults errors.new)) }
+    ensures server { IfServer (Some (plain_command command.entry)) (λ sessions outbox book.
         (ended : ServerEnd) × (result ≡ status_of_server ended)
         × ServerEnds (record {
           ends = record {
@@ -126,14 +148,48 @@ fn perform<
           over = P.Line.Lane.over;
           lent = P.Line.Lane.lent;
           faults = P.Line.Lane.faults;
-        }) (start_with outbox) sessions (plain_entries kept.new.entries) ended
+        }) (usual_start outbox) sessions (plain_entries kept.new.entries) ended
         (Rose (P.faults port.old) (P.faults port.new)) (P.returned port.old) (P.returned port.new)
+        × IfBook book (files.new ≡ files.old)
+        (LeavesBook F.To.Sink.taken F.To.Sink.faults (usual_start outbox)
+        (plain_entries kept.new.entries) ended (Rose (F.faults files.old) (F.faults files.new))
+        (F.returned_sinks files.old) (F.returned_sinks files.new))
+        × (F.returned_sources files.new ≡ F.returned_sources files.old)
         × (P.lent port.new ≡ P.lent port.old)
         × (input.new ≡ input.old) × (output.new ≡ output.old)
         × Tells (line_of_server ended) (E.taken errors.old) (E.taken errors.new)
         (E.faults errors.old) (E.faults errors.new)) }
-    ensures runs { IsSome (world_after (start_of_command (plain_command command.entry))
-        (plain_entries kept.new.entries)) }
+    ensures replay { IfReplay (Some (plain_command command.entry)) (λ check.
+        (ended : ReplayEnd) × (result ≡ status_of_replay ended)
+        × LeavesFile F.From.Source.taken F.From.Source.left F.From.Source.faults ended
+        (Rose (F.faults files.old) (F.faults files.new))
+        (IsNothingDone (plain_entries kept.old.entries) (plain_entries kept.new.entries)
+        (S.taken output.old) (S.taken output.new))
+        (λ bytes left. PlaysBook check (length watchers.items)
+        (λ seen verdicts. (i : ℕ) (w : W) (v : Verdict) (before : List Sight)
+        → slice_get watchers.items i ≡ Some w → slice_get verdicts i ≡ Some v
+        → W.HasSeen w before → IsVerdict (W.Breaks w) (before ++ seen) v)
+        ended bytes left (plain_entries kept.old.entries) (plain_entries kept.new.entries)
+        (S.taken output.old) (S.taken output.new))
+        (F.returned_sources files.old) (F.returned_sources files.new)
+        × (ended ≡ ReplayEnd.WriteFault → Rose (S.faults output.old) (S.faults output.new))
+        × (F.returned_sinks files.new ≡ F.returned_sinks files.old)
+        × (input.new ≡ input.old) × (port.new ≡ port.old)
+        × Tells (line_of_replay ended) (E.taken errors.old) (E.taken errors.new)
+        (E.faults errors.old) (E.faults errors.new)) }
+    ensures generate { IfGenerate (Some (plain_command command.entry)) (λ number.
+        (ended : WriteEnd) × (result ≡ status_of_script ended)
+        × WriteEnds (usual_start 4096) ended
+        (entered (fresh_world 4096 usual_limits) (script_of number)) (S.taken output.old)
+        (S.taken output.new)
+        × (ended ≡ WriteEnd.WriteFault → Rose (S.faults output.old) (S.faults output.new))
+        × (kept.new ≡ kept.old)
+        × (input.new ≡ input.old) × (files.new ≡ files.old) × (port.new ≡ port.old)
+        × Tells (line_of_script ended) (E.taken errors.old) (E.taken errors.new)
+        (E.faults errors.old) (E.faults errors.new)) }
+    ensures back { (F.lent_sources files.new ≡ F.lent_sources files.old)
+        × (F.lent_sinks files.new ≡ F.lent_sinks files.old) }
+    ensures runs { RunsAs (Some (plain_command command.entry)) (plain_entries kept.new.entries) }
 {
     match command {
         Command::Embed { outbox } => {
@@ -145,10 +201,23 @@ fn perform<
             address,
             sessions,
             outbox,
+            book,
         } => {
-            let ended = serve(rt, alloc, address, sessions, outbox, port, kept);
+            let ended = serve(
+                rt, alloc, address, sessions, outbox, book, files, port, kept,
+            );
             tell_server(rt, errors, ended);
             status_of_server(ended)
+        }
+        Command::Replay { file, check } => {
+            let ended = replay(rt, alloc, file, check, output, files, watchers, kept);
+            tell_replay(rt, errors, ended);
+            status_of_replay(ended)
+        }
+        Command::Generate { number } => {
+            let ended = generate(rt, alloc, usual_limits(), 4_096, number, output);
+            tell_script(rt, errors, ended);
+            status_of_script(ended)
         }
     }
 }
@@ -158,14 +227,24 @@ fn perform<
 ///
 /// With the command `embed` it reads requests and notifications of MessagePack-RPC from `input`,
 /// and writes to `output` what each makes due: events and its reply. With `serve` it does so for
-/// each connection that the lanes of `port` give, for many at once, on one editor. After a status
-/// other than 0 it writes one line to `errors`; a fault there changes nothing.
+/// each connection that the lanes of `port` give, for many at once, on one editor, and writes the
+/// book of all of it to a file where one is named. With `replay` it goes over the book in a file
+/// again, and writes to `output` what its sessions are sent, or with `--check` compares that with
+/// the book and shows each step to the watchers. With `generate` it writes the book of a script to
+/// `output`. After a status other than 0 it writes one line to `errors`; a fault there changes
+/// nothing.
 pub fn run<
-    R: Files<File = File> + Net<Listener = TcpListener, Stream = TcpStream> + Threads + Wait + Sync,
+    R: SystemFiles<File = File>
+        + Net<Listener = TcpListener, Stream = TcpStream>
+        + Threads
+        + Wait
+        + Sync,
     I: Source,
     S: Sink,
     E: Sink,
+    F: Files,
     P: Port,
+    W: Watcher,
 >(
     rt: &R,
     alloc: Global,
@@ -173,48 +252,48 @@ pub fn run<
     input: &mut I,
     output: &mut S,
     errors: &mut E,
+    files: &mut F,
     port: &mut P,
+    watchers: Vec<W>,
     kept: &mut History,
 ) -> u8
     requires empty { kept.old.entries ≡ [] }
 
-    // The port may be asked for the address that the words give, and is asked for no other.
+    // The port may be asked for the address that the words give, the files for the names, and they
+    // are asked for no other.
     requires may { MayListen P.may (command_asked (map (λ word. word.now) words.now)) }
+    requires open { MayOpen F.may (command_asked (map (λ word. word.now) words.now)) }
 
     // Exactly the words are refused that the parser refuses for another cause than memory, and then
-    // nothing is read, kept or written to `output`.
+    // nothing is read, kept or written to `output`, nor where no command is found for want of it.
     ensures words { result ≡ 2 → AreWords (map (λ word. word.now) words.now) → ⊥ }
     ensures refused { (AreWords (map (λ word. word.now) words.now) → ⊥)
+        ⊎ (command_asked (map (λ word. word.now) words.now) ≡ None)
         → ((result ≡ 1) ⊎ (result ≡ 2))
-        × (I.taken input.new ≡ I.taken input.old) × (I.left input.new ≡ I.left input.old)
-        × (S.taken output.new ≡ S.taken output.old) × (kept.new ≡ kept.old)
-        × (port.new ≡ port.old)
+        × (input.new ≡ input.old) × (output.new ≡ output.old) × (kept.new ≡ kept.old)
+        × (files.new ≡ files.old) × (port.new ≡ port.old)
         × Tells (line_of_refusal result) (E.taken errors.old) (E.taken errors.new)
         (E.faults errors.old) (E.faults errors.new) }
 
-    // Faults are answered only where they rose.
-    ensures read { result ≡ 3 → Rose (I.faults input.old) (I.faults input.new) }
-    ensures write { result ≡ 4 → Rose (S.faults output.old) (S.faults output.new) }
-
-    // Where the words ask for no server, there is an end that the status and the line tell, of the
-    // bytes that were read and the history that was kept.
+    // Where the words ask for one session, there is an end of it that the status and the line tell,
+    // of the bytes that were read and the history that was kept. Faults come only where they rose.
     ensures session { AreWords (map (λ word. word.now) words.now)
-        → IsNoServer (command_asked (map (λ word. word.now) words.now))
-        → (ended : Ended) × (bytes : List ℕ) × (result ≡ status_of ended)
+        → IfEmbed (command_asked (map (λ word. word.now) words.now)) (λ outbox.
+        (ended : Ended) × (bytes : List ℕ) × (result ≡ status_of ended)
         × Gave (I.taken input.old) (I.taken input.new) (I.left input.old) (I.left input.new) bytes
-        × SessionEnds (start_of_words (map (λ word. word.now) words.now)) ended bytes
-        (I.left input.new) (plain_entries kept.new.entries) (S.taken output.old)
-        (S.taken output.new)
+        × SessionEnds (usual_start outbox) ended bytes (I.left input.new)
+        (plain_entries kept.new.entries) (S.taken output.old) (S.taken output.new)
+        × (ended ≡ Ended.ReadFault → Rose (I.faults input.old) (I.faults input.new))
+        × (ended ≡ Ended.WriteFault → Rose (S.faults output.old) (S.faults output.new))
+        × (files.new ≡ files.old) × (port.new ≡ port.old)
         × Tells (line_of ended) (E.taken errors.old) (E.taken errors.new) (E.faults errors.old)
-        (E.faults errors.new) }
-    ensures idle { IsNoServer (command_asked (map (λ word. word.now) words.now))
-        → port.new ≡ port.old }
+        (E.faults errors.new)) }
 
-    // Where they ask for one, there is an end of the server that the status and the line tell: what
-    // its lanes served, by the one history that was kept. Each lane that the port gave came back,
-    // and nothing was read or written elsewhere.
+    // Where they ask for a server, there is an end of it that the status and the line tell: what
+    // its lanes served, by the one history that was kept, and the book of that. Each lane that the
+    // port gave came back, and nothing was read or written elsewhere.
     ensures server { AreWords (map (λ word. word.now) words.now)
-        → IfServer (command_asked (map (λ word. word.now) words.now)) (λ sessions outbox.
+        → IfServer (command_asked (map (λ word. word.now) words.now)) (λ sessions outbox book.
         (ended : ServerEnd) × (result ≡ status_of_server ended)
         × ServerEnds (record {
           ends = record {
@@ -228,30 +307,75 @@ pub fn run<
           over = P.Line.Lane.over;
           lent = P.Line.Lane.lent;
           faults = P.Line.Lane.faults;
-        }) (start_with outbox) sessions (plain_entries kept.new.entries) ended
+        }) (usual_start outbox) sessions (plain_entries kept.new.entries) ended
         (Rose (P.faults port.old) (P.faults port.new)) (P.returned port.old) (P.returned port.new)
+        × IfBook book (files.new ≡ files.old)
+        (LeavesBook F.To.Sink.taken F.To.Sink.faults (usual_start outbox)
+        (plain_entries kept.new.entries) ended (Rose (F.faults files.old) (F.faults files.new))
+        (F.returned_sinks files.old) (F.returned_sinks files.new))
+        × (F.returned_sources files.new ≡ F.returned_sources files.old)
         × (P.lent port.new ≡ P.lent port.old)
         × (input.new ≡ input.old) × (output.new ≡ output.old)
         × Tells (line_of_server ended) (E.taken errors.old) (E.taken errors.new)
         (E.faults errors.old) (E.faults errors.new)) }
 
-    // The history runs. Folding the events that a session was sent gives each buffer at the
-    // changedtick that they tell, folding the redraw events shows the screen of the editor with
-    // each batch that has a scene, and each mark stands where the edits put it.
-    ensures runs { IsSome (world_after (start_of_words (map (λ word. word.now) words.now))
-        (plain_entries kept.new.entries)) }
-    ensures folds { IsFolded (start_of_words (map (λ word. word.now) words.now))
+    // Where they ask for a replay, there is an end of it that the status and the line tell, of the
+    // bytes that were read of the file.
+    ensures replay { AreWords (map (λ word. word.now) words.now)
+        → IfReplay (command_asked (map (λ word. word.now) words.now)) (λ check.
+        (ended : ReplayEnd) × (result ≡ status_of_replay ended)
+        × LeavesFile F.From.Source.taken F.From.Source.left F.From.Source.faults ended
+        (Rose (F.faults files.old) (F.faults files.new))
+        (IsNothingDone (plain_entries kept.old.entries) (plain_entries kept.new.entries)
+        (S.taken output.old) (S.taken output.new))
+        (λ bytes left. PlaysBook check (length watchers.items)
+        (λ seen verdicts. (i : ℕ) (w : W) (v : Verdict) (before : List Sight)
+        → slice_get watchers.items i ≡ Some w → slice_get verdicts i ≡ Some v
+        → W.HasSeen w before → IsVerdict (W.Breaks w) (before ++ seen) v)
+        ended bytes left (plain_entries kept.old.entries) (plain_entries kept.new.entries)
+        (S.taken output.old) (S.taken output.new))
+        (F.returned_sources files.old) (F.returned_sources files.new)
+        × (ended ≡ ReplayEnd.WriteFault → Rose (S.faults output.old) (S.faults output.new))
+        × (F.returned_sinks files.new ≡ F.returned_sinks files.old)
+        × (input.new ≡ input.old) × (port.new ≡ port.old)
+        × Tells (line_of_replay ended) (E.taken errors.old) (E.taken errors.new)
+        (E.faults errors.old) (E.faults errors.new)) }
+
+    // Where they ask for the book of a script, there is an end of it that the status and the line
+    // tell.
+    ensures generate { AreWords (map (λ word. word.now) words.now)
+        → IfGenerate (command_asked (map (λ word. word.now) words.now)) (λ number.
+        (ended : WriteEnd) × (result ≡ status_of_script ended)
+        × WriteEnds (usual_start 4096) ended
+        (entered (fresh_world 4096 usual_limits) (script_of number)) (S.taken output.old)
+        (S.taken output.new)
+        × (ended ≡ WriteEnd.WriteFault → Rose (S.faults output.old) (S.faults output.new))
+        × (kept.new ≡ kept.old)
+        × (input.new ≡ input.old) × (files.new ≡ files.old) × (port.new ≡ port.old)
+        × Tells (line_of_script ended) (E.taken errors.old) (E.taken errors.new)
+        (E.faults errors.old) (E.faults errors.new)) }
+
+    // What the files gave came back.
+    ensures back { (F.lent_sources files.new ≡ F.lent_sources files.old)
+        × (F.lent_sinks files.new ≡ F.lent_sinks files.old) }
+
+    // The history runs. Whatever the world begins with in which it does: folding the events that a
+    // session was sent gives each buffer at the changedtick that they tell, folding the redraw
+    // events shows the screen of the editor with each batch that has a scene, and each mark stands
+    // where the edits put it.
+    ensures runs { RunsAs (command_asked (map (λ word. word.now) words.now))
         (plain_entries kept.new.entries) }
-    ensures screens { IsShown (start_of_words (map (λ word. word.now) words.now))
-        (plain_entries kept.new.entries) }
-    ensures marks { HasMarksInPlace (start_of_words (map (λ word. word.now) words.now))
-        (plain_entries kept.new.entries) }
+    ensures folds { (start : Start) → IsFolded start (plain_entries kept.new.entries) }
+    ensures screens { (start : Start) → IsShown start (plain_entries kept.new.entries) }
+    ensures marks { (start : Start) → HasMarksInPlace start (plain_entries kept.new.entries) }
 {
     fold_law();
     screen_law();
     mark_law();
     match read_words(alloc, words) {
-        Ok(command) => perform(rt, alloc, command, input, output, errors, port, kept),
+        Ok(command) => perform(
+            rt, alloc, command, input, output, errors, files, port, watchers, kept,
+        ),
         Err(refusal) => refuse(rt, errors, refusal),
     }
 }

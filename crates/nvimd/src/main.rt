@@ -3,12 +3,14 @@
 
 mod command;
 mod lanes;
+mod replaying;
 mod serving;
 mod telling;
 mod whole;
 
 use command::run;
-use nv_io::{Ended, SockPort, StdErr, StdIn, StdOut};
+use nv_io::{DiskFiles, Ended, SockPort, StdErr, StdIn, StdOut};
+use nv_watch::Counter;
 use nv_world::History;
 use std::alloc::AllocError;
 use std::process::ExitCode;
@@ -46,6 +48,9 @@ fn main(rt: HostRuntime) -> ExitCode {
     let Ok(words) = words.collect::<Vec<&str>>(alloc) else {
         return want_of_memory(&rt, &mut errors);
     };
+    let Ok(watchers) = vec![in alloc; Counter::new(alloc)] else {
+        return want_of_memory(&rt, &mut errors);
+    };
     let mut port = SockPort::new(rt);
     let status = run(
         &rt,
@@ -54,13 +59,17 @@ fn main(rt: HostRuntime) -> ExitCode {
         &mut StdIn::new(rt.stdin()),
         &mut StdOut::new(rt.stdout()),
         &mut errors,
+        &mut DiskFiles::new(),
         &mut port,
+        watchers,
         &mut History::new(alloc),
     );
     port.close(&rt);
     ExitCode::from(status)
 }
 
+#[cfg(test)]
+mod book_tests;
 #[cfg(test)]
 mod serving_tests;
 #[cfg(test)]

@@ -2,7 +2,8 @@
 ghost use Rattle.std.specs.Prelude.{◌≡◌, [], IfOk};
 
 use crate::command::run;
-use nv_io::{Ended, MemLane, MemPort, MemSink, MemSource, SureSink, SureSource};
+use nv_io::{Ended, MemFiles, MemLane, MemPort, MemSink, MemSource, SureSink, SureSource};
+use nv_watch::Counter;
 use nv_world::History;
 use std::alloc::{AllocError, Global};
 use std::fs::File;
@@ -74,7 +75,9 @@ fn told<
         &mut SureSource::new(Vec::new(alloc), vec![in alloc; 1]?),
         &mut SureSink::new(64),
         &mut SureSink::new(64),
+        &mut MemFiles::new(alloc, Vec::new(alloc), Vec::new(alloc), Vec::new(alloc))?,
         &mut port,
+        Vec::<Counter>::new(alloc),
         &mut kept,
     );
     let ends = [end_of(&port, 0), end_of(&port, 1)];
@@ -91,8 +94,8 @@ fn two_sessions_are_served(rt: HostRuntime) -> Result<(), Fail> {
     Ok(())
 }
 
-// The first call of the port is `listen`, and the third the second `lane`. A lane whose `accept`
-// fails ends, and the other goes on.
+// The first call of the port is `listen`, and the third the second `lane`. Where the `accept` of
+// one lane fails the other goes on.
 #[test]
 fn a_port_fails_or_a_lane_does(rt: HostRuntime) -> Result<(), Fail> {
     let alloc = rt.alloc();
@@ -104,6 +107,6 @@ fn a_port_fails_or_a_lane_does(rt: HostRuntime) -> Result<(), Fail> {
     assert!(rt; lane == (5, 1, 0, [None, None]));
     let accept = vec![in alloc; 0]?;
     let accept = told(&rt, alloc, [SET, SET], Vec::new(alloc), accept)?;
-    assert!(rt; accept == (0, 2, 4, [None, Some(Ended::Closed)]));
+    assert!(rt; accept == (5, 2, 4, [None, Some(Ended::Closed)]));
     Ok(())
 }

@@ -1,13 +1,15 @@
 //! What the program says of its end: a status, and a line on the errors' stream. It takes no
 //! memory.
-ghost use Rattle.std.specs.Prelude.{◌≡◌, flat_map};
+ghost use Rattle.std.specs.Prelude.{◌≡◌, ◌++◌, codes, decimal, flat_map};
 ghost use Rattle.nv_io.specs.Streams.{Tells};
 ghost use Rattle.nv_io.specs.declared.ending.Ended.TheVariants.{Malformed};
-ghost use Rattle.nvimd.specs.Statuses.{status_of, status_of_server, line_of, line_of_server, malformed_line};
+ghost use Rattle.nv_replay.specs.declared.ending.ReplayEnd.TheVariants.{Objects};
+ghost use Rattle.nvimd.specs.Statuses.{line_of, line_of_replay, line_of_script, line_of_server, malformed_line, status_of, status_of_replay, status_of_script, status_of_server};
 
 use crate::serving::ServerEnd;
 use itoa::Buffer;
 use nv_io::{Ended, Flaw, Sink, put_all};
+use nv_replay::{ReplayEnd, WriteEnd};
 use std::net::{Net, TcpListener, TcpStream};
 
 /// The status of an end.
@@ -32,6 +34,32 @@ pub fn status_of_server(ended: ServerEnd) -> u8
         ServerEnd::Done => 0,
         ServerEnd::NoMemory => 1,
         ServerEnd::Failed => 5,
+        ServerEnd::WriteFault => 4,
+    }
+}
+
+/// The status of the end of a replay.
+pub fn status_of_replay(ended: ReplayEnd) -> u8
+    ensures { result ≡ status_of_replay ended }
+{
+    match ended {
+        ReplayEnd::Done => 0,
+        ReplayEnd::NoMemory => 1,
+        ReplayEnd::ReadFault => 3,
+        ReplayEnd::WriteFault => 4,
+        ReplayEnd::Malformed(_) => 6,
+        ReplayEnd::Differs(_) | ReplayEnd::Objects { .. } => 8,
+    }
+}
+
+/// The status of the end of the writing of a script's book.
+pub fn status_of_script(ended: WriteEnd) -> u8
+    ensures { result ≡ status_of_script ended }
+{
+    match ended {
+        WriteEnd::Done => 0,
+        WriteEnd::NoMemory => 1,
+        WriteEnd::WriteFault => 4,
     }
 }
 
@@ -112,5 +140,88 @@ pub fn tell_server<R: Net<Listener = TcpListener, Stream = TcpStream>, E: Sink>(
         ServerEnd::Done => tell(rt, errors, &[]),
         ServerEnd::NoMemory => tell(rt, errors, &["nvimd: out of memory\n"]),
         ServerEnd::Failed => tell(rt, errors, &["nvimd: listener fault\n"]),
+        ServerEnd::WriteFault => tell(rt, errors, &["nvimd: write fault\n"]),
+    }
+}
+
+// Writes a line to `errors` that ends with a number.
+fn tell_number<R: Net<Listener = TcpListener, Stream = TcpStream>, E: Sink>(
+    rt: &R,
+    errors: &mut E,
+    words: &str,
+    number: u64,
+)
+    ensures { Tells (words.now ++ (decimal number ++ codes "\n")) (E.taken errors.old)
+        (E.taken errors.new) (E.faults errors.old) (E.faults errors.new) }
+{
+    let mut digits = Buffer::new();
+    let number = digits.format(number);
+    tell(rt, errors, &[words, number, "\n"]);
+}
+
+// Writes the line of the watcher that says no to `errors`.
+fn tell_no<R: Net<Listener = TcpListener, Stream = TcpStream>, E: Sink>(
+    rt: &R,
+    errors: &mut E,
+    watcher: u64,
+    entry: u64,
+)
+    ensures { Tells (line_of_replay (Objects watcher entry)) (E.taken errors.old)
+        (E.taken errors.new) (E.faults errors.old) (E.faults errors.new) }
+{
+    let mut digits = Buffer::new();
+    let mut more = Buffer::new();
+    let watcher = digits.format(watcher);
+    let entry = more.format(entry);
+    tell(
+        rt,
+        errors,
+        &[
+            "nvimd: watcher ",
+            watcher,
+            " says no at entry ",
+            entry,
+            "\n",
+        ],
+    );
+}
+
+/// Writes the line of the end of a replay to `errors`, where it has one.
+pub fn tell_replay<R: Net<Listener = TcpListener, Stream = TcpStream>, E: Sink>(
+    rt: &R,
+    errors: &mut E,
+    ended: ReplayEnd,
+)
+    ensures { Tells (line_of_replay ended) (E.taken errors.old) (E.taken errors.new)
+        (E.faults errors.old) (E.faults errors.new) }
+{
+    match ended {
+        ReplayEnd::Done => tell(rt, errors, &[]),
+        ReplayEnd::NoMemory => tell(rt, errors, &["nvimd: out of memory\n"]),
+        ReplayEnd::ReadFault => tell(rt, errors, &["nvimd: read fault\n"]),
+        ReplayEnd::WriteFault => tell(rt, errors, &["nvimd: write fault\n"]),
+        ReplayEnd::Malformed(place) => {
+            tell_number(rt, errors, "nvimd: malformed book at ", place);
+        }
+        ReplayEnd::Differs(entry) => {
+            tell_number(rt, errors, "nvimd: check differs at entry ", entry);
+        }
+        ReplayEnd::Objects { watcher, entry } => tell_no(rt, errors, watcher, entry),
+    }
+}
+
+/// Writes the line of the end of the writing of a script's book to `errors`, where it has one.
+pub fn tell_script<R: Net<Listener = TcpListener, Stream = TcpStream>, E: Sink>(
+    rt: &R,
+    errors: &mut E,
+    ended: WriteEnd,
+)
+    ensures { Tells (line_of_script ended) (E.taken errors.old) (E.taken errors.new)
+        (E.faults errors.old) (E.faults errors.new) }
+{
+    match ended {
+        WriteEnd::Done => tell(rt, errors, &[]),
+        WriteEnd::NoMemory => tell(rt, errors, &["nvimd: out of memory\n"]),
+        WriteEnd::WriteFault => tell(rt, errors, &["nvimd: write fault\n"]),
     }
 }

@@ -3,7 +3,8 @@ ghost use Rattle.std.specs.Prelude.{◌≡◌, ◌<◌, []};
 
 use crate::command::run;
 use crate::whole::answer_all;
-use nv_io::{MemPort, MemSink, MemSource};
+use nv_io::{MemFiles, MemPort, MemSink, MemSource};
+use nv_watch::Counter;
 use nv_world::{Event, History};
 use std::alloc::{AllocError, Global};
 use std::fs::File;
@@ -738,7 +739,7 @@ fn ample(alloc: Global) -> MemSink {
     MemSink::new(alloc, 4_096, Vec::new(alloc))
 }
 
-// Runs over devices that are lent, and a port without lanes.
+// Runs over devices that are lent, without files, and over a port without lanes.
 fn run_over<
     R: Files<File = File> + Net<Listener = TcpListener, Stream = TcpStream> + Threads + Wait + Sync,
 >(
@@ -756,7 +757,14 @@ fn run_over<
     let Ok(mut port) = none else {
         return 1;
     };
-    run(rt, alloc, words, input, output, errors, &mut port, kept)
+    let none = MemFiles::new(alloc, Vec::new(alloc), Vec::new(alloc), Vec::new(alloc));
+    let Ok(mut files) = none else {
+        return 1;
+    };
+    let watchers: Vec<Counter> = Vec::new(alloc);
+    run(
+        rt, alloc, words, input, output, errors, &mut files, &mut port, watchers, kept,
+    )
 }
 
 fn play<
@@ -1095,12 +1103,16 @@ fn a_write_fault_goes_before_the_end_of_the_server(rt: HostRuntime) -> Result<()
 #[test]
 fn other_words_are_refused(rt: HostRuntime) -> Result<(), Fail> {
     let alloc = rt.alloc();
-    let refused: [&[&str]; 5] = [
+    let refused: [&[&str]; 9] = [
         &[],
         &["serve"],
         &["serve", "--listen", "/a", "--sessions", "0"],
         &["Embed"],
         &["embed", "--outbox", "15"],
+        &["replay"],
+        &["replay", "a", "b"],
+        &["generate", "-1"],
+        &["generate", "18446744073709551616"],
     ];
     for words in refused {
         let input = source(alloc, SET_GET, 1, Vec::new(alloc))?;

@@ -5,10 +5,11 @@ ghost use Rattle.nv_io.specs.declared.ending.Flaw.{Flaw};
 ghost use Rattle.nv_history.specs.Events.{quit_at};
 ghost use Rattle.nv_world.specs.Contents.{plain_entries};
 ghost use Rattle.nv_session.specs.Ends.{AnswersAll, AnswersUpTo};
-ghost use Rattle.nvimd.specs.Commands.{start_with};
+ghost use Rattle.nvimd.specs.Commands.{usual_start};
 
 use crate::command::run;
-use nv_io::{MemPort, MemSink, SureSink, SureSource};
+use nv_io::{MemFiles, MemPort, MemSink, SureSink, SureSource};
+use nv_watch::Counter;
 use nv_world::History;
 use std::alloc::Global;
 use std::fs::File;
@@ -32,14 +33,14 @@ pub fn answer_all<
     ensures command { result.0 ≢ 2 }
     ensures sure { result.0 ≢ 3 }
     ensures whole { result.0 ≡ 0
-        → AnswersAll (start_with 4096) None bytes.items (plain_entries result.2.entries) (Some [])
+        → AnswersAll (usual_start 4096) None bytes.items (plain_entries result.2.entries) (Some [])
         (Some result.1.taken)
         ⊎ ((entry : ℕ) × (read rest : List ℕ) × (bytes.items ≡ read ++ rest)
-        × AnswersUpTo (start_with 4096) (quit_at entry) read (plain_entries result.2.entries)
+        × AnswersUpTo (usual_start 4096) (quit_at entry) read (plain_entries result.2.entries)
         (Some []) (Some result.1.taken)) }
     ensures malformed { result.0 ≡ 6
         → (flaw : Flaw) × (read rest : List ℕ) × (bytes.items ≡ read ++ rest)
-        × AnswersAll (start_with 4096) (Some flaw) read (plain_entries result.2.entries) (Some [])
+        × AnswersAll (usual_start 4096) (Some flaw) read (plain_entries result.2.entries) (Some [])
         (Some result.1.taken) }
 {
     let mut input = SureSource::new(bytes, cuts);
@@ -50,6 +51,10 @@ pub fn answer_all<
     let Ok(mut port) = port else {
         return (1, output, kept);
     };
+    let files = MemFiles::new(alloc, Vec::new(alloc), Vec::new(alloc), Vec::new(alloc));
+    let Ok(mut files) = files else {
+        return (1, output, kept);
+    };
     let status = run(
         rt,
         alloc,
@@ -57,7 +62,9 @@ pub fn answer_all<
         &mut input,
         &mut output,
         &mut errors,
+        &mut files,
         &mut port,
+        Vec::<Counter>::new(alloc),
         &mut kept,
     );
     (status, output, kept)
