@@ -1,30 +1,35 @@
 #!/usr/bin/python3
 """Many sessions of `nvimd serve` at once over a socket, each a seeded series of calls, and each reply looked at.
 
-Editors follow two texts that all of them change, and compare their copies with the texts at each of their calls. Owners
-change a text of their own, and compare each reply with a plain model. UIs fold their screens, which must be the text in the
-end. Some sessions end in the middle of a message and come again, and some don't read. Then the server is asked to end. Last,
-sessions open, work and close, as many as it takes, twice over: its descriptors and its memory come back.
+Editors follow two texts that all of them change, and compare their copies with the texts at each of their calls; some of them
+stay, and read to the end. Owners change a text of their own, and compare each reply with a plain model. UIs fold their screens,
+which must be the text in the end. Some sessions end in the middle of a message and come again, and some don't read. Then the
+server is asked to end. The book that it recorded is right, by `nvimd replay`, and gives each session what its client read.
+Last, sessions open, work and close, as many as it takes, three times over: its descriptors and its memory come back.
 
 Usage: clients/crowd.py [SEED] [--sessions N] [--steps N]       from anywhere; it starts the launcher `nvimd`
 Wants Debian's python3-msgpack.
 """
 
 import argparse
+import os
 import random
 import sys
+import tempfile
 import threading
 import time
 
 import msgpack
 
+from book import held, held_by_sessions
 from follow import Copy
 from grid import Grid
-from rpc import Refused, Serve, limit
+from rpc import LONG, Refused, Serve, limit
 from server import Ended
 from undo_tree import Model
 
 MOST_SECONDS = 600
+MOST = 256  # sessions at once
 SHARED = (1, 2)
 OPTIONS = {"ext_linegrid": True, "rgb": True}
 PATIENCE = 30  # seconds until a screen must show a text
@@ -51,11 +56,15 @@ class Findings:
 class Part(threading.Thread):
     """One session, in a thread of its own, of so many steps; what ends it early counts as failed."""
 
+    is_read = True  # what its client reads is compared with the book
+    is_whole = False  # its client reads to the end
+
     def __init__(self, server, findings, seed, steps):
         super().__init__(daemon=True)
         self.server, self.findings, self.steps = server, findings, steps
         self.random = random.Random(f"{type(self).__name__} {seed}")
         self.session = None
+        self.has_worked = threading.Event()
         self.name = f"{type(self).__name__} {seed}"
 
     def same(self, what, got, wanted):
@@ -67,14 +76,19 @@ class Part(threading.Thread):
             self.session.kept = bytearray()
             self.number_of_session = self.session.call("nvim_get_api_info")[0]
             self.begin()
-            for _ in range(self.steps):
-                self.step()
+            self.work()
+            self.has_worked.set()
             self.end()
         except (Ended, Refused, AssertionError, OSError) as error:
             self.same("its end", repr(error), "no error")
+        self.has_worked.set()
 
     def begin(self):
         """What comes before the steps."""
+
+    def work(self):
+        for _ in range(self.steps):
+            self.step()
 
     def step(self):
         """One call or some."""
@@ -138,6 +152,16 @@ class Editor(Part):
         seen = self.take()
         self.same("a copy", (self.copies[number].tick, self.copies[number].lines), (results[-2], results[-1]))
         return seen, results
+
+
+class Follower(Editor):
+    """An editor that stays, and reads to the end."""
+
+    is_whole = True
+
+    def end(self):
+        self.session.rest()
+        super().end()
 
 
 class Owner(Part):
@@ -223,6 +247,8 @@ class Ui(Part):
 class Cut(Part):
     """Ends in the middle of a message, and comes again."""
 
+    is_read = False
+
     def step(self):
         self.session.call("nvim_buf_line_count", self.random.choice(SHARED))
         message = msgpack.packb([0, 9, "nvim_buf_get_lines", [1, 0, -1, True]])
@@ -233,6 +259,8 @@ class Cut(Part):
 
 class Deaf(Part):
     """Follows the shared texts and asks for them, and reads nothing."""
+
+    is_read = False
 
     def begin(self):
         for number in SHARED:
@@ -247,7 +275,7 @@ class Deaf(Part):
         time.sleep(0.002)
 
 
-ROLES = [Editor, Editor, Editor, Owner, Owner, Ui, Cut, Deaf]
+ROLES = [Editor, Editor, Follower, Owner, Owner, Ui, Cut, Deaf]
 
 
 def is_there(session, number):
@@ -257,14 +285,14 @@ def is_there(session, number):
 
 
 def crowd(server, findings, seed, count, steps):
-    """So many sessions at once, and then what their UIs show."""
+    """So many sessions at once, and what their UIs show behind it; then the server's end. Answers what clients read, by session."""
     judge = server.client()
     is_there(judge, SHARED[1])
     parts = [ROLES[n % len(ROLES)](server, findings, f"{seed} {n}", steps) for n in range(count)]
     for part in parts:
         part.start()
     for part in parts:
-        part.join()
+        part.has_worked.wait()
     judge.call("nvim_call_atomic", [["nvim_set_current_buf", [1]], ["nvim_win_set_cursor", [0, [1, 0]]]])
     lines = judge.call("nvim_buf_get_lines", 1, 0, -1, True)
     size = judge.call("nvim_win_get_width", 0), judge.call("nvim_win_get_height", 0) + 2
@@ -275,7 +303,10 @@ def crowd(server, findings, seed, count, steps):
     for part in shown:  # the screen grows when the smallest UI goes
         part.session.close()
     judge.close()
-    return {part.number_of_session: bytes(part.session.kept) for part in parts if not isinstance(part, (Cut, Deaf))}
+    findings.same("status", server.quit(LONG), 0)
+    for part in parts:
+        part.join()
+    return {part.number_of_session: (bytes(part.session.kept), part.is_whole) for part in parts if part.is_read}
 
 
 def settled(server):
@@ -314,13 +345,17 @@ def main():
     words.add_argument("--steps", type=int, default=60)
     asked = words.parse_args()
     findings = Findings()
-    server = Serve("--sessions", str(asked.sessions + 8))
-    crowd(server, findings, asked.seed, asked.sessions, asked.steps)
+    with tempfile.TemporaryDirectory() as folder:
+        path = os.path.join(folder, "book")
+        server = Serve("--sessions", str(min(asked.sessions + 8, MOST)), "--book", path)
+        read = crowd(server, findings, asked.seed, asked.sessions, asked.steps)
+        book = held(findings, path)
+        held_by_sessions(findings, book, read)
+        print(f"the book: {book.summary()}", end="")
+    server = Serve("--sessions", str(MOST))
+    left = rounds(server, findings, MOST)
     findings.same("status", server.quit(), 0)
-    server = Serve("--sessions", "256")
-    held = rounds(server, findings, 255)
-    findings.same("status", server.quit(), 0)
-    print(f"255 sessions three times over: {', '.join(f'{n:.1f}' for n in held)} MB")
+    print(f"{MOST} sessions three times over: {', '.join(f'{n:.1f}' for n in left)} MB")
     print(f"{findings.passed} passed, {findings.failed} failed")
     return 1 if findings.failed else 0
 

@@ -4,25 +4,30 @@
 Twenty honest sessions edit two shared texts and follow them, or change texts of their own. Beside them others send streams
 with wrong bytes at a random place, are killed in the middle of a message, read one byte now and then, open and close at once,
 begin values that never end, and let their outbox run over. Each of these ends as it must: closed by the server, or by
-itself. Behind it all the server has the descriptors that it had, and ends when it is asked to.
+itself. Behind it all the server has the descriptors that it had, and ends when it is asked to. The book that it recorded is
+right, by `nvimd replay --check`, and gives each honest session what its client read.
 
-Usage: clients/hostile.py [SEED] [--seconds N]       from anywhere; it starts the launcher `nvimd`; 20 seconds without N
+Usage: clients/hostile.py [SEED] [--seeds N] [--seconds N]       from anywhere; it starts the launcher `nvimd`
+SEED is 1 without it, N seeds from it on are tried, one without `--seeds`, each for N seconds, 20 without `--seconds`.
 Wants Debian's python3-msgpack.
 """
 
 import argparse
+import os
 import random
 import select
 import socket
 import subprocess
 import sys
+import tempfile
 import threading
 import time
 
 import msgpack
 
+from book import Replayed, held_by_sessions
 from crowd import SHARED, Editor, Findings, Owner, is_there, settled
-from rpc import Refused, Serve, limit
+from rpc import LONG, Serve, limit
 from server import Ended, socket_at
 
 OUTBOX = 256
@@ -34,17 +39,10 @@ PATIENCE = 30
 class Honest:
     """A part of the crowd that goes on until the time is over."""
 
-    def run(self):
-        self.steps = 0
-        try:
-            self.session = self.server.client()
-            self.begin()
-            while time.monotonic() < self.until:
-                self.step()
-                self.steps += 1
-            self.end()
-        except (Ended, Refused, AssertionError, OSError) as error:
-            self.same("its end", repr(error), "no error")
+    def work(self):
+        while time.monotonic() < self.until:
+            self.step()
+            self.steps += 1
 
 
 class HonestEditor(Honest, Editor):
@@ -217,7 +215,7 @@ HOSTILE = [BadBytes, BadBytes, NoCalls, Unended, OpenClose, Killed, Slow, Slow, 
 
 
 def beside(server, findings, seed, seconds):
-    """Honest and hostile sessions at once, for so many seconds."""
+    """Honest and hostile sessions at once, for so many seconds. Answers what the honest clients read, by session."""
     first = server.client()
     is_there(first, SHARED[1])
     until = time.monotonic() + seconds
@@ -235,22 +233,33 @@ def beside(server, findings, seed, seconds):
     for part in hostile:
         told[type(part).__name__] = told.get(type(part).__name__, 0) + part.count
     print(f"{sum(part.steps for part in honest)} steps of {len(honest)} honest sessions, beside", ", ".join(f"{n} {k}" for k, n in told.items()))
+    return {part.number_of_session: (bytes(part.session.kept), False) for part in honest}
+
+
+def attempt(findings, seed, seconds, path):
+    """Hostile sessions beside honest ones for one seed, and what the book of it says."""
+    server = Serve("--sessions", "64", "--outbox", str(OUTBOX), "--book", path)
+    at_first, memory = settled(server)
+    read = beside(server, findings, seed, seconds)
+    descriptors, later = settled(server)
+    findings.same("descriptors behind it", descriptors, at_first)
+    findings.same("status", server.quit(LONG), 0)
+    book = Replayed(findings, path)
+    held_by_sessions(findings, book, read)
+    print(f"{memory:.1f} MB before, {later:.1f} MB behind it; the book, {os.path.getsize(path) / 1e6:.1f} MB: {book.summary()}", end="")
 
 
 def main():
     words = argparse.ArgumentParser(description="Hostile sessions of a server beside honest ones.")
     words.add_argument("seed", nargs="?", type=int, default=1)
+    words.add_argument("--seeds", type=int, default=1)
     words.add_argument("--seconds", type=int, default=20)
     asked = words.parse_args()
-    limit(asked.seconds + 10 * PATIENCE)
+    limit(asked.seeds * (asked.seconds + 10 * PATIENCE))
     findings = Findings()
-    server = Serve("--sessions", "64", "--outbox", str(OUTBOX))
-    at_first, memory = settled(server)
-    beside(server, findings, asked.seed, asked.seconds)
-    descriptors, later = settled(server)
-    findings.same("descriptors behind it", descriptors, at_first)
-    findings.same("status", server.quit(), 0)
-    print(f"{memory:.1f} MB before, {later:.1f} MB behind it")
+    for seed in range(asked.seed, asked.seed + asked.seeds):
+        with tempfile.TemporaryDirectory() as folder:
+            attempt(findings, seed, asked.seconds, os.path.join(folder, "book"))
     print(f"{findings.passed} passed, {findings.failed} failed")
     return 1 if findings.failed else 0
 

@@ -1,7 +1,7 @@
 #!/usr/bin/python3
 """Holds docs/PROTOCOL.md against the program: its methods are those that the program answers, each with the parameters and the
 type of result that nvim_get_api_info tells; each example of calls gives what stands behind it, is refused by it, tells these
-events, or draws this batch; each example of a message or of an input is answered by the messages, or by the status and the
+events, or draws this batch; each example of a message, an input or a book is answered by the messages, or by the status and the
 line, that stand behind it; and the limits that some thousand calls reach are where the page has them.
 
 Each method, fault, event and status must have an example.
@@ -14,11 +14,12 @@ import os
 import re
 import subprocess
 import sys
+import tempfile
 
 import msgpack
 
 from examples import calls_in, handle, value_in
-from rpc import LAUNCHER, TOP
+from rpc import LAUNCHER, TOP, finished
 
 ENTRY = re.compile(r"\[`(nvim_\w+)`\]\([^)]*\)`\(([^)]*)\)` (\w+)")
 EXAMPLE = re.compile(r"`(nvim_\w+\([^`]*)` gives `([^`]*)`")
@@ -27,6 +28,9 @@ EVENT = re.compile(r"`(nvim_\w+\([^`]*)` tells `([^`]*)`")
 DRAWN = re.compile(r"`(nvim_\w+\([^`]*)` draws `([^`]*)`")
 MESSAGE = re.compile(r"`(\[[012], [^`]*)` is answered by (nothing|`([^`]*)`)")
 INPUT = re.compile(r"[Tt]he input `([0-9a-f ]*)`(?: (\d+) times)? ends? with status (\d)(?: and `([^`]*)`)?")
+BOOK = re.compile(
+    r"[Tt]he book `([0-9a-f ]*)` (?:is replayed as `([0-9a-f ]*)`, and `--check` )?(?:says `([^`]*)`|ends with status (\d) and `([^`]*)`)"
+)
 FAULT = re.compile(r"^\| (\d+) \| \d \| .* \|$", re.MULTILINE)
 STATUS = re.compile(r"^\| (\d) \| [^|]* \| (?:`nvimd: |none)", re.MULTILINE)
 LIMIT = re.compile(r"^\| ([^|]*) \| ([\d,]+)[^|]* \| [^|]* \|$", re.MULTILINE)
@@ -40,10 +44,10 @@ LIMITS = {
 
 def ran(data, *words):
     """What the program writes for an input, and its status and what it says."""
-    done = subprocess.run([LAUNCHER, "embed", *words], input=data, stdout=subprocess.PIPE, stderr=subprocess.PIPE)
+    written, status, line = finished("embed", *words, data=data)
     found = msgpack.Unpacker(raw=False, ext_hook=handle, max_buffer_size=0)
-    found.feed(done.stdout)
-    return list(found), done.returncode, done.stderr.decode().rstrip("\n")
+    found.feed(written)
+    return list(found), status, line
 
 
 def session(calls):
@@ -137,6 +141,7 @@ class Page:
             shown.add(status)
             got = ran(bytes.fromhex(data) * int(times or 1))[1:]
             self.same(f"the input {data}", got, (int(status), line))
+        shown.update(self.books())
         told = set(STATUS.findall(self.text))
         shown.add(self.device("a word that is none", words=("embed", "now")))
         shown.add(self.device("an input that is a folder", stdin="/"))
@@ -146,6 +151,23 @@ class Page:
         shown.add(self.overflow())
         # want of memory has no example
         self.same("statuses without an example", sorted(told - shown - {"1"}), [])
+
+    def books(self):
+        """Each example of a book; the statuses that they show."""
+        shown = set()
+        with tempfile.NamedTemporaryFile() as file:
+            for data, replayed, said, status, line in BOOK.findall(self.lines):
+                file.seek(0)
+                file.truncate()
+                file.write(bytes.fromhex(data))
+                file.flush()
+                wanted = (f"{said}\n".encode() if said else b"", int(status or 0), line)
+                self.same(f"the book {data}, checked", finished("replay", file.name, "--check"), wanted)
+                wanted = (bytes.fromhex(replayed), 0, "") if replayed else wanted
+                self.same(f"the book {data}", finished("replay", file.name), wanted)
+                shown.add(status)
+        self.same("an example of a right book", "" in shown, True)
+        return shown
 
     def device(self, what, words=("embed",), stdin=None, stdout="/dev/null"):
         """A status that comes for these words and devices; its line must stand beside it in the page."""

@@ -17,6 +17,7 @@ from server import Ended, socket_at
 
 TOP = os.path.dirname(os.path.dirname(os.path.abspath(__file__)))
 LAUNCHER = os.path.join(TOP, "nvimd")
+LONG = 300  # seconds for what ends by itself
 
 
 running = []  # the servers that were started here and haven't ended
@@ -33,6 +34,12 @@ def limit(seconds):
 
     signal.signal(signal.SIGALRM, late)
     signal.alarm(seconds)
+
+
+def finished(*words, data=b"", into=subprocess.PIPE):
+    """What the launcher writes for these words and this input, its status, and the line that it says."""
+    done = subprocess.run([LAUNCHER, *words], input=data, stdout=into, stderr=subprocess.PIPE, timeout=LONG)
+    return done.stdout, done.returncode, done.stderr.decode().rstrip("\n")
 
 
 class Refused(Exception):
@@ -121,6 +128,14 @@ class Session:
         else:
             self.told.append(rest)
 
+    def rest(self):
+        """Reads all messages up to the end of the session."""
+        try:
+            while True:
+                self.message()
+        except Ended:
+            pass
+
     def answer(self, msgid):
         """The error and the result of a request."""
         while msgid not in self.replies:
@@ -176,10 +191,10 @@ class Client(Session):
 class Serve:
     """`nvimd serve`, or another server of this protocol, on a socket in a temporary folder."""
 
-    def __init__(self, *words, command=(LAUNCHER, "serve", "--listen")):
+    def __init__(self, *words, command=(LAUNCHER, "serve", "--listen"), errors=None):
         self.folder = tempfile.TemporaryDirectory(prefix="nvimd")
         self.address = os.path.join(self.folder.name, "socket")
-        self.child = subprocess.Popen([*command, self.address, *words], stdin=subprocess.DEVNULL)
+        self.child = subprocess.Popen([*command, self.address, *words], stdin=subprocess.DEVNULL, stderr=errors)
         running.append(self.child)
         while True:
             try:
@@ -214,10 +229,10 @@ class Serve:
     def descriptors(self):
         return len(os.listdir(f"/proc/{self.child.pid}/fd"))
 
-    def memory(self):
-        """What it holds in memory now, in MB."""
+    def memory(self, kind="VmRSS"):
+        """What it holds in memory now, or at its peak with `VmHWM`, in MB."""
         with open(f"/proc/{self.child.pid}/status") as status:
-            return [int(line.split()[1]) / 1024 for line in status if line.startswith("VmRSS")][0]
+            return [int(line.split()[1]) / 1024 for line in status if line.startswith(kind)][0]
 
     def seconds(self):
         """The processor time that it took so far."""

@@ -1,0 +1,239 @@
+#!/usr/bin/python3
+"""Books of `nvimd` beside a reader of their own (clients/book.py): those that `generate` and `serve --book` write.
+
+Each is spelled as it must be, `replay --check` finds it right and counts its entries, and `replay` gives each session what it was
+sent. Values in their longest spellings are read as well. What is no book is refused with the place of the value that is wrong, a
+changed output is found, and so is what can't be read or written: each by its status and its line, and nothing else is written.
+
+Usage: clients/books.py       from anywhere; it starts the launcher `nvimd`
+Wants Debian's python3-msgpack.
+"""
+
+import bisect
+import hashlib
+import os
+import subprocess
+import sys
+import tempfile
+
+import msgpack
+
+from book import PIECE, Values, held, held_by_sessions, spelled
+from rpc import LONG, Serve, finished, limit
+from scenes import Count
+from server import Ended
+
+MOST_SECONDS = 300
+# of a number, the bytes of what is generated, and their sum
+GENERATED = {
+    7: (858_848, "02515d4ed4da593e6661e13e302f797523fbc5fda3e948595d0faf0d0e3fb05a"),
+    (1 << 64) - 1: (852_451, "ba7f9dbf41a1cea4ba1287705265c3fd3c49222fd5b8fe690ea26dae1c807379"),
+}
+SUMMARY = "entries 6871 sessions 3 takes 4862 bytes 728618 ok\n"  # of the book of 7
+
+NAME = "nvim_buf_line_count"
+SMALL = [
+    ["nvimd-book", 1, 4096], ["o", 0], ["r", 0, 1, 1, NAME, [0]], ["t", 0, 1, 1], b"\x94\x01\x01\xc0\x01", ["c", 0, 1], ["end", 4],
+]
+DEEP = [0]
+for _ in range(63):
+    DEEP = [DEEP]
+# what is wrong in place of each value of the small book
+WRONG = {
+    0: [
+        ["nvimd-cook", 1, 4096], ["nvimd-book", 0, 4096], ["nvimd-book", 1, 15], ["nvimd-book", 1, 1_048_577], ["nvimd-book", 1],
+        "nvimd-book", [],
+    ],
+    1: [["o", -1], ["o", 1 << 32], ["o"], ["o", 0, 0], ["x", 0], [b"o", 0], [], 0, None, {"o": 0}, ["c", 0, 1], ["end", 4]],
+    2: [
+        ["r", 0, 2, 1, NAME, [0]], ["r", 0, 0, 1, NAME, [0]], ["r", 0, 1, 1 << 32, NAME, [0]], ["r", 0, 1, -1, NAME, [0]],
+        ["r", 0, 1, 1, NAME.encode(), [0]], ["r", 0, 1, 1, NAME, {}], ["r", 0, 1, 1, NAME, DEEP], ["t", 0, 1, 0],
+    ],
+    3: [["t", 0, 2, 1], ["t", 0, 1, -1], ["t", 0, 1], b"\x94\x01\x01\xc0\x01"],
+    4: [b"", "text", 5, ["t", 0, 1, 1], b"x" * (PIECE + 1)],
+    5: [["c", 0, 2], ["c", 0], ["t", 0, 1, 0], ["end", 4]],
+    6: [["end", 3], ["end", 5], ["end", -1], ["end"], ["fin", 4], ["c", 0, 1], ["r", 0, 1, 2, NAME, [0]]],
+}
+# the small book with a number of pieces that its one piece isn't
+MISCOUNTED = [["t", 0, 1, 0], ["t", 0, 1, 2]]
+BAD_WORDS = [
+    ["replay"], ["replay", "--check"], ["replay", "one", "two"], ["replay", "one", "--book", "two"],
+    ["serve", "--listen", "/x", "--book"],
+    ["generate"], ["generate", "-1"], ["generate", str(1 << 64)], ["generate", "seven"], ["generate", "7", "8"],
+]
+
+
+def longest(value):
+    """A value in its longest spelling."""
+    if isinstance(value, bool) or value is None:
+        return msgpack.packb(value)
+    if isinstance(value, int):
+        return b"\xcf" + value.to_bytes(8, "big") if value >= 1 << 63 else b"\xd3" + value.to_bytes(8, "big", signed=True)
+    head = {str: b"\xdb", bytes: b"\xc6", list: b"\xdd", dict: b"\xdf"}[type(value)]
+    held_there = value.encode(errors="surrogateescape") if isinstance(value, str) else value
+    head += len(held_there).to_bytes(4, "big")
+    if isinstance(held_there, bytes):
+        return head + held_there
+    parts = value if isinstance(value, list) else [part for pair in value.items() for part in pair]
+    return head + b"".join(map(longest, parts))
+
+
+def laid(path):
+    """The places at which the values of a file begin, and its end."""
+    values = Values(path)
+    places = []
+    while values.left():
+        values.next()
+        places.append(values.begun)
+    return [*places, len(values.data)]
+
+
+class Books(Count):
+    """What is said of the books in a folder."""
+
+    def __init__(self, folder):
+        super().__init__()
+        self.folder = folder
+
+    def write(self, name, data):
+        path = os.path.join(self.folder, name)
+        with open(path, "wb") as file:
+            file.write(data)
+        return path
+
+    def refused(self, what, data, status, line, *words):
+        """`replay` of these bytes writes nothing, and ends with this status and line."""
+        self.same(f"{what} {words}", finished("replay", self.write("bad", data), *words), (b"", status, line))
+
+    def malformed(self, what, data, place):
+        for words in ([], ["--check"]):
+            self.refused(what, data, 6, f"nvimd: malformed book at {place}", *words)
+
+    def generated(self):
+        """The same bytes each time, of the size and the sum that the rules give."""
+        for number, (size, wanted) in GENERATED.items():
+            data, *end = finished("generate", str(number))
+            self.same(f"the book of {number}", (len(data), hashlib.sha256(data).hexdigest(), *end), (size, wanted, 0, ""))
+            self.same(f"the book of {number} again", finished("generate", str(number))[0] == data, True)
+            book = held(self, self.write(str(number), data))
+            if number == 7:
+                self.same("what it counts", book.summary(), SUMMARY)
+                self.long_forms(book)
+                self.changed(book)
+
+    def long_forms(self, book):
+        """Its values in their longest spellings are the same book."""
+        path = self.write("long", b"".join(map(longest, book.values())))
+        self.same("long forms, checked", finished("replay", path, "--check"), (book.summary().encode(), 0, ""))
+        self.same("long forms", finished("replay", path) == (spelled(map(list, book.pieces())), 0, ""), True)
+
+    def changed(self, book):
+        """Two outputs are changed by a bit: the first is found."""
+        numbers = [number for number, _, _ in book.pieces()]
+        first, second = numbers[len(numbers) // 3], numbers[-1]
+        for number in (first, second):
+            told, output = book.entries[number]
+            book.entries[number] = told, output[:-1] + bytes([output[-1] ^ 1])
+        data = spelled(book.values())
+        self.refused("two changed outputs", data, 8, f"nvimd: check differs at entry {first}", "--check")
+
+    def small(self):
+        """A small book: right, cut at each byte, and with each value wrong in some way."""
+        data = spelled(SMALL)
+        path = self.write("small", data)
+        places = laid(path)
+        held(self, path)
+        for at in range(len(data)):
+            self.malformed(f"cut at {at}", data[:at], places[bisect.bisect(places, at) - 1])
+        for number, wrong in WRONG.items():
+            at = places[number]
+            self.malformed(f"byte {at} begins nothing", data[:at] + b"\xc1" + data[at + 1 :], at)
+            for value in wrong:
+                values = [*SMALL[:number], value, *SMALL[number + 1 :]]
+                self.malformed(f"{str(value)[:40]} in place {number}", spelled(values), at)
+        for take in MISCOUNTED:
+            self.malformed(f"{take}", spelled([*SMALL[:3], take, *SMALL[4:]]), places[4])
+        self.malformed("more behind it", data + b"\xc0", len(data))
+        for output in (b"\x94\x01\x01\xc0\x02", b"\x94\x01\x01\xc0", b"\x94\x01\x01\xc0\x01\xc0"):
+            changed = spelled([*SMALL[:4], output, *SMALL[5:]])
+            self.refused("another output", changed, 8, "nvimd: check differs at entry 2", "--check")
+            true = spelled([[2, 1, SMALL[4]]])
+            self.same("another output, replayed", finished("replay", self.write("changed", changed)), (true, 0, ""))
+
+    def served(self):
+        """The book of a server over a longer file: what its clients asked for, and what they read; an output is of three pieces."""
+        path = self.write("served", b"\xc1" * (8 * PIECE))
+        server = Serve("--sessions", "4", "--outbox", "64", "--book", path)
+        sessions = [server.client() for _ in range(3)]
+        for session in sessions:
+            session.kept = bytearray()
+            session.number = session.call("nvim_get_api_info")[0]
+        editor, follower, ui = sessions
+        ui.call("nvim_ui_attach", 40, 12, {"ext_linegrid": True})
+        follower.call("nvim_buf_attach", 1, True, {})
+        editor.send(spelled([[2, "nvim_nope", []], [2, b"nvim_list_bufs", []], [2, NAME, [msgpack.ExtType(0, b"\x01")]]]))
+        editor.call("nvim_buf_set_lines", 0, 0, -1, True, ["x" * 100_000] * 22)
+        editor.call("nvim_buf_get_lines", 0, 0, -1, True)
+        for session in (follower, ui):  # reads what it is told; a client that doesn't keeps the server from ending
+            session.call(NAME, 0)
+        self.same("a server's status", server.quit(LONG), 0)
+        for session in sessions:
+            session.rest()
+            session.close()
+        book = held(self, path)
+        self.same("its first value", book.head, ["nvimd-book", 1, 64])
+        held_by_sessions(self, book, {session.number: (session.kept, True) for session in sessions})
+        asked = [told[3:] for told, _ in book.entries if told[0] == "r" and told[2] == editor.number]
+        names = ["nvim_get_api_info", "nvim_nope", "nvim_list_bufs", NAME, "nvim_buf_set_lines", "nvim_buf_get_lines"]
+        self.same("what was asked", [name for _, name, _ in asked], names)
+        self.same("their numbers", [msgid for msgid, _, _ in asked], [1, None, None, None, 2, 3])
+        self.same("a handle", asked[3][2], [msgpack.ExtType(0, b"\x01")])
+        self.cut_otherwise(book)
+
+    def cut_otherwise(self, book):
+        """A byte of the first of three pieces stands in the second."""
+        values = list(book.values())
+        number = next(n for n, value in enumerate(values) if value[0] == "t" and value[3] == 3)
+        one, two = values[number + 1 : number + 3]
+        values[number + 1 : number + 3] = [one[:-1], one[-1:] + two]
+        self.malformed("a short piece", spelled(values), len(spelled(values[: number + 1])))
+
+    def devices(self):
+        """What can't be read or written."""
+        path = self.write("small", spelled(SMALL))
+        for name in (os.path.join(self.folder, "nothing"), self.folder):
+            for words in ([], ["--check"]):
+                self.same(f"replay of {name} {words}", finished("replay", name, *words), (b"", 3, "nvimd: read fault"))
+        for words in (["replay", path], ["replay", path, "--check"], ["generate", "7"]):
+            with open("/dev/full", "wb") as full:
+                self.same(f"{words} on a full disk", finished(*words, into=full), (None, 4, "nvimd: write fault"))
+        socket = os.path.join(self.folder, "socket")
+        for name in (os.path.join(self.folder, "nowhere", "book"), self.folder):
+            done = finished("serve", "--listen", socket, "--book", name)
+            self.same(f"a book in {name}", (*done, os.path.exists(socket)), (b"", 4, "nvimd: write fault", False))
+        server = Serve("--book", "/dev/full", errors=subprocess.PIPE)
+        self.same("a book on a full disk", (server.quit(), server.child.stderr.read()), (4, b"nvimd: write fault\n"))
+        server.child.stderr.close()
+        taken = self.write("taken", b"old")
+        done = finished("serve", "--listen", os.path.join(self.folder, "nowhere", "socket"), "--book", taken)
+        self.same("no address", done, (b"", 5, "nvimd: listener fault"))
+
+    def bad_words(self):
+        for words in BAD_WORDS:
+            self.same(f"the words {words}", finished(*words), (b"", 2, "nvimd: bad command line"))
+
+
+def main():
+    limit(MOST_SECONDS)
+    with tempfile.TemporaryDirectory() as folder:
+        books = Books(folder)
+        for part in (books.generated, books.small, books.served, books.devices, books.bad_words):
+            try:
+                part()
+            except Ended as ended:
+                books.same(part.__name__, str(ended), "no fault")
+    return books.end()
+
+
+if __name__ == "__main__":
+    sys.exit(main())
