@@ -31,10 +31,3 @@ pub use indexing::{is_outside, leaves_text, row_of_index, text_col, text_row};
 pub use methods::{Method, method_of};
 pub use reading::{integer_of, truth_of};
 pub use rules::{Rule, Takes};
-
-#[cfg(test)]
-mod dict_tests;
-#[cfg(test)]
-mod reading_tests;
-#[cfg(test)]
-mod tests;

@@ -45,10 +45,3 @@ pub use sockets::{SockSink, SockSource};
 pub use standard::{StdErr, StdIn, StdOut};
 pub use sure::{SureSink, SureSource};
 pub use writing::{Put, Sink};
-
-#[cfg(test)]
-mod shelf_tests;
-#[cfg(test)]
-mod system_tests;
-#[cfg(test)]
-mod tests;

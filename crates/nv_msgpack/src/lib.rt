@@ -23,6 +23,3 @@ pub use laws::{
 };
 pub use reader::decode;
 pub use writer::encode;
-
-#[cfg(test)]
-mod tests;

@@ -14,6 +14,3 @@ pub use laws::{read_is_told, told_is_read};
 pub use message::Message;
 pub use receiving::message_of;
 pub use sending::{into_value, value_of};
-
-#[cfg(test)]
-mod tests;

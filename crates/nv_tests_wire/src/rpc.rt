@@ -2,8 +2,8 @@
 ghost use Rattle.nv_rpc.specs.Messages.{IsSendable};
 ghost use Rattle.nv_rpc.specs.MessageView.{sent_of};
 
-use crate::{Frame, Message, call_of, into_value, message_of, value_of};
 use nv_msgpack::{Bounds, Decoded, decode, encode};
+use nv_rpc::{Frame, Message, call_of, into_value, message_of, value_of};
 use nv_value::{ApiFault, Bytes, Value};
 use std::alloc::{AllocError, Global};
 use std::test::Fail;

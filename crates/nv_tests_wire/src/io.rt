@@ -1,6 +1,9 @@
 //! The devices in memory, and whole writes over them, against tables written by hand.
 
-use crate::{Got, MemSink, MemSource, Put, Sink, Source, SureSink, SureSource, put_all};
+mod shelf;
+mod system;
+
+use nv_io::{Got, MemSink, MemSource, Put, Sink, Source, SureSink, SureSource, put_all};
 use std::test::Fail;
 
 // "hello" in pieces of 2 and 1 bytes, over and over, where the second read fails.

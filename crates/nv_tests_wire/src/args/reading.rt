@@ -1,9 +1,8 @@
 //! The reading of calls against a table written by hand: the types and words of Neovim's help
 //! (`api-types`), the params as MessagePack spells them.
 
-ghost use Rattle.std.specs.Prelude.{◌<◌};
-
-use crate::{Args, Fail, Method, method_of, read};
+use crate::digits::push_hex;
+use nv_args::{Args, Fail, Method, method_of, read};
 use nv_msgpack::{Bounds, Decoded, decode};
 use nv_value::{Items, Value};
 use std::alloc::{AllocError, Global};
@@ -14,24 +13,10 @@ const BOUNDS: Bounds = Bounds {
     bytes: 1_024,
 };
 
-fn digit(letter: u8) -> u8
-    ensures { result < 16 }
-{
-    match letter {
-        b'0'..=b'9' => letter - b'0',
-        b'a'..=b'f' => letter - b'a' + 10,
-        _ => 0,
-    }
-}
-
 // The values of the list that these digits spell.
 pub fn params(alloc: Global, hex: &str) -> Result<Items, AllocError> {
     let mut bytes = Vec::new(alloc);
-    for pair in hex.as_bytes().chunks(2) {
-        if let [high, low] = pair {
-            bytes.push(digit(*high) * 16 + digit(*low))?;
-        }
-    }
+    push_hex(&mut bytes, hex)?;
     match decode(alloc, bytes.as_slice(), BOUNDS)? {
         Decoded::Whole(Value::List(items), _) => Ok(items),
         _ => Ok(Vec::new(alloc)),
@@ -219,40 +204,59 @@ fn arguments(alloc: Global, method: Method, hex: &str) -> Result<Option<Args>, A
     }
 }
 
+// What the call `[buffer 7, 2, -1, 1, ["a", b"b"]]` gives: its numbers, the first of them again
+// once its lines are taken; its flag; and how many lines are there, are taken and are left.
+fn lines_taken(alloc: Global) -> Result<Option<([i64; 5], bool, [usize; 3])>, AllocError> {
+    match arguments(alloc, Method::BufSetLines, "95d4000702ff0192a161c40162")? {
+        Some(mut args) => {
+            let (first, second) = (args.number(0), args.number(1));
+            let (third, none) = (args.number(2), args.number(4));
+            let flag = args.flag(3);
+            let there = args.values(4).len();
+            let taken = args.take_lines(4)?.len();
+            let left = args.values(4).len();
+            let numbers = [first, second, third, none, args.number(0)];
+            Ok(Some((numbers, flag, [there, taken, left])))
+        }
+        None => Ok(None),
+    }
+}
+
+// Of the call `["x", {"a": nil}, "y", {}, []]`: whether its first string is "x", its Dict has one
+// pair, its other string is "y", and nothing is left of that once it is taken.
+fn strings_taken(alloc: Global) -> Result<Option<[bool; 4]>, AllocError> {
+    match arguments(alloc, Method::SetClientInfo, "95a17881a161c0a1798090")? {
+        Some(mut args) => {
+            let first = args.string(0) == b"x".as_slice();
+            let pair = args.take_pairs(1).len() == 1;
+            let other = args.take_string(2)?.as_slice() == b"y".as_slice();
+            let gone = args.take_string(2)?.len() == 0;
+            Ok(Some([first, pair, other, gone]))
+        }
+        None => Ok(None),
+    }
+}
+
+// Of the call `["x", 5, {}]`: whether its object is there, is 5, and is no list once it is taken.
+fn object_taken(alloc: Global) -> Result<Option<[bool; 3]>, AllocError> {
+    match arguments(alloc, Method::SetOptionValue, "93a1780580")? {
+        Some(mut args) => {
+            let there = args.object(1).is_some();
+            let five = matches!(args.take_object(1), Value::Int(5));
+            Ok(Some([there, five, args.take_values(1).is_empty()]))
+        }
+        None => Ok(None),
+    }
+}
+
 #[test]
 fn arguments_are_given_by_their_places(rt: HostRuntime) -> Result<(), Failed> {
     let alloc = rt.alloc();
-    // `[buffer 7, 2, -1, 1, ["a", b"b"]]`
-    let Some(mut args) = arguments(alloc, Method::BufSetLines, "95d4000702ff0192a161c40162")? else {
-        assert!(rt; false);
-        return Ok(());
-    };
-    assert_eq!(rt; args.number(0), 7);
-    assert_eq!(rt; args.number(1), 2);
-    assert_eq!(rt; args.number(2), -1);
-    assert!(rt; args.flag(3));
-    assert_eq!(rt; args.number(4), 0);
-    assert_eq!(rt; args.values(4).len(), 2);
-    let lines = args.take_lines(4)?;
-    assert_eq!(rt; lines.len(), 2);
-    assert_eq!(rt; args.number(0), 7);
-    assert_eq!(rt; args.values(4).len(), 0);
-    // `["x", {"a": nil}, "y", {}, []]`
-    let Some(mut args) = arguments(alloc, Method::SetClientInfo, "95a17881a161c0a1798090")? else {
-        assert!(rt; false);
-        return Ok(());
-    };
-    assert_eq!(rt; args.string(0), b"x".as_slice());
-    assert_eq!(rt; args.take_pairs(1).len(), 1);
-    assert_eq!(rt; args.take_string(2)?.as_slice(), b"y".as_slice());
-    assert_eq!(rt; args.take_string(2)?.len(), 0);
-    // `["x", 5, {}]`
-    let Some(mut args) = arguments(alloc, Method::SetOptionValue, "93a1780580")? else {
-        assert!(rt; false);
-        return Ok(());
-    };
-    assert!(rt; args.object(1).is_some());
-    assert!(rt; matches!(args.take_object(1), Value::Int(5)));
-    assert!(rt; args.take_values(1).is_empty());
+    assert_eq!(rt;
+        lines_taken(alloc)?,
+        Some(([7, 2, -1, 0, 7], true, [2, 2, 0]))
+    );
+    assert_eq!(rt; strings_taken(alloc)?, Some([true; 4]));
+    assert_eq!(rt; object_taken(alloc)?, Some([true; 3]));
     Ok(())
 }

@@ -1,7 +1,7 @@
 //! The devices in memory that give others and take them back, against tables written by hand.
 ghost use Rattle.std.specs.Prelude.{◌≡◌, [], IfOk};
 
-use crate::{
+use nv_io::{
     Accepted, Ended, Files, Got, Lane, MemFiles, MemLane, MemPort, MemSink, MemSource, Port, Put,
     Sink, Source,
 };

@@ -5,8 +5,8 @@ ghost use Rattle.nv_args.specs.Dicts.{optional_key, flag_key};
 ghost use Rattle.nv_args.specs.KeyValues.{takes_flag, takes_integer_between, takes_side};
 ghost use Rattle.nv_args.specs.Rules.{key_of};
 
-use crate::reading_tests::params;
-use crate::{Fail, Rule, Takes, bytes_at, flag_or, integer_between, map_fault};
+use super::reading::params;
+use nv_args::{Fail, Rule, Takes, bytes_at, flag_or, integer_between, map_fault};
 use nv_value::{Pair, Value};
 use std::alloc::{AllocError, Global};
 use std::test::Fail as Failed;

@@ -1,6 +1,6 @@
 //! Each adapter once, over sockets and files of the system.
 
-use crate::{
+use nv_io::{
     Accepted, DiskFiles, Ended, Files, Got, Lane, Port, Put, Sink, SockPort, SockSink, SockSource,
     Source, put_all,
 };

@@ -1,7 +1,10 @@
 //! Arguments and faults against tables written by hand, from Neovim's help on indices and the words
 //! of the faults.
 
-use crate::{
+mod dicts;
+mod reading;
+
+use nv_args::{
     Fail, invalid_key, is_outside, limit_reached, newline_inside, no_buffer, not_modifiable,
     out_of_bounds, row_of_index, start_after_end, text_col, text_row, unknown_method, unknown_name,
     wrong_count, wrong_type,

@@ -1,8 +1,9 @@
 //! The reader against vectors of the MessagePack specification.
 
-ghost use Rattle.std.specs.Prelude.{◌<◌};
+mod writing;
 
-use crate::{Bounds, Decoded, decode, handle_of};
+use crate::digits::push_hex;
+use nv_msgpack::{Bounds, Decoded, decode, handle_of};
 use nv_value::{Fields, Items, Value};
 use std::alloc::{AllocError, Global};
 use std::test::Fail;
@@ -204,25 +205,6 @@ fn handles() -> &'static [(&'static str, Option<i64>)] {
         ("c70001", None),
         ("c0", None),
     ]
-}
-
-fn digit(digit: u8) -> u8
-    ensures { result < 16 }
-{
-    match digit {
-        b'0'..=b'9' => digit - b'0',
-        b'a'..=b'f' => digit - b'a' + 10,
-        _ => 0,
-    }
-}
-
-fn push_hex(bytes: &mut Vec<u8>, hex: &str) -> Result<(), AllocError> {
-    for pair in hex.as_bytes().chunks(2) {
-        if let [high, low] = pair {
-            bytes.push(digit(*high) * 16 + digit(*low))?;
-        }
-    }
-    Ok(())
 }
 
 #[cycle(line)]
