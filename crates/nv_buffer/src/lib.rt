@@ -22,10 +22,3 @@ pub use laws::{change_laws, edit_laws};
 pub use nv_lines::{Line, LineList, Lines};
 pub use nv_marks::{Far, Mark, MarkSet, Paint};
 pub use nv_places::{Extent, Pos};
-
-#[cfg(test)]
-mod mark_tests;
-#[cfg(test)]
-mod tests;
-#[cfg(test)]
-mod undo_tests;

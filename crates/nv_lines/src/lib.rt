@@ -20,6 +20,3 @@ pub use chunk::Chunk;
 pub use listing::LineList;
 pub use single::{Line, is_line};
 pub use whole::Lines;
-
-#[cfg(test)]
-mod tests;

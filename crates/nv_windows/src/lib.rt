@@ -5,8 +5,6 @@ mod laws;
 mod parts;
 mod slots;
 mod tabs;
-#[cfg(test)]
-mod tests;
 mod window;
 mod windows;
 

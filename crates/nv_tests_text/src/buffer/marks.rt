@@ -5,9 +5,10 @@
 ghost use Rattle.std.specs.Prelude.{◌↔◌, IsTrue};
 ghost use Rattle.nv_places.specs.Places.{IsPlaceIn};
 
-use crate::tests::{at, list, put_lines, put_text, text};
-use crate::undo_tests::{redo, undo};
-use crate::{Buffer, Lines, Mark, Pos};
+use crate::buffer::undo::{redo, undo};
+use crate::buffer::{at, put_lines, put_text, text};
+use crate::texts::list;
+use nv_buffer::{Buffer, Lines, Mark, Pos};
 use std::alloc::{AllocError, Global};
 use std::test::Fail;
 

@@ -3,8 +3,9 @@
 
 ghost use Rattle.std.specs.Prelude.{◌↔◌, ◌+ℤ◌, ◌≤ℤ◌, pos, IsTrue};
 
-use crate::tests::{at, flat, list, put_lines, put_text, text};
-use crate::{Buffer, Spliced, change_laws, edit_laws};
+use crate::buffer::{at, put_lines, put_text, text};
+use crate::texts::{flat, list};
+use nv_buffer::{Buffer, Spliced, change_laws, edit_laws};
 use std::alloc::{AllocError, Global};
 use std::test::Fail;
 

@@ -1,40 +1,15 @@
 //! Edits of a buffer, one after another, against tables written by hand from the documented effect
 //! of nvim_buf_set_lines(), nvim_buf_set_text() and nvim_buf_lines_event.
 
-use crate::{Buffer, Line, LineList, Pos, Spliced, is_in_line, is_narrow};
-use nv_lines::is_line;
+mod joining;
+mod marks;
+mod undo;
+
+use crate::buffer::joining::lines_between;
+use crate::texts::{flat, list};
+use nv_buffer::{Buffer, LineList, Pos, Spliced, is_in_line, is_narrow};
 use std::alloc::{AllocError, Global};
-use std::mem;
 use std::test::Fail;
-
-// The lines of a flat text, each ended by the byte 10.
-pub(crate) fn list(alloc: Global, flat: &[u8]) -> Result<LineList, AllocError> {
-    let mut list = LineList::new(alloc);
-    let mut line = Vec::new(alloc);
-    for byte in flat {
-        if *byte != 10 {
-            line.push(*byte)?;
-            continue;
-        }
-        let done = mem::replace(&mut line, Vec::new(alloc));
-        if is_line(done.as_slice()) {
-            list.push(Line::from_vec(done)?)?;
-        }
-    }
-    Ok(list)
-}
-
-// The flat text of lines.
-pub(crate) fn flat(alloc: Global, lines: &LineList) -> Result<Vec<u8>, AllocError> {
-    let mut bytes = Vec::new(alloc);
-    for place in 0..lines.len() {
-        if let Some(line) = lines.get(place) {
-            bytes.extend_from_slice(line.as_slice())?;
-            bytes.push(10)?;
-        }
-    }
-    Ok(bytes)
-}
 
 // The flat text of a buffer.
 pub(crate) fn text(alloc: Global, buffer: &Buffer) -> Result<Vec<u8>, AllocError> {
@@ -99,7 +74,7 @@ pub(crate) fn put_text(
     if new.len() > u32::MAX as usize - buffer.text().count() {
         return Ok(None);
     }
-    let lines = buffer.lines_between(start, stop, new.share()?)?;
+    let lines = lines_between(buffer.text(), start, stop, &new)?;
     if !is_narrow(&lines) {
         return Ok(None);
     }
