@@ -17,6 +17,3 @@ mod view;
 pub use laws::picture_laws;
 pub use painter::Painter;
 pub use speaking::Batch;
-
-#[cfg(test)]
-mod tests;

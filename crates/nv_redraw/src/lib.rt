@@ -18,6 +18,3 @@ pub use reading::batch_of;
 pub use screen::Screen;
 pub use spelling::write_batch;
 pub use values::batch_value;
-
-#[cfg(test)]
-mod tests;

@@ -17,6 +17,3 @@ pub use drawing::{draw, draw_from, pane_grid};
 pub use known::{KnownLines, NoLines, line_cells};
 pub use laws::{drawing_laws, sound_scene_laws, worked_lines, worked_patches, worked_screens};
 pub use scene::{Bars, Pane, Patch, Scene, SceneLine, Spot};
-
-#[cfg(test)]
-mod tests;

@@ -5,12 +5,12 @@ ghost use Rattle.nv_painter.specs.Spoken.{AreSendable};
 ghost use Rattle.nv_screen.specs.Sound.{AreInRows, IsSoundScene};
 ghost use Rattle.std.specs.Prelude.{◌≡◌, ◌<◌, ◌≤◌, ◌+◌, ◌-◌, ◌∷◌, [], IfOk, length, min};
 
-use crate::{Batch, Painter};
+use crate::text_lines::line_of;
 use nv_hl::{Attr, Cell, Colours};
 use nv_layout::Rect;
 use nv_linedraw::Looks;
 use nv_linegrid::{Redraw, Run};
-use nv_lines::{Line, is_line};
+use nv_painter::{Batch, Painter};
 use nv_rpc::Message;
 use nv_screen::{Bars, Pane, Scene, SceneLine, Spot};
 use std::alloc::{AllocError, Global};
@@ -46,14 +46,6 @@ const COLOURS: Colours = Colours {
     cterm_fg: 0,
     cterm_bg: 0,
 };
-
-fn line_of(alloc: Global, bytes: &[u8]) -> Result<Line, AllocError> {
-    let bytes = Vec::from_slice(alloc, bytes)?;
-    if !is_line(bytes.as_slice()) {
-        return Line::new(alloc);
-    }
-    Line::from_vec(bytes)
-}
 
 fn scene_line(alloc: Global, row: u32, bytes: &[u8]) -> Result<SceneLine, AllocError>
     ensures { IfOk result (λ line. line.row ≡ row) }

@@ -1,6 +1,6 @@
 use Rattle.std.proofs.Common.{refl, rules}
 use Rattle.nv_painter.proofs.LoneLemmas.{lone_is_sound}
-use Rattle.nv_painter.proofs.tests.scene_with.Goals as goal
+use Rattle.nv_tests_draw.proofs.painter.scene_with.Goals as goal
 
 pub returns : goal.returns
 returns c =

@@ -3,24 +3,16 @@
 ghost use Rattle.nv_screen.specs.Sound.{IsDrawable, IsInReach};
 ghost use Rattle.std.specs.Prelude.{All, IfOk};
 
-use crate::{
-    Bars, NoLines, Pane, Patch, Scene, SceneLine, Spot, cursor_cell, draw, draw_from, line_cells,
-    pane_grid,
-};
+use crate::text_lines::line_of;
 use nv_hl::{Attr, Cell, Colours, Grid};
 use nv_layout::Rect;
 use nv_linedraw::Looks;
-use nv_lines::{Line, is_line};
+use nv_screen::{
+    Bars, NoLines, Pane, Patch, Scene, SceneLine, Spot, cursor_cell, draw, draw_from, line_cells,
+    pane_grid,
+};
 use std::alloc::{AllocError, Global};
 use std::test::Fail;
-
-fn line_of(alloc: Global, bytes: &[u8]) -> Result<Line, AllocError> {
-    let bytes = Vec::from_slice(alloc, bytes)?;
-    if !is_line(bytes.as_slice()) {
-        return Line::new(alloc);
-    }
-    Line::from_vec(bytes)
-}
 
 // A window of 5 columns and 3 rows with two lines, the second of which has two rows.
 fn pane(alloc: Global) -> Result<Pane, AllocError>

@@ -1,7 +1,9 @@
-use super::*;
+//! Batches in bytes and in values, and the screen of a client that takes them.
+
 use nv_hl::{Attr, Cell, CellText, Colours, Grid};
 use nv_linegrid::{Redraw, Run, Runs};
 use nv_msgpack::{Bounds, Decoded, decode};
+use nv_redraw::{Screen, batch_of, batch_value, write_batch};
 use nv_value::Value;
 use std::alloc::{AllocError, Global};
 use std::test::Fail;
@@ -247,29 +249,59 @@ fn takes_all(screen: &mut Screen, events: &[Redraw]) -> Result<bool, AllocError>
     Ok(true)
 }
 
+// The cells of an upper row of spaces.
+fn spaces(alloc: Global) -> Result<Redraw, AllocError> {
+    let run = Run::Times(CellText::from_byte(b' '), 0, 12);
+    Ok(line(0, vec![in alloc; run]?))
+}
+
+// A screen takes a batch, but neither its cursor before there is a grid nor an unknown attribute.
+fn batch_taken(alloc: Global, screen: &mut Screen, grid: &Grid) -> Result<[bool; 6], AllocError> {
+    let events = first_batch(alloc)?;
+    let early = screen.take(&goto_start())?;
+    let all = takes_all(screen, events.as_slice())?;
+    let shown = screen.shows(grid, 0, 0);
+    let elsewhere = screen.shows(grid, 0, 1);
+    let unknown = line(0, vec![in alloc; Run::One(CellText::from_byte(b'a'), 9)]?);
+    let refused = screen.take(&unknown)?;
+    Ok([
+        early,
+        all,
+        shown,
+        elsewhere,
+        refused,
+        screen.shows(grid, 0, 0),
+    ])
+}
+
+// It scrolls up by a row, back again, and takes the batch once more.
+fn scrolls_taken(alloc: Global, screen: &mut Screen, grid: &Grid) -> Result<[bool; 7], AllocError> {
+    let events = first_batch(alloc)?;
+    let up = screen.take(&scroll(1))?;
+    let moved = screen.shows(grid, 0, 0);
+    let down = screen.take(&scroll(-1))?;
+    let upper = screen.take(&spaces(alloc)?)?;
+    let back = screen.shows(grid, 0, 0);
+    let again = takes_all(screen, events.as_slice())?;
+    Ok([
+        up,
+        moved,
+        down,
+        upper,
+        back,
+        again,
+        screen.shows(grid, 0, 0),
+    ])
+}
+
 #[test]
 fn a_screen_takes_a_batch(rt: HostRuntime) -> Result<(), Fail> {
     let alloc = rt.alloc();
     let grid = empty_screen(alloc)?;
-    let events = first_batch(alloc)?;
     let mut screen = Screen::new(alloc);
-    assert!(rt; !screen.take(&goto_start())?);
-    assert!(rt; takes_all(&mut screen, events.as_slice())?);
-    assert!(rt; screen.shows(&grid, 0, 0));
-    assert!(rt; !screen.shows(&grid, 0, 1));
-    let unknown = line(0, vec![in alloc; Run::One(CellText::from_byte(b'a'), 9)]?);
-    assert!(rt; !screen.take(&unknown)?);
-    assert!(rt; screen.shows(&grid, 0, 0));
-    assert!(rt; screen.take(&scroll(1))?);
-    assert!(rt; !screen.shows(&grid, 0, 0));
-    let upper = line(
-        0,
-        vec![in alloc; Run::Times(CellText::from_byte(b' '), 0, 12)]?,
-    );
-    assert!(rt; screen.take(&scroll(-1))?);
-    assert!(rt; screen.take(&upper)?);
-    assert!(rt; screen.shows(&grid, 0, 0));
-    assert!(rt; takes_all(&mut screen, events.as_slice())?);
-    assert!(rt; screen.shows(&grid, 0, 0));
+    let batch = batch_taken(alloc, &mut screen, &grid)?;
+    let moved = scrolls_taken(alloc, &mut screen, &grid)?;
+    assert_eq!(rt; batch, [false, true, true, false, false, true]);
+    assert_eq!(rt; moved, [true, false, true, true, true, true, true]);
     Ok(())
 }
