@@ -8,4 +8,5 @@ pub mod MarkRule
 pub mod SeenWorlds
 pub mod SentParts
 pub mod Verdicts
+pub mod Watchers
 pub mod inside

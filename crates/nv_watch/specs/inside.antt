@@ -7,3 +7,4 @@ pub mod GridsTaken
 pub mod Mirroring
 pub mod Parts
 pub mod Shown
+pub mod Watched

@@ -2,6 +2,7 @@
 //! which it is broken.
 #![tactic(auto)]
 
+mod any_watcher;
 mod buffer_fold;
 mod comparing;
 mod counter;
@@ -19,6 +20,7 @@ mod reading;
 mod verdict;
 mod watcher;
 
+pub use any_watcher::AnyWatcher;
 pub use buffer_fold::BufferFold;
 pub use counter::Counter;
 pub use grid_fold::GridFold;

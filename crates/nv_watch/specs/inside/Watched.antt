@@ -1,0 +1,15 @@
+-- inside: what a watcher may have seen, whichever it is.
+use Rattle.std.specs.Prelude.{List}
+use Rattle.nv_watch.specs.Verdicts.{Sight}
+use Rattle.nv_watch.specs.inside.Folded.{HasFolded as HasFoldedTexts}
+use Rattle.nv_watch.specs.inside.GridsFolded.{HasFolded as HasFoldedGrids}
+use Rattle.nv_watch.specs.inside.Checked.{HasChecked}
+use Rattle.nv_watch.specs.inside.Counts.{HasCounted}
+use Rattle.nv_watch.specs.declared.any_watcher.AnyWatcher.{AnyWatcher}
+use Rattle.nv_watch.specs.declared.any_watcher.AnyWatcher.TheVariants.{Buffers, Grids, Marks, Replies}
+
+abbrev pub HasWatched : AnyWatcher → List Sight → Type 0
+HasWatched (Buffers f) = HasFoldedTexts f
+HasWatched (Grids f) = HasFoldedGrids f
+HasWatched (Marks c) = HasChecked c
+HasWatched (Replies c) = HasCounted c
