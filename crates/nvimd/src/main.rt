@@ -10,9 +10,9 @@ mod whole;
 
 use command::run;
 use nv_io::{DiskFiles, Ended, SockPort, StdErr, StdIn, StdOut};
-use nv_watch::Counter;
+use nv_watch::{AnyWatcher, BufferFold, Counter, GridFold, MarkCheck};
 use nv_world::History;
-use std::alloc::AllocError;
+use std::alloc::{AllocError, Global};
 use std::process::ExitCode;
 use std::{env, io};
 use telling::{status_of, tell_end};
@@ -38,6 +38,15 @@ fn strings_of(rt: &HostRuntime) -> Result<Vec<String>, AllocError> {
     }
 }
 
+// Each watcher once, which has seen nothing.
+fn all_watchers(alloc: Global) -> Result<Vec<AnyWatcher>, AllocError> {
+    let buffers = AnyWatcher::Buffers(BufferFold::new(alloc));
+    let grids = AnyWatcher::Grids(GridFold::new(alloc));
+    let marks = AnyWatcher::Marks(MarkCheck::new(alloc));
+    let replies = AnyWatcher::Replies(Counter::new(alloc));
+    Ok(vec![in alloc; buffers, grids, marks, replies]?)
+}
+
 fn main(rt: HostRuntime) -> ExitCode {
     let alloc = rt.alloc();
     let mut errors = StdErr::new(rt.stderr());
@@ -48,7 +57,7 @@ fn main(rt: HostRuntime) -> ExitCode {
     let Ok(words) = words.collect::<Vec<&str>>(alloc) else {
         return want_of_memory(&rt, &mut errors);
     };
-    let Ok(watchers) = vec![in alloc; Counter::new(alloc)] else {
+    let Ok(watchers) = all_watchers(alloc) else {
         return want_of_memory(&rt, &mut errors);
     };
     let mut port = SockPort::new(rt);
@@ -70,6 +79,8 @@ fn main(rt: HostRuntime) -> ExitCode {
 
 #[cfg(test)]
 mod book_tests;
+#[cfg(test)]
+mod hostile_tests;
 #[cfg(test)]
 mod serving_tests;
 #[cfg(test)]

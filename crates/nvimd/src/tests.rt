@@ -720,14 +720,19 @@ fn shows() -> &'static [Story] {
 
 // What a run left: its status, what went out, the line, and the history.
 #[derive(Drop)]
-struct Left {
-    status: u8,
-    output: MemSink,
-    errors: MemSink,
-    kept: History,
+pub(crate) struct Left {
+    pub status: u8,
+    pub output: MemSink,
+    pub errors: MemSink,
+    pub kept: History,
 }
 
-fn source(alloc: Global, bytes: &[u8], cut: usize, fails: Vec<u64>) -> Result<MemSource, AllocError>
+pub(crate) fn source(
+    alloc: Global,
+    bytes: &[u8],
+    cut: usize,
+    fails: Vec<u64>,
+) -> Result<MemSource, AllocError>
     requires { 0 < cut }
 {
     let bytes = Vec::from_slice(alloc, bytes)?;
@@ -735,7 +740,7 @@ fn source(alloc: Global, bytes: &[u8], cut: usize, fails: Vec<u64>) -> Result<Me
     Ok(MemSource::new(bytes, cuts, fails))
 }
 
-fn ample(alloc: Global) -> MemSink {
+pub(crate) fn ample(alloc: Global) -> MemSink {
     MemSink::new(alloc, 4_096, Vec::new(alloc))
 }
 
@@ -798,7 +803,7 @@ fn embedded<
     Ok(play(rt, alloc, &["embed"], input, ample(alloc)))
 }
 
-fn joined(alloc: Global, parts: &[&[u8]]) -> Result<Vec<u8>, AllocError> {
+pub(crate) fn joined(alloc: Global, parts: &[&[u8]]) -> Result<Vec<u8>, AllocError> {
     let mut all = Vec::new(alloc);
     for part in parts {
         all.extend_from_slice(*part)?;
@@ -807,7 +812,7 @@ fn joined(alloc: Global, parts: &[&[u8]]) -> Result<Vec<u8>, AllocError> {
 }
 
 // The letters of what was kept.
-fn letters(alloc: Global, kept: &History) -> Result<Vec<u8>, AllocError> {
+pub(crate) fn letters(alloc: Global, kept: &History) -> Result<Vec<u8>, AllocError> {
     let mut letters = Vec::new(alloc);
     for entry in kept.entries() {
         let letter = match &entry.event {
@@ -822,7 +827,7 @@ fn letters(alloc: Global, kept: &History) -> Result<Vec<u8>, AllocError> {
 }
 
 // Whether a run left this.
-fn is_left(left: &Left, output: &[u8], status: u8, line: &[u8]) -> bool {
+pub(crate) fn is_left(left: &Left, output: &[u8], status: u8, line: &[u8]) -> bool {
     left.status == status && left.output.bytes() == output && left.errors.bytes() == line
 }
 
