@@ -6,15 +6,9 @@
 #![tactic(auto)]
 
 mod dealing;
-#[cfg(test)]
-mod held_devices;
 mod job;
 mod lane;
 mod serving;
-#[cfg(test)]
-mod slow_reader_tests;
-#[cfg(test)]
-mod tests;
 
 pub use job::Job;
 pub use serving::{Kept, serve};

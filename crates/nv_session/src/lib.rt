@@ -5,8 +5,6 @@ mod asking;
 mod connection;
 mod session;
 mod speaking;
-#[cfg(test)]
-mod tests;
 
 pub use connection::{Served, serve_one};
 pub use session::alone;

@@ -1,12 +1,17 @@
-// Devices of tests: sources and sinks that hold a call until others have acted.
+//! Devices of tests: sources and sinks that hold a call until others have acted.
 ghost use Rattle.std.specs.Prelude.{◌≡◌, None};
 
-use crate::Job;
 use nv_io::{Ended, Got, MemLane, Put, Sink, Source};
 use nv_model::Limits;
+use nv_serve::Job;
 use std::alloc::{AllocError, Global};
 use std::net::{Net, TcpListener, TcpStream};
 use std::sync::atomic::{AtomicU64, Ordering};
+
+// A request for the number of lines, and one that ends the server.
+pub(crate) const COUNT: &[u8] = b"\x94\x00\x01\xb3nvim_buf_line_count\x91\x00";
+
+pub(crate) const QUIT: &[u8] = b"\x94\x00\x01\xacnvim_command\x91\xa5qall!";
 
 // How often a word is looked at before one gives up.
 const MOST_LOOKS: u64 = 1_000_000_000;
@@ -25,7 +30,7 @@ pub(crate) const LIMITS: Limits = Limits {
 };
 
 // Waits until a word has come to so much; `false` where that takes too long.
-fn comes(word: &AtomicU64, least: u64) -> bool {
+pub(crate) fn comes(word: &AtomicU64, least: u64) -> bool {
     for _ in 0..MOST_LOOKS {
         if word.load(Ordering::SeqCst) >= least {
             return true;

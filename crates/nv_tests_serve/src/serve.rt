@@ -1,20 +1,15 @@
 //! Lanes in memory, with running threads: sessions that wait for each other, and ends of lanes.
 ghost use Rattle.std.specs.Prelude.{◌≡◌};
 
-use crate::held_devices::{Asker, Keeper, LIMITS, ends_of, job_of};
-use crate::{Job, serve};
+use crate::held_devices::{Asker, COUNT, Keeper, LIMITS, QUIT, ends_of, job_of};
 use nv_io::{Ended, MemLane};
+use nv_serve::{Job, serve};
 use std::alloc::{AllocError, Global};
 use std::net::{Net, TcpListener, TcpStream};
 use std::sync::Wait;
 use std::sync::atomic::AtomicU64;
 use std::test::Fail;
 use std::thread::Threads;
-
-// A request for the number of lines, and one that ends the server.
-const COUNT: &[u8] = b"\x94\x00\x01\xb3nvim_buf_line_count\x91\x00";
-
-const QUIT: &[u8] = b"\x94\x00\x01\xacnvim_command\x91\xa5qall!";
 
 // A connection whose source asks so often, and waits with all but the first until bytes are counted
 // in one word; its sink counts its calls and what it took in two others.

@@ -1,16 +1,22 @@
 //! Connections over devices in memory, with running threads: halves that wait for each other.
-ghost use Rattle.std.specs.Prelude.{◌≡◌, ◌<◌, [], ◌∷◌, ◌++◌, length, vec_len, Some, None};
+ghost use Rattle.std.specs.Prelude.{◌≡◌, ◌<◌, ◌≤◌, [], ◌∷◌, ◌++◌, length, vec_len, IfOk};
 ghost use Rattle.std.specs.declared.option.Option.{Option};
 ghost use Rattle.std.specs.Thread.{IsSend, IsSync};
 ghost use Rattle.nv_linegrid.specs.Told.{nothing_told};
-ghost use Rattle.nv_turn.specs.Passes.{first_passes};
+ghost use Rattle.nv_turn.specs.Passes.{IsSamePass, first_passes};
 ghost use Rattle.nv_world.specs.declared.story.Start.{Start};
+ghost use Rattle.nv_halves.specs.Passes.{plain_pass};
 
-use crate::connection::{run_halves, serve_one};
-use nv_halves::{Bell, ReaderEnd, Voice, WriterEnd, once};
-use nv_io::{Ended, Flaw, Got, Put, Sink, Source};
-use nv_model::Limits;
-use nv_painter::{Batch, Painter};
+mod devices;
+
+use crate::held_devices::{Asker, COUNT, LIMITS, QUIT};
+use crate::session::devices::{Counter, Mute, Slow, Speech, make_page, make_speech};
+use nv_halves::{
+    Bell, ReaderEnd, ReaderHalf, Voice, WriterEnd, WriterHalf, once, reader_half, writer_half,
+};
+use nv_io::{Ended, Flaw, Sink, Source};
+use nv_painter::Painter;
+use nv_session::serve_one;
 use nv_turn::{Pass, Turn, take_pass};
 use nv_world::{Cause, Event, World};
 use std::alloc::{AllocError, Global};
@@ -20,12 +26,6 @@ use std::sync::atomic::{AtomicU64, Ordering};
 use std::test::Fail;
 use std::thread::{Threads, join};
 
-// A request for the number of lines.
-const REQUEST: &[u8] = b"\x94\x00\x01\xb3nvim_buf_line_count\x91\x00";
-
-// One that ends the server.
-const QUIT: &[u8] = b"\x94\x00\x01\xacnvim_command\x91\xa5qall!";
-
 // The beginning of a request that follows the text and then puts a line into it 17 times, and one
 // of the 17.
 const EDITS: &[u8] = b"\x94\x00\x01\xb0nvim_call_atomic\x91\xdc\x00\x12\
@@ -33,189 +33,32 @@ const EDITS: &[u8] = b"\x94\x00\x01\xb0nvim_call_atomic\x91\xdc\x00\x12\
 
 const EDIT: &[u8] = b"\x92\xb2nvim_buf_set_lines\x95\x00\x00\x00\xc3\x91\xa0";
 
-// How often a word is looked at before one gives up.
-const MOST_LOOKS: u64 = 1_000_000_000;
-
-const LIMITS: Limits = Limits {
-    lines: 100,
-    line_bytes: 100,
-    marks: 100,
-    buffers: 10,
-    windows: 10,
-    namespaces: 10,
-    groups: 10,
-    uis: 10,
-    ticks: 1000,
-    entries: 1000,
-};
-
-// Waits until a word isn't 0 any more; `false` where that takes too long.
-fn comes(word: &AtomicU64) -> bool {
-    for _ in 0..MOST_LOOKS {
-        if word.load(Ordering::SeqCst) != 0 {
-            return true;
-        }
-    }
-    false
-}
-
-// A source of some requests, one of which it gives only once a word isn't 0.
-#[derive(Drop)]
-struct Asker<'a> {
-    given: u64,
-    count: u64,
-    held: u64,
-    word: &'a AtomicU64,
-    faults: u64,
-}
-
-impl<'a> Source for Asker<'a> {
-    ghost taken = { λ s. None };
-
-    ghost left = { λ s. None };
-
-    ghost faults = { λ s. s.faults };
-
-    fn read<R: Net<Listener = TcpListener, Stream = TcpStream>>(
-        &mut self,
-        _rt: &R,
-        into: &mut [u8],
-    ) -> Got {
-        if self.given >= self.count {
-            return Got::End;
-        }
-        if self.given == self.held && !comes(self.word) {
-            self.faults = self.faults.saturating_add(1);
-            return Got::Failed;
-        }
-        self.given += 1;
-        let count = REQUEST.len().min(into.len());
-        into[..count].copy_from_slice(&REQUEST[..count]);
-        Got::Bytes(count)
-    }
-}
-
-fn ask_so_often(count: u64, held: u64, word: &AtomicU64) -> Asker {
+// A source that asks so often, and waits with all but the first few reads until a word isn't 0.
+fn ask_so_often(count: u64, free: u64, word: &AtomicU64) -> Asker {
     Asker {
-        given: 0,
+        message: COUNT,
         count,
-        held,
+        free,
         word,
+        least: 1,
+        given: 0,
         faults: 0,
     }
 }
 
-// A sink that counts its replies in a word.
-#[derive(Drop)]
-struct Counter<'a> {
-    word: &'a AtomicU64,
-}
-
-impl<'a> Sink for Counter<'a> {
-    ghost taken = { λ s. None };
-
-    ghost faults = { λ s. 0 };
-
-    fn write<R: Net<Listener = TcpListener, Stream = TcpStream>>(
-        &mut self,
-        _rt: &R,
-        piece: &[u8],
-    ) -> Put {
-        self.word.fetch_add(1, Ordering::SeqCst);
-        Put::Took(piece.len())
-    }
-
-    fn finish<R: Net<Listener = TcpListener, Stream = TcpStream>>(&mut self, _rt: &R) {}
-}
-
-// A source that begins with some bytes, goes on so often with others, and then ends. Where it has
-// nothing to give it fails.
-#[derive(Drop)]
-struct Speech<'a> {
-    first: &'a [u8],
-    then: &'a [u8],
-    given: u64,
-    times: u64,
-    faults: u64,
-}
-
-impl<'a> Source for Speech<'a> {
-    ghost taken = { λ s. None };
-
-    ghost left = { λ s. None };
-
-    ghost faults = { λ s. s.faults };
-
-    fn read<R: Net<Listener = TcpListener, Stream = TcpStream>>(
-        &mut self,
-        _rt: &R,
-        into: &mut [u8],
-    ) -> Got {
-        if self.given > self.times {
-            return Got::End;
-        }
-        let piece = if self.given == 0 {
-            self.first
-        } else {
-            self.then
-        };
-        if piece.is_empty() {
-            self.faults = self.faults.saturating_add(1);
-            return Got::Failed;
-        }
-        self.given = self.given.saturating_add(1);
-        let count = piece.len().min(into.len());
-        into[..count].copy_from_slice(&piece[..count]);
-        Got::Bytes(count)
-    }
-}
-
-// A sink that takes so many writes, and counts in a word how often it was finished.
-#[derive(Drop)]
-struct Page<'a> {
-    writes: u64,
-    finished: &'a AtomicU64,
-    faults: u64,
-}
-
-impl<'a> Sink for Page<'a> {
-    ghost taken = { λ s. None };
-
-    ghost faults = { λ s. s.faults };
-
-    fn write<R: Net<Listener = TcpListener, Stream = TcpStream>>(
-        &mut self,
-        _rt: &R,
-        piece: &[u8],
-    ) -> Put {
-        if self.writes == 0 {
-            self.faults = self.faults.saturating_add(1);
-            return Put::Failed;
-        }
-        self.writes -= 1;
-        Put::Took(piece.len())
-    }
-
-    fn finish<R: Net<Listener = TcpListener, Stream = TcpStream>>(&mut self, _rt: &R) {
-        self.finished.fetch_add(1, Ordering::SeqCst);
-    }
-}
-
-// A voice without memory.
-#[derive(Drop)]
-struct Mute;
-
-impl Voice for Mute {
-    ghost told = { λ v. nothing_told };
-
-    fn speak(
-        &mut self,
-        _alloc: Global,
-        _batch: Batch,
-        _into: &mut Vec<u8>,
-    ) -> Result<(), AllocError> {
-        Err(AllocError)
-    }
+// A turn around a world in which nothing has happened, and so many passes.
+fn make_turn(alloc: Global, count: u32) -> Result<(Turn<World>, Vec<Pass<World>>), AllocError>
+    requires { (0 < count) × (count ≤ 512) }
+    ensures turn { IfOk result (λ made. made.0.passes ≡ count) }
+    ensures passes { IfOk result (λ made. (start : Option Start)
+        × (made.1.items ≡ first_passes made.0.turn start count)) }
+    ensures count { IfOk result (λ made. vec_len made.1 ≡ count) }
+{
+    let world = World::new(alloc, LIMITS, 16)?;
+    let Ok(made) = Turn::make(alloc, world, count) else {
+        return Err(AllocError);
+    };
+    Ok(made)
 }
 
 // How a connection ends that is served alone in its turn.
@@ -245,6 +88,17 @@ fn end_in_turn<
     let last = turn.join(first, second);
     let _world = turn.close(last);
     (how, session)
+}
+
+// How a connection ends over these devices, alone in a world of its own, and the number of its
+// session.
+fn end_alone<
+    R: Net<Listener = TcpListener, Stream = TcpStream> + Threads + Wait + Sync,
+    I: Source + Send + Drop,
+    S: Sink + Send + Drop,
+>(rt: &R, alloc: Global, input: I, output: S) -> Result<(Ended, u64), AllocError> {
+    let (turn, passes) = make_turn(alloc, 2)?;
+    Ok(end_in_turn(rt, alloc, turn, passes, input, output))
 }
 
 // How the second of two connections ends that are served one after the other.
@@ -280,28 +134,16 @@ fn end_of_second<
     (how, session)
 }
 
-// A painter that says when it speaks first, and then waits until a word isn't 0.
-#[derive(Drop)]
-struct Slow<'a> {
-    painter: Painter,
-    spoke: bool,
-    begun: &'a AtomicU64,
-    word: &'a AtomicU64,
-}
-
-impl<'a> Voice for Slow<'a> {
-    ghost told = { λ v. v.painter.told };
-
-    fn speak(&mut self, alloc: Global, batch: Batch, into: &mut Vec<u8>) -> Result<(), AllocError> {
-        if !self.spoke {
-            self.spoke = true;
-            self.begun.fetch_add(1, Ordering::SeqCst);
-            if !comes(self.word) {
-                return Err(AllocError);
-            }
-        }
-        self.painter.speak(alloc, batch, into)
-    }
+// Opens the first session.
+fn open_first<R: Wait>(rt: &R, turn: &Turn<World>, bells: &[Bell], pass: Pass<World>) -> Pass<World>
+    requires turn { pass.turn ≡ turn.now.turn }
+    requires lane { 0 < length bells.now }
+    ensures turn { result.turn ≡ pass.turn }
+    ensures numbers { result.numbers ≡ pass.numbers }
+{
+    let (pass, _) = once(rt, turn, bells, pass, Event::Open);
+    bells[0].serve(1);
+    pass
 }
 
 // How a connection ends beside others.
@@ -330,16 +172,43 @@ fn end_beside<
     (turn.join(first, second), how)
 }
 
-// Opens the first session.
-fn open_first<R: Wait>(rt: &R, turn: &Turn<World>, bells: &[Bell], pass: Pass<World>) -> Pass<World>
-    requires turn { pass.turn ≡ turn.now.turn }
-    requires lane { 0 < length bells.now }
-    ensures turn { result.turn ≡ pass.turn }
-    ensures numbers { result.numbers ≡ pass.numbers }
+// Runs both halves of a session, each in a thread of its own.
+fn run_halves<
+    R: Net<Listener = TcpListener, Stream = TcpStream> + Threads + Wait + Sync,
+    I: Source + Send + Drop,
+    S: Sink + Send + Drop,
+    V: Voice + Drop,
+>(
+    rt: &R,
+    alloc: Global,
+    turn: &Turn<World>,
+    bells: &[Bell],
+    lane: usize,
+    first: Pass<World>,
+    second: Pass<World>,
+    session: u64,
+    input: I,
+    output: S,
+    voice: V,
+) -> (ReaderHalf<I>, WriterHalf<S>)
+    requires turn { (first.turn ≡ turn.now.turn) × (second.turn ≡ turn.now.turn) }
+    requires lane { lane < length bells.now }
+    requires told { V.told voice ≡ nothing_told }
+    ensures first { IsSamePass (plain_pass first) (plain_pass result.0.pass) }
+    ensures second { IsSamePass (plain_pass second) (plain_pass result.1.pass) }
 {
-    let (pass, _) = once(rt, turn, bells, pass, Event::Open);
-    bells[0].serve(1);
-    pass
+    join(
+        rt,
+        || -> ReaderHalf<I>
+            requires { IsSync R.row × IsSend I.row × (first.turn ≡ turn.now.turn) }
+            ensures { IsSamePass (plain_pass first) (plain_pass result.pass) }
+        { reader_half(rt, alloc, turn, bells, first, session, input) },
+        || -> WriterHalf<S>
+            requires { (second.turn ≡ turn.now.turn) × (lane < length bells.now)
+                × (V.told voice ≡ nothing_told) }
+            ensures { IsSamePass (plain_pass second) (plain_pass result.pass) }
+        { writer_half(rt, alloc, turn, bells, lane, second, session, output, voice) },
+    )
 }
 
 // How the halves of the first session end.
@@ -490,32 +359,38 @@ fn ends_of_four<
     ends_of_both(rt, alloc, turn, (a, b), (c, d), inputs, outputs, voice)
 }
 
-#[test]
-fn halves_meet(rt: HostRuntime) -> Result<(), Fail> {
-    let world = World::new(rt.alloc(), LIMITS, 16)?;
-    let Ok((turn, passes)) = Turn::make(rt.alloc(), world, 2) else {
-        panic!(rt; "there was no memory for a turn")
-    };
+// How the only connection of a world ends whose second request comes only once a reply went out,
+// and how many writes its sink took.
+fn end_of_meeting<R: Net<Listener = TcpListener, Stream = TcpStream> + Threads + Wait + Sync>(
+    rt: &R,
+    alloc: Global,
+) -> Result<((Ended, u64), u64), AllocError> {
     let replies = AtomicU64::new(0);
     let input = ask_so_often(2, 1, &replies);
     let output = Counter { word: &replies };
-    let met = end_in_turn(&rt, rt.alloc(), turn, passes, input, output);
-    assert!(rt; met == (Ended::Closed, 1));
-    assert!(rt; replies.load(Ordering::SeqCst) == 2);
-    Ok(())
+    let met = end_alone(rt, alloc, input, output)?;
+    Ok((met, replies.load(Ordering::SeqCst)))
 }
 
 #[test]
-fn speaks_outside(rt: HostRuntime) -> Result<(), Fail> {
-    let world = World::new(rt.alloc(), LIMITS, 16)?;
-    let painter = Painter::new(rt.alloc())?;
-    let Ok((turn, passes)) = Turn::make(rt.alloc(), world, 4) else {
-        panic!(rt; "there was no memory for a turn")
-    };
+fn halves_meet(rt: HostRuntime) -> Result<(), Fail> {
+    let met = end_of_meeting(&rt, rt.alloc())?;
+    assert!(rt; met == ((Ended::Closed, 1), 2));
+    Ok(())
+}
+
+// How the halves of the first session end, whose voice waits in its first batch for a reply to a
+// connection beside it, and how that one ends, which asks once the voice has begun.
+fn ends_of_slow<R: Net<Listener = TcpListener, Stream = TcpStream> + Threads + Wait + Sync>(
+    rt: &R,
+    alloc: Global,
+) -> Result<((ReaderEnd, WriterEnd), Ended), AllocError> {
+    let painter = Painter::new(alloc)?;
+    let (turn, passes) = make_turn(alloc, 4)?;
     let replies = AtomicU64::new(0);
     let others = AtomicU64::new(0);
     let begun = AtomicU64::new(0);
-    let inputs = (ask_so_often(1, 1, &begun), ask_so_often(1, 0, &begun));
+    let inputs = (ask_so_often(1, 2, &begun), ask_so_often(1, 0, &begun));
     let outputs = (Counter { word: &replies }, Counter { word: &others });
     let voice = Slow {
         painter,
@@ -523,31 +398,15 @@ fn speaks_outside(rt: HostRuntime) -> Result<(), Fail> {
         begun: &begun,
         word: &others,
     };
-    let met = ends_of_four(&rt, rt.alloc(), turn, passes, inputs, outputs, voice);
-    let ((reader, writer), beside) = met;
+    Ok(ends_of_four(rt, alloc, turn, passes, inputs, outputs, voice))
+}
+
+#[test]
+fn speaks_outside(rt: HostRuntime) -> Result<(), Fail> {
+    let ((reader, writer), beside) = ends_of_slow(&rt, rt.alloc())?;
     assert!(rt; reader == ReaderEnd::Closed && beside == Ended::Closed);
     assert!(rt; matches!(writer, WriterEnd::Over(Cause::Closed(_))));
     Ok(())
-}
-
-// A source of this message and then so often of that one.
-fn make_speech<'a>(first: &'a [u8], then: &'a [u8], times: u64) -> Speech<'a> {
-    Speech {
-        first,
-        then,
-        given: 0,
-        times,
-        faults: 0,
-    }
-}
-
-// A sink that takes so many writes.
-fn make_page(writes: u64, finished: &AtomicU64) -> Page {
-    Page {
-        writes,
-        finished,
-        faults: 0,
-    }
 }
 
 // How a connection ends over this source, and how often its sink was finished, which takes so many
@@ -558,14 +417,26 @@ fn end_of<R: Net<Listener = TcpListener, Stream = TcpStream> + Threads + Wait + 
     input: Speech,
     writes: u64,
 ) -> Result<(Ended, u64), AllocError> {
-    let world = World::new(alloc, LIMITS, 16)?;
-    let Ok((turn, passes)) = Turn::make(alloc, world, 2) else {
-        return Err(AllocError);
-    };
     let finished = AtomicU64::new(0);
     let output = make_page(writes, &finished);
-    let (how, _) = end_in_turn(rt, alloc, turn, passes, input, output);
+    let (how, _) = end_alone(rt, alloc, input, output)?;
     Ok((how, finished.load(Ordering::SeqCst)))
+}
+
+// A source that ends, a sink that fails, a source that fails, bytes that are malformed, an
+// overflow, and the end of the world.
+fn ends_of_each<R: Net<Listener = TcpListener, Stream = TcpStream> + Threads + Wait + Sync>(
+    rt: &R,
+    alloc: Global,
+) -> Result<[(Ended, u64); 6], AllocError> {
+    Ok([
+        end_of(rt, alloc, make_speech(COUNT, COUNT, 1), 9)?,
+        end_of(rt, alloc, make_speech(COUNT, COUNT, 1), 0)?,
+        end_of(rt, alloc, make_speech(&[], COUNT, 0), 9)?,
+        end_of(rt, alloc, make_speech(b"\xc1", COUNT, 1), 9)?,
+        end_of(rt, alloc, make_speech(EDITS, EDIT, 17), 9)?,
+        end_of(rt, alloc, make_speech(QUIT, COUNT, 1), 9)?,
+    ])
 }
 
 // And one that comes after the world has ended.
@@ -573,12 +444,9 @@ fn end_of_late<R: Net<Listener = TcpListener, Stream = TcpStream> + Threads + Wa
     rt: &R,
     alloc: Global,
 ) -> Result<((Ended, u64), u64), AllocError> {
-    let world = World::new(alloc, LIMITS, 16)?;
-    let Ok((turn, passes)) = Turn::make(alloc, world, 2) else {
-        return Err(AllocError);
-    };
+    let (turn, passes) = make_turn(alloc, 2)?;
     let finished = [AtomicU64::new(0), AtomicU64::new(0)];
-    let inputs = (make_speech(QUIT, QUIT, 0), make_speech(REQUEST, REQUEST, 0));
+    let inputs = (make_speech(QUIT, QUIT, 0), make_speech(COUNT, COUNT, 0));
     let outputs = (make_page(9, &finished[0]), make_page(9, &finished[1]));
     let met = end_of_second(rt, alloc, turn, passes, inputs, outputs);
     Ok((met, finished[1].load(Ordering::SeqCst)))
@@ -590,35 +458,20 @@ fn end_of_mute<R: Net<Listener = TcpListener, Stream = TcpStream> + Threads + Wa
     rt: &R,
     alloc: Global,
 ) -> Result<(WriterEnd, u64), AllocError> {
-    let world = World::new(alloc, LIMITS, 16)?;
-    let Ok((turn, passes)) = Turn::make(alloc, world, 2) else {
-        return Err(AllocError);
-    };
+    let (turn, passes) = make_turn(alloc, 2)?;
     let finished = AtomicU64::new(0);
-    let input = make_speech(REQUEST, REQUEST, 0);
-    let (_, end) = halves_in_turn(
-        rt,
-        alloc,
-        turn,
-        passes,
-        input,
-        make_page(9, &finished),
-        Mute,
-    );
+    let input = make_speech(COUNT, COUNT, 0);
+    let output = make_page(9, &finished);
+    let (_, end) = halves_in_turn(rt, alloc, turn, passes, input, output, Mute);
     Ok((end, finished.load(Ordering::SeqCst)))
 }
 
 #[test]
 fn each_end_finishes(rt: HostRuntime) -> Result<(), Fail> {
     let alloc = rt.alloc();
-    let met = [
-        end_of(&rt, alloc, make_speech(REQUEST, REQUEST, 1), 9)?,
-        end_of(&rt, alloc, make_speech(REQUEST, REQUEST, 1), 0)?,
-        end_of(&rt, alloc, make_speech(&[], REQUEST, 0), 9)?,
-        end_of(&rt, alloc, make_speech(b"\xc1", REQUEST, 1), 9)?,
-        end_of(&rt, alloc, make_speech(EDITS, EDIT, 17), 9)?,
-        end_of(&rt, alloc, make_speech(QUIT, REQUEST, 1), 9)?,
-    ];
+    let met = ends_of_each(&rt, alloc)?;
+    let late = end_of_late(&rt, alloc)?;
+    let mute = end_of_mute(&rt, alloc)?;
     assert!(rt;
         met == [
             (Ended::Closed, 1),
@@ -629,7 +482,6 @@ fn each_end_finishes(rt: HostRuntime) -> Result<(), Fail> {
             (Ended::Quit(1), 1),
         ]
     );
-    assert!(rt; end_of_late(&rt, alloc)? == ((Ended::Quit(1), 0), 1));
-    assert!(rt; end_of_mute(&rt, alloc)? == (WriterEnd::NoMemory, 1));
+    assert!(rt; late == ((Ended::Quit(1), 0), 1) && mute == (WriterEnd::NoMemory, 1));
     Ok(())
 }

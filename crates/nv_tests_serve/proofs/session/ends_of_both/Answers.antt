@@ -8,7 +8,7 @@ use denote.Param.Send.{IsSend, param_send, arg_send, param_sync, shr_send}
 use denote.Param.SendFields.{declared_send, as_row_send}
 use Rattle.nv_io.proofs.ending.Ended.TheSendSync as end
 use Rattle.nv_session.proofs.Captures.{seven_send, heap_sends, turn_sends, bells_send, pass_sends}
-use Rattle.nv_session.proofs.tests.ends_of_both.Goals as goal
+use Rattle.nv_tests_serve.proofs.session.ends_of_both.Goals as goal
 
 two_send : {ν : Sym} {A B : RattleType} → IsSend A → IsSend B → IsSend (TupleAt ν (A ∷ B ∷ []))
 two_send {ν} {A} {B} a b = declared_send (type_at ν (A ∷ B ∷ [])) (as_row_send (row_field A) a, (as_row_send (row_field B) b, tt))

@@ -2,8 +2,8 @@
 ghost use Rattle.std.specs.Prelude.{◌≡◌};
 
 use crate::held_devices::{Asker, Keeper, LIMITS, ends_of, job_of};
-use crate::serve;
 use nv_io::Ended;
+use nv_serve::serve;
 use std::alloc::{AllocError, Global};
 use std::net::{Net, TcpListener, TcpStream};
 use std::sync::Wait;
