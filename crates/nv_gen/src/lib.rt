@@ -7,6 +7,3 @@ mod rounds;
 mod scripts;
 
 pub use scripts::script;
-
-#[cfg(test)]
-mod tests;

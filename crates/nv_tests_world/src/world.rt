@@ -1,13 +1,12 @@
 //! Worlds with several sessions, event by event, against rows written by hand.
-ghost use Rattle.std.specs.Prelude.{◌<◌, ◌^◌, length, IfOk};
-ghost use Rattle.nv_value.specs.View.{contents};
-ghost use Rattle.nv_args.specs.Weight.{AreLight};
+ghost use Rattle.std.specs.Prelude.{IfOk};
 ghost use Rattle.nv_world.specs.Contents.{plain_event};
 ghost use Rattle.nv_world.specs.Worlds.{IsLightEvent};
 
+use crate::asking::{attach, attach_ui, request};
 use nv_dispatch::usual_limits;
-use nv_rpc::{Frame, Message};
-use nv_value::{Bytes, Items, Pair, Value};
+use nv_rpc::Message;
+use nv_value::{Bytes, Value};
 use nv_world::{Batch, BufferSplice, Cause, Effect, Event, Stop, World};
 use std::alloc::{AllocError, Global};
 use std::test::Fail;
@@ -32,35 +31,6 @@ fn told(world: &mut World, event: Event) -> (char, u64)
     }
 }
 
-// A request of a session.
-fn request(alloc: Global, session: u64, name: &str, params: Items) -> Result<Event, AllocError>
-    requires name { length name.now < 2 ^ 16 }
-    requires light { AreLight (contents params.items) }
-    ensures { IfOk result (λ event. IsLightEvent (plain_event event)) }
-{
-    let method = Bytes::from_slice(alloc, name.as_bytes())?;
-    Ok(Event::Request {
-        session,
-        frame: Frame::Request {
-            msgid: 1,
-            method,
-            params,
-        },
-    })
-}
-
-// A session attaches to buffer 1.
-fn attach(alloc: Global, session: u64, lines: bool) -> Result<Event, AllocError>
-    ensures { IfOk result (λ event. IsLightEvent (plain_event event)) }
-{
-    let params = vec![in alloc;
-        Value::Int(1),
-        Value::Truth(lines),
-        Value::Pairs(Vec::new(alloc)),
-    ]?;
-    request(alloc, session, "nvim_buf_attach", params)
-}
-
 // A session puts a line in front of all others.
 fn edit(alloc: Global, session: u64) -> Result<Event, AllocError>
     ensures { IfOk result (λ event. IsLightEvent (plain_event event)) }
@@ -74,24 +44,6 @@ fn edit(alloc: Global, session: u64) -> Result<Event, AllocError>
         Value::List(lines),
     ]?;
     request(alloc, session, "nvim_buf_set_lines", params)
-}
-
-// A session attaches a UI of this size.
-fn attach_ui(alloc: Global, session: u64, width: i64, height: i64) -> Result<Event, AllocError>
-    ensures { IfOk result (λ event. IsLightEvent (plain_event event)) }
-{
-    let options = vec![in alloc;
-        Pair {
-            key: Value::Text(Bytes::from_slice(alloc, b"ext_linegrid")?),
-            value: Value::Truth(true),
-        },
-    ]?;
-    let params = vec![in alloc;
-        Value::Int(width),
-        Value::Int(height),
-        Value::Pairs(options),
-    ]?;
-    request(alloc, session, "nvim_ui_attach", params)
 }
 
 // What is done to a world, or asked of it.

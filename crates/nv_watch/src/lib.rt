@@ -27,10 +27,3 @@ pub use grid_fold::GridFold;
 pub use mark_check::MarkCheck;
 pub use verdict::Verdict;
 pub use watcher::{Watcher, drive};
-
-#[cfg(test)]
-mod fold_tests;
-#[cfg(test)]
-mod grid_tests;
-#[cfg(test)]
-mod tests;

@@ -1,7 +1,7 @@
 //! Scripts against sums of another program by the same rules.
 ghost use Rattle.std.specs.Prelude.{◌<◌};
 
-use crate::script;
+use nv_gen::script;
 use nv_rpc::Frame;
 use nv_value::{Items, Value};
 use nv_world::{Entry, Event};

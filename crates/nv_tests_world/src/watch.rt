@@ -3,11 +3,14 @@ ghost use Rattle.std.specs.Prelude.{IfOk};
 ghost use Rattle.nv_world.specs.Contents.{plain_event};
 ghost use Rattle.nv_world.specs.Worlds.{IsLightEvent};
 
-use crate::{Counter, Verdict, Watcher};
+mod folds;
+mod grids;
+
+use crate::asking::request;
 use nv_dispatch::usual_limits;
-use nv_rpc::Frame;
 use nv_value::{Bytes, Value};
-use nv_world::{Event, Step, World};
+use nv_watch::{Counter, Verdict, Watcher};
+use nv_world::{BufferSplice, Event, Step, World};
 use std::alloc::{AllocError, Global};
 use std::test::Fail;
 
@@ -15,14 +18,8 @@ use std::test::Fail;
 fn line_count(alloc: Global, session: u64) -> Result<Event, AllocError>
     ensures { IfOk result (λ event. IsLightEvent (plain_event event)) }
 {
-    let method = Bytes::from_slice(alloc, b"nvim_buf_line_count")?;
     let params = vec![in alloc; Value::Int(0)]?;
-    let frame = Frame::Request {
-        msgid: 1,
-        method,
-        params,
-    };
-    Ok(Event::Request { session, frame })
+    request(alloc, session, "nvim_buf_line_count", params)
 }
 
 // A session opens, and asks once.
@@ -32,31 +29,41 @@ fn ask_once(alloc: Global, world: &mut World) -> Result<(), AllocError> {
     Ok(())
 }
 
-// The counter sees a step of the session that is sent these bytes.
-fn show(
+// A watcher sees a step of session 1, which is sent these bytes and splices buffer 1.
+pub(crate) fn show<W: Watcher>(
     alloc: Global,
-    counter: &mut Counter,
+    watcher: &mut W,
     world: &World,
     at: u64,
     sent: &[u8],
+    splice: Option<(u64, u64, u64)>,
 ) -> Result<(), AllocError> {
+    let mut splices = Vec::new(alloc);
+    if let Some((from, old, new)) = splice {
+        splices.push(BufferSplice {
+            buffer: 1,
+            at: from,
+            old,
+            new,
+        })?;
+    }
     let step = Step {
         at,
         caller: 0,
         session: 1,
         sent: Bytes::from_slice(alloc, sent)?,
-        splices: Vec::new(alloc),
+        splices,
     };
-    counter.see(world, &step)
+    watcher.see(world, &step)
 }
 
 // What a counter says where the session is sent these bytes after its request.
 fn verdict(alloc: Global, world: &World, sent: &[u8]) -> Result<Verdict, AllocError> {
     let mut counter = Counter::new(alloc);
-    show(alloc, &mut counter, world, 0, b"")?;
-    show(alloc, &mut counter, world, 1, b"")?;
-    show(alloc, &mut counter, world, 2, sent)?;
-    show(alloc, &mut counter, world, 3, b"")?;
+    show(alloc, &mut counter, world, 0, b"", None)?;
+    show(alloc, &mut counter, world, 1, b"", None)?;
+    show(alloc, &mut counter, world, 2, sent, None)?;
+    show(alloc, &mut counter, world, 3, b"", None)?;
     Ok(counter.verdict())
 }
 

@@ -1,46 +1,18 @@
 //! What the watchers of buffers and of marks say of steps, true ones and altered ones.
 ghost use Rattle.std.specs.Prelude.{◌<◌, ◌^◌, length, IfOk};
-ghost use Rattle.nv_value.specs.View.{contents};
-ghost use Rattle.nv_args.specs.Weight.{AreLight};
 ghost use Rattle.nv_world.specs.Contents.{plain_event};
 ghost use Rattle.nv_world.specs.Worlds.{IsLightEvent};
 
-use crate::{BufferFold, MarkCheck, Verdict, Watcher};
+use crate::asking::{attach, request};
+use crate::watch::show;
 use nv_dispatch::usual_limits;
-use nv_rpc::Frame;
-use nv_value::{Bytes, Items, Pair, Value};
-use nv_world::{BufferSplice, Event, Step, World};
+use nv_value::{Bytes, Pair, Value};
+use nv_watch::{BufferFold, MarkCheck, Verdict, Watcher};
+use nv_world::{Event, World};
 use std::alloc::{AllocError, Global};
 use std::test::Fail;
 
-// A request of session 1.
-fn request(alloc: Global, name: &str, params: Items) -> Result<Event, AllocError>
-    requires name { length name.now < 2 ^ 16 }
-    requires light { AreLight (contents params.items) }
-    ensures { IfOk result (λ event. IsLightEvent (plain_event event)) }
-{
-    let method = Bytes::from_slice(alloc, name.as_bytes())?;
-    let frame = Frame::Request {
-        msgid: 1,
-        method,
-        params,
-    };
-    Ok(Event::Request { session: 1, frame })
-}
-
-// Session 1 attaches to buffer 1, and wants its lines.
-fn attach(alloc: Global) -> Result<Event, AllocError>
-    ensures { IfOk result (λ event. IsLightEvent (plain_event event)) }
-{
-    let params = vec![in alloc;
-        Value::Int(1),
-        Value::Truth(true),
-        Value::Pairs(Vec::new(alloc)),
-    ]?;
-    request(alloc, "nvim_buf_attach", params)
-}
-
-// It puts a line in place of the first one.
+// Session 1 puts a line in place of the first one.
 fn put_line(alloc: Global, line: &[u8]) -> Result<Event, AllocError>
     requires { length line.now < 2 ^ 16 }
     ensures { IfOk result (λ event. IsLightEvent (plain_event event)) }
@@ -53,7 +25,7 @@ fn put_line(alloc: Global, line: &[u8]) -> Result<Event, AllocError>
         Value::Truth(true),
         Value::List(lines),
     ]?;
-    request(alloc, "nvim_buf_set_lines", params)
+    request(alloc, 1, "nvim_buf_set_lines", params)
 }
 
 // It makes a namespace.
@@ -61,7 +33,7 @@ fn make_namespace(alloc: Global) -> Result<Event, AllocError>
     ensures { IfOk result (λ event. IsLightEvent (plain_event event)) }
 {
     let params = vec![in alloc; Value::Text(Bytes::from_slice(alloc, b"a")?)]?;
-    request(alloc, "nvim_create_namespace", params)
+    request(alloc, 1, "nvim_create_namespace", params)
 }
 
 // It sets a mark in the first line, from column 3 to column 5.
@@ -81,7 +53,7 @@ fn set_mark(alloc: Global) -> Result<Event, AllocError>
         Value::Int(3),
         Value::Pairs(options),
     ]?;
-    request(alloc, "nvim_buf_set_extmark", params)
+    request(alloc, 1, "nvim_buf_set_extmark", params)
 }
 
 // It puts two bytes at column 3.
@@ -97,35 +69,7 @@ fn put_text(alloc: Global) -> Result<Event, AllocError>
         Value::Int(3),
         Value::List(lines),
     ]?;
-    request(alloc, "nvim_buf_set_text", params)
-}
-
-// A watcher sees a step of session 1, which is sent these bytes and splices buffer 1.
-fn show<W: Watcher>(
-    alloc: Global,
-    watcher: &mut W,
-    world: &World,
-    at: u64,
-    sent: &[u8],
-    splice: Option<(u64, u64, u64)>,
-) -> Result<(), AllocError> {
-    let mut splices = Vec::new(alloc);
-    if let Some((from, old, new)) = splice {
-        splices.push(BufferSplice {
-            buffer: 1,
-            at: from,
-            old,
-            new,
-        })?;
-    }
-    let step = Step {
-        at,
-        caller: 0,
-        session: 1,
-        sent: Bytes::from_slice(alloc, sent)?,
-        splices,
-    };
-    watcher.see(world, &step)
+    request(alloc, 1, "nvim_buf_set_text", params)
 }
 
 // A fold that saw the session open, attach and take these bytes.
@@ -145,7 +89,7 @@ fn folded(alloc: Global, world: &World, sent: &[u8]) -> Result<Verdict, AllocErr
 // the line `x` told with the changedtick that the buffer has after the next step.
 fn folds(alloc: Global, world: &mut World) -> Result<[Verdict; 5], AllocError> {
     let _ = world.apply(0, Event::Open);
-    let _ = world.apply(0, attach(alloc)?);
+    let _ = world.apply(0, attach(alloc, 1, true)?);
     let lines = b"\x93\x02\xb4nvim_buf_lines_event\x96\xd4\x00\x01\x02\x00\xff\x91\xa0\xc2";
     let other = b"\x93\x02\xb4nvim_buf_lines_event\x96\xd4\x00\x01\x02\x00\xff\x91\xa1x\xc2";
     let part = b"\x93\x02\xb4nvim_buf_lines_event\x96\xd4\x00\x01\x02\x00\x01\x91\xa0\xc2";

@@ -1,13 +1,10 @@
 //! A watcher of redraw events that is shown steps, true ones and altered ones.
-ghost use Rattle.std.specs.Prelude.{IfOk};
-ghost use Rattle.nv_world.specs.Contents.{plain_event};
-ghost use Rattle.nv_world.specs.Worlds.{IsLightEvent};
 
-use crate::{GridFold, Verdict, Watcher};
+use crate::asking::attach_ui;
+use crate::watch::show;
 use nv_dispatch::usual_limits;
-use nv_rpc::Frame;
-use nv_value::{Bytes, Pair, Value};
-use nv_world::{Event, Step, World};
+use nv_watch::{GridFold, Verdict, Watcher};
+use nv_world::{Event, World};
 use std::alloc::{AllocError, Global};
 use std::test::Fail;
 
@@ -25,50 +22,12 @@ const FIRST: &[u8] = b"\x94\x01\x01\xc0\xc0\x93\x02\xa6redraw\x97\
     \x92\xb0grid_cursor_goto\x93\x01\x00\x00\
     \x92\xa5flush\x90";
 
-// A session attaches a UI.
-fn attach(alloc: Global, session: u64) -> Result<Event, AllocError>
-    ensures { IfOk result (λ event. IsLightEvent (plain_event event)) }
-{
-    let method = Bytes::from_slice(alloc, b"nvim_ui_attach")?;
-    let options = vec![in alloc;
-        Pair {
-            key: Value::Text(Bytes::from_slice(alloc, b"ext_linegrid")?),
-            value: Value::Truth(true),
-        },
-    ]?;
-    let params = vec![in alloc; Value::Int(12), Value::Int(4), Value::Pairs(options)]?;
-    let frame = Frame::Request {
-        msgid: 1,
-        method,
-        params,
-    };
-    Ok(Event::Request { session, frame })
-}
-
 // A session opens, attaches a UI, and takes what is due.
 fn attach_and_take(alloc: Global, world: &mut World) -> Result<(), AllocError> {
     let _ = world.apply(0, Event::Open);
-    let _ = world.apply(0, attach(alloc, 1)?);
+    let _ = world.apply(0, attach_ui(alloc, 1, 12, 4)?);
     let _ = world.apply(0, Event::Take { session: 1 });
     Ok(())
-}
-
-// The watcher sees a step of the session that is sent these bytes.
-fn show(
-    alloc: Global,
-    fold: &mut GridFold,
-    world: &World,
-    at: u64,
-    sent: &[u8],
-) -> Result<(), AllocError> {
-    let step = Step {
-        at,
-        caller: 0,
-        session: 1,
-        sent: Bytes::from_slice(alloc, sent)?,
-        splices: Vec::new(alloc),
-    };
-    fold.see(world, &step)
 }
 
 // What a watcher says where the session is sent the first batch with this byte at a place.
@@ -79,10 +38,10 @@ fn verdict(alloc: Global, world: &World, place: usize, byte: u8) -> Result<Verdi
         sent[place] = byte;
     }
     let mut fold = GridFold::new(alloc);
-    show(alloc, &mut fold, world, 0, b"")?;
-    show(alloc, &mut fold, world, 1, b"")?;
-    show(alloc, &mut fold, world, 2, sent.as_slice())?;
-    show(alloc, &mut fold, world, 3, b"")?;
+    show(alloc, &mut fold, world, 0, b"", None)?;
+    show(alloc, &mut fold, world, 1, b"", None)?;
+    show(alloc, &mut fold, world, 2, sent.as_slice(), None)?;
+    show(alloc, &mut fold, world, 3, b"", None)?;
     Ok(fold.verdict())
 }
 
