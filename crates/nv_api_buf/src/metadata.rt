@@ -1,5 +1,5 @@
 //! What the server tells of its API (help: api-metadata, nvim_get_api_info()).
-ghost use Rattle.std.specs.Prelude.{◌≡◌, ◌∷◌, [], bytes_eq, length, map, take, IfOk};
+ghost use Rattle.std.specs.Prelude.{◌≡◌, ◌∷◌, ◌++◌, [], bytes_eq, length, map, take, IfOk, OnOk};
 ghost use Rattle.nv_value.specs.Content.{text};
 ghost use Rattle.nv_value.specs.View.{content, pair_content};
 ghost use Rattle.nv_msgpack.specs.Shortest.{HasSpelling};
@@ -19,16 +19,13 @@ pub fn metadata_value(alloc: Global) -> Result<Value, AllocError>
     ensures value { IfOk result (λ value. content value ≡ metadata) }
     ensures spelled { HasSpelling metadata }
 {
-    let functions = functions_value(alloc)?;
-    let events = events_value(alloc)?;
-    let fields = vec![in alloc;
-        pair(alloc, "version", version(alloc)?)?,
-        pair(alloc, "functions", functions)?,
-        pair(alloc, "ui_events", events)?,
-        pair(alloc, "ui_options", ui_options(alloc)?)?,
-        pair(alloc, "types", handle_types(alloc)?)?,
-        pair(alloc, "error_types", error_types(alloc)?)?,
-    ]?;
+    let mut fields = Vec::with_capacity(alloc, 6)?;
+    put_pair(alloc, &mut fields, "version", version(alloc)?)?;
+    put_pair(alloc, &mut fields, "functions", functions_value(alloc)?)?;
+    put_pair(alloc, &mut fields, "ui_events", events_value(alloc)?)?;
+    put_pair(alloc, &mut fields, "ui_options", ui_options(alloc)?)?;
+    put_pair(alloc, &mut fields, "types", handle_types(alloc)?)?;
+    put_pair(alloc, &mut fields, "error_types", error_types(alloc)?)?;
     Ok(Value::Pairs(fields))
 }
 
@@ -43,6 +40,21 @@ fn pair(alloc: Global, key: &str, value: Value) -> Result<Pair, AllocError>
 {
     let key = word(alloc, key)?;
     Ok(Pair { key, value })
+}
+
+// Puts a pair behind others.
+fn put_pair(
+    alloc: Global,
+    fields: &mut Vec<Pair>,
+    key: &str,
+    value: Value,
+) -> Result<(), AllocError>
+    ensures { OnOk result (map pair_content fields.new.items
+        ≡ map pair_content fields.old.items ++ (text key.now, content value) ∷ []) }
+{
+    let pair = pair(alloc, key, value)?;
+    fields.push(pair)?;
+    Ok(())
 }
 
 fn version(alloc: Global) -> Result<Value, AllocError>
@@ -119,11 +131,16 @@ fn function(alloc: Global, told: &Told) -> Result<Value, AllocError>
 fn event(alloc: Global, told: &Told) -> Result<Value, AllocError>
     ensures { IfOk result (λ value. content value ≡ event_shaped (form_of_row told.now)) }
 {
-    Ok(Value::Pairs(vec![in alloc;
-        pair(alloc, "name", word(alloc, told.name)?)?,
-        pair(alloc, "since", Value::Int(1))?,
-        pair(alloc, "parameters", parameters_value(alloc, told)?)?,
-    ]?))
+    let mut fields = Vec::with_capacity(alloc, 3)?;
+    put_pair(alloc, &mut fields, "name", word(alloc, told.name)?)?;
+    put_pair(alloc, &mut fields, "since", Value::Int(1))?;
+    put_pair(
+        alloc,
+        &mut fields,
+        "parameters",
+        parameters_value(alloc, told)?,
+    )?;
+    Ok(Value::Pairs(fields))
 }
 
 fn functions_value(alloc: Global) -> Result<Value, AllocError>
@@ -165,27 +182,45 @@ fn events_shaped(alloc: Global, table: &[Told]) -> Result<Items, AllocError>
 fn ui_options(alloc: Global) -> Result<Value, AllocError>
     ensures { IfOk result (λ value. content value ≡ ui_options) }
 {
-    Ok(Value::List(vec![in alloc; word(alloc, "rgb")?, word(alloc, "ext_linegrid")?]?))
+    let mut items = Vec::with_capacity(alloc, 2)?;
+    items.push(word(alloc, "rgb")?)?;
+    items.push(word(alloc, "ext_linegrid")?)?;
+    Ok(Value::List(items))
 }
 
 fn handle_type(alloc: Global, number: u8, prefix: &str) -> Result<Value, AllocError>
     ensures { IfOk result (λ value. content value
         ≡ dict_of (key_value "id" (natural number) ∷ (word "prefix", text prefix.now) ∷ [])) }
 {
-    Ok(Value::Pairs(vec![in alloc;
-        pair(alloc, "id", Value::Int(number as i64))?,
-        pair(alloc, "prefix", word(alloc, prefix)?)?,
-    ]?))
+    let mut fields = Vec::with_capacity(alloc, 2)?;
+    put_pair(alloc, &mut fields, "id", Value::Int(number as i64))?;
+    put_pair(alloc, &mut fields, "prefix", word(alloc, prefix)?)?;
+    Ok(Value::Pairs(fields))
 }
 
 fn handle_types(alloc: Global) -> Result<Value, AllocError>
     ensures { IfOk result (λ value. content value ≡ handle_types) }
 {
-    Ok(Value::Pairs(vec![in alloc;
-        pair(alloc, "Buffer", handle_type(alloc, 0, "nvim_buf_")?)?,
-        pair(alloc, "Window", handle_type(alloc, 1, "nvim_win_")?)?,
-        pair(alloc, "Tabpage", handle_type(alloc, 2, "nvim_tabpage_")?)?,
-    ]?))
+    let mut fields = Vec::with_capacity(alloc, 3)?;
+    put_pair(
+        alloc,
+        &mut fields,
+        "Buffer",
+        handle_type(alloc, 0, "nvim_buf_")?,
+    )?;
+    put_pair(
+        alloc,
+        &mut fields,
+        "Window",
+        handle_type(alloc, 1, "nvim_win_")?,
+    )?;
+    put_pair(
+        alloc,
+        &mut fields,
+        "Tabpage",
+        handle_type(alloc, 2, "nvim_tabpage_")?,
+    )?;
+    Ok(Value::Pairs(fields))
 }
 
 fn error_type(alloc: Global, number: u8) -> Result<Value, AllocError>
@@ -197,8 +232,8 @@ fn error_type(alloc: Global, number: u8) -> Result<Value, AllocError>
 fn error_types(alloc: Global) -> Result<Value, AllocError>
     ensures { IfOk result (λ value. content value ≡ error_types) }
 {
-    Ok(Value::Pairs(vec![in alloc;
-        pair(alloc, "Exception", error_type(alloc, 0)?)?,
-        pair(alloc, "Validation", error_type(alloc, 1)?)?,
-    ]?))
+    let mut fields = Vec::with_capacity(alloc, 2)?;
+    put_pair(alloc, &mut fields, "Exception", error_type(alloc, 0)?)?;
+    put_pair(alloc, &mut fields, "Validation", error_type(alloc, 1)?)?;
+    Ok(Value::Pairs(fields))
 }
