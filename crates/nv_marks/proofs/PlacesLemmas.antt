@@ -1,5 +1,5 @@
 -- Places relative to a base, and how moves keep the order of places and of records.
-use Rattle.std.proofs.Common.{◌≡◌, ◌≢◌, ◌+◌, ◌-◌, refl, ap, sym, ◌∙◌, arith, Bool, true, false, cond, eqb, inl, inr, subst, ◌⊎◌}
+use Rattle.std.proofs.Common.{◌≡◌, ◌≢◌, ◌<◌, ◌+◌, ◌-◌, refl, ap, sym, ◌∙◌, arith, Bool, true, false, cond, eqb, inl, inr, subst, ◌⊎◌}
 use Rattle.std.specs.Ordering.{is_lt, ordering_then, nat_cmp, bool_cmp}
 use Rattle.std.specs.declared.cmp.Ordering.{Ordering}
 use Rattle.std.specs.Cmp.{IsTotalOrder, IsStrictWeakOrder, then_total, on_total, nat_cmp_total, bool_cmp_total}
@@ -101,6 +101,42 @@ pub moved-inside : (right : Bool) (start : Pos) (old new : Extent) (p : Pos) →
     → is_before (further start old) p ≡ false
     → moved_place right start old new p ≡ cond right (further start new) start
 moved-inside right start old new p not_yet still = rw (not_yet, still) refl
+
+-- what lies in a later row than the old end moves by rows alone
+pub later_row : (end p : Pos) → end.row < p.row → is_before end p ≡ true
+later_row end p later = grind (arith, nat_tests)
+
+pub carried-rows : (old new p : Pos) → old.row < p.row
+    → carried_place old new p ≡ (let q : Pos = record { row = p.row - old.row + new.row; col = p.col } in q)
+carried-rows old new p later =
+    let other : eqb p.row old.row ≡ false = grind (arith, nat_tests) in
+    rw other refl
+
+pub moved-rows : (start : Pos) (old new : Extent) (p : Pos) → (further start old).row < p.row
+    → moved_place true start old new p
+    ≡ (let q : Pos = record { row = p.row - (further start old).row + (further start new).row; col = p.col } in q)
+moved-rows start old new p later =
+    moved-behind true start old new p (later_row (further start old) p later) ∙ carried-rows (further start old) (further start new) p later
+
+-- the same of places that are equal to these
+pub rows-moved : (start : Pos) (old new : Extent) (p base old_end new_end : Pos) → base ≡ p → old_end ≡ further start old → new_end ≡ further start new
+    → (further start old).row < p.row
+    → (let q : Pos = record { row = base.row - old_end.row + new_end.row; col = base.col } in q) ≡ moved_place true start old new p
+rows-moved start old new p base old_end new_end base_is old_is new_is later =
+    ap (λ (b : Pos). (let q : Pos = record { row = b.row - old_end.row + new_end.row; col = b.col } in q)) base_is
+    ∙ ap (λ (e : Pos). (let q : Pos = record { row = p.row - e.row + new_end.row; col = p.col } in q)) old_is
+    ∙ ap (λ (e : Pos). (let q : Pos = record { row = p.row - (further start old).row + e.row; col = p.col } in q)) new_is
+    ∙ sym (moved-rows start old new p later)
+
+further-row : (start : Pos) (by : Extent) → (further start by).row ≡ start.row + by.rows
+further-row start by = grind (arith, nat_tests)
+
+-- and stays where the number of rows does
+pub moved-same_rows : (start : Pos) (old new : Extent) (p : Pos) → (further start old).row < p.row → old.rows ≡ new.rows
+    → moved_place true start old new p ≡ p
+moved-same_rows start old new p later same =
+    let back : p.row - (further start old).row + (further start new).row ≡ p.row = omega (arith, further-row start old, further-row start new) in
+    moved-rows start old new p later ∙ (λ i. record { row = back i; col = p.col })
 
 -- what lies behind a base that lies behind the old end lies behind the old end
 pub behind_base : (old base : Pos) (by : Extent) → is_before old base ≡ true → is_before old (further base by) ≡ true

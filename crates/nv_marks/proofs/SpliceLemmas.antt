@@ -1,5 +1,5 @@
 -- A splice over chunks: which chunks it writes, that they stay laid, and how many steps it takes.
-use Rattle.std.proofs.Common.{◌≡◌, ◌≤◌, ◌<◌, ◌+◌, ◌-◌, ◌*◌, ◌/◌, List, [], ◌∷◌, ◌++◌, ℕ, zero, suc, refl, ap, sym, ◌∙◌, append_assoc, length, length-append, take, drop, get_or, map, max, not, cond, arith, Bool, true, false, subst, inl, inr, None}
+use Rattle.std.proofs.Common.{◌≡◌, ◌≤◌, ◌<◌, ◌+◌, ◌-◌, ◌*◌, ◌/◌, List, [], ◌∷◌, ◌++◌, ℕ, zero, suc, refl, ap, sym, ◌∙◌, append_assoc, length, length-append, take, drop, get_or, map, max, not, cond, arith, Bool, true, false, subst, inl, inr, None, leb}
 use Rattle.std.specs.Prelude.{IsPermutation}
 use Rattle.std.specs.List.Sorted.{IsPartitionedBy}
 use Rattle.std.proofs.lemmas.Bool.{cases_lt, both_ways}
@@ -104,6 +104,17 @@ parts_up_to at ps laid = parts_by (λ p. not (is_before at p.base)) down ps laid
 
     down : (p q : Piece) → IsFit p → IsFit q → ((d : Record) → precedes (heads q.base q.kept d) (heads p.base p.kept d) ≡ false)
         → not (is_before at q.base) ≡ true → not (is_before at p.base) ≡ true
+    down p q fit_p fit_q rise before =
+        earlier_too p.base q.base (base_rises p.base q.base p.kept q.kept default_record fit_p.some fit_q.some (rise default_record)) before
+
+pub parts_to_row : (row : ℕ) (ps : List Piece) → IsLaid ps → IsPartitionedBy (λ p. leb p.base.row row) ps
+parts_to_row row ps laid = parts_by (λ p. leb p.base.row row) down ps laid.fit laid.based laid.in_order
+  where
+    earlier_too : (b b' : Pos) → is_before b' b ≡ false → leb b'.row row ≡ true → leb b.row row ≡ true
+    earlier_too b b' later before = grind (arith, nat_tests)
+
+    down : (p q : Piece) → IsFit p → IsFit q → ((d : Record) → precedes (heads q.base q.kept d) (heads p.base p.kept d) ≡ false)
+        → leb q.base.row row ≡ true → leb p.base.row row ≡ true
     down p q fit_p fit_q rise before =
         earlier_too p.base q.base (base_rises p.base q.base p.kept q.kept default_record fit_p.some fit_q.some (rise default_record)) before
 
@@ -482,14 +493,27 @@ module _ (start : Pos) (old new : Extent) (ps : List Piece) (from to : ℕ) (lai
       ∙ carried_parts start old new (fs ++ ms) (drop to ps)
       ∙ append_assoc fs ms (map (carried_piece start old new) (drop to ps))
 
+  rest_is : (rs : List Record) → drop to (refit_pieces from (to - from) ps rs) ≡ drop to ps
+  rest_is rs =
+      let fs : List Piece = take from ps in
+      let ms : List Piece = refilled_pieces (take (to - from) (drop from ps)) rs in
+      ap (drop to) (refit_is rs ∙ sym (append_assoc fs ms (drop to ps))) ∙ drop_at (fs ++ ms) (drop to ps) to (new_front rs)
+
+  -- what holds of the chunks from a place behind the middle on holds of them afterwards
+  pub rest_keeps : (P : Piece → Type 0) (rs : List Record) (n far : ℕ) → far ≡ max n to → ForEach P (drop n ps)
+      → ForEach P (drop far (refit_pieces from (to - from) ps rs))
+  rest_keeps P rs n far is each =
+      let whole : to + (far - to) ≡ far = omega arith in
+      let same : drop far (refit_pieces from (to - from) ps rs) ≡ drop far ps =
+      sym (ap (λ (k : ℕ). drop k (refit_pieces from (to - from) ps rs)) whole) ∙ sym (drop-drop (far - to) to (refit_pieces from (to - from) ps rs))
+      ∙ ap (λ (l : List Piece). drop (far - to) l) (rest_is rs)
+      ∙ drop-drop (far - to) to ps ∙ ap (λ (k : ℕ). drop k ps) whole in
+      subst (λ (l : List Piece). ForEach P l) (sym same) (Each-drop_later P ps n far (omega arith) each)
+
   pub bases_fit : (rs : List Record) → IsPermutation (map (moved_record start old new) (spread_records (take (to - from) (drop from ps)))) rs → Sort rs
       → ForEach (λ p. IsNarrow (moved_place true start old new p.base)) (drop to (refit_pieces from (to - from) ps rs))
   bases_fit rs moved up =
-      let fs : List Piece = take from ps in
-      let ms : List Piece = refilled_pieces (take (to - from) (drop from ps)) rs in
-      let is : drop to (refit_pieces from (to - from) ps rs) ≡ drop to ps =
-      ap (drop to) (refit_is rs ∙ sym (append_assoc fs ms (drop to ps))) ∙ drop_at (fs ++ ms) (drop to ps) to (new_front rs) in
-      subst (λ (l : List Piece). ForEach (λ p. IsNarrow (moved_place true start old new p.base)) l) (sym is)
+      subst (λ (l : List Piece). ForEach (λ p. IsNarrow (moved_place true start old new p.base)) l) (sym (rest_is rs))
       (bases_move start old new (take from ps) (take (to - from) (drop from ps)) (drop to ps) rs
       (subst (λ (l : List Piece). IsLaid l) in_parts laid) parts.front parts.behind moved up
       (subst (λ (l : List Piece). ForEach (MovesInRange start old new) (spread_records l)) in_parts moves))

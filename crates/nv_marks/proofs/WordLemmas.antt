@@ -134,6 +134,14 @@ carry_end n start old new [] past = refl
 carry_end zero start old new (p ∷ ps) past = absurd (omega arith)
 carry_end (suc n) start old new (p ∷ ps) past = ap (λ (l : List Piece). p ∷ l) (carry_end n start old new ps (omega arith))
 
+pub carry_same : (n : ℕ) (start : Pos) (old new : Extent) (ps : List Piece)
+    → ForEach (λ p. moved_place true start old new p.base ≡ p.base) (drop n ps) → pieces_carried_from n start old new ps ≡ ps
+carry_same n start old new [] stay = refl
+carry_same zero start old new (p ∷ ps) stay =
+    ap (λ (b : Pos). with_base b p ∷ pieces_carried_from zero start old new ps) stay.0
+    ∙ ap (λ (l : List Piece). p ∷ l) (carry_same zero start old new ps stay.1)
+carry_same (suc n) start old new (p ∷ ps) stay = ap (λ (l : List Piece). p ∷ l) (carry_same n start old new ps stay)
+
 pub refit_step : (n to at size : ℕ) (ps qs whole : List Piece) (rs part : List Record) (q : Piece) → n < to → n < length ps
     → q ≡ get_or ps n q → size ≡ length q.kept → part ≡ take size (drop at rs) → qs ≡ pieces_edited_at n (written_piece part) ps
     → refit_pieces n (to - n) ps (drop at rs) ≡ whole
@@ -177,6 +185,14 @@ carry_step n start old new ps qs whole q to within here goes put so_far =
     ap (λ (l : List Piece). pieces_carried_from (n + 1) start old new l) (put ∙ ap (λ (p : Pos). pieces_edited_at n (with_base p) ps) goes)
     ∙ carry_more n start old new ps q within here
     ∙ so_far
+
+-- what one change leaves behind it
+pub drop-after : (m n : ℕ) (f : Piece → Piece) (ps qs : List Piece) → n < m → qs ≡ pieces_edited_at n f ps → drop m qs ≡ drop m ps
+drop-after m n f ps qs later put =
+    let whole : n + 1 + (m - (n + 1)) ≡ m = omega arith in
+    sym (ap (λ (k : ℕ). drop k qs) whole) ∙ sym (drop-drop (m - (n + 1)) (n + 1) qs)
+    ∙ ap (λ (l : List Piece). drop (m - (n + 1)) l) (ap (drop (n + 1)) put ∙ drop-edited n f ps)
+    ∙ drop-drop (m - (n + 1)) (n + 1) ps ∙ ap (λ (k : ℕ). drop k ps) whole
 
 pub Each-drop_next : (P : Piece → Type 0) (n : ℕ) (f : Piece → Piece) (ps qs : List Piece) → qs ≡ pieces_edited_at n f ps → ForEach P (drop n ps)
     → ForEach P (drop (n + 1) qs)
