@@ -108,6 +108,11 @@ impl CellText {
     pub fn copy(&self, alloc: Global) -> Result<CellText, AllocError>
         ensures { IfOk result (λ t. t ≡ self.now) }
     {
-        CellText::new(alloc, self.as_slice())
+        match &self.kept {
+            Kept::Short(len, bytes) => Ok(CellText {
+                kept: Kept::Short(*len, *bytes),
+            }),
+            Kept::Long(bytes) => CellText::new(alloc, bytes.as_slice()),
+        }
     }
 }
