@@ -1,2 +1,3 @@
 pub mod DrawnCells
 pub mod Placing
+pub mod Plain

@@ -1,9 +1,13 @@
 //! Whole lines as cells.
 
+ghost use Rattle.nv_hl.specs.Attributes.{empty_attr};
 ghost use Rattle.nv_hl.specs.Cells.{space};
 ghost use Rattle.nv_linedraw.specs.LineCells.{cells_of_line, filling, rest_attr, rows_of_line};
 ghost use Rattle.nv_linedraw.specs.inside.DrawnCells.{laid_cells, laid_col};
-ghost use Rattle.std.specs.Prelude.{◌≡◌, ◌<◌, ◌≤◌, ◌+◌, ◌++◌, ◌==◌, All, IfOk, OnOk, length, min, replicate, take};
+ghost use Rattle.nv_linedraw.specs.inside.Plain.{byte_cell, plain_filling, plain_line};
+ghost use Rattle.std.specs.Int.{is_in_range};
+ghost use Rattle.std.specs.List.{list_all};
+ghost use Rattle.std.specs.Prelude.{◌≡◌, ◌<◌, ◌≤◌, ◌+◌, ◌/◌, ◌++◌, ◌==◌, true, All, IfOk, OnOk, length, map, min, replicate, take};
 
 use crate::flow::{Drawn, Flow, rest_attr};
 use crate::looks::{Looks, Span};
@@ -85,6 +89,81 @@ fn fill(flow: &mut Flow, d: &Drawn, most: usize) -> Result<(), AllocError>
     put_blanks(&mut flow.cells, n, d)
 }
 
+// Whether all bytes of a line are printable characters of ASCII, each of which is a cell by itself.
+fn is_plain(line: &[u8]) -> bool
+    ensures { result ≡ list_all (is_in_range 0x20 0x7E) line.now }
+{
+    for byte in line {
+        if !(0x20..=0x7E).contains(byte) {
+            return false;
+        }
+    }
+    true
+}
+
+// How many spaces fill the last row of so many cells, each by itself.
+fn plain_filling(count: usize, width: u32) -> u32
+    requires { 0 < width }
+    ensures { result ≡ plain_filling width count }
+{
+    filling(width, count == 0, (count % width as usize) as u32)
+}
+
+// Puts each byte as a cell without an attribute.
+fn put_plain(cells: &mut Vec<Cell>, bytes: &[u8]) -> Result<(), AllocError>
+    ensures { OnOk result (cells.new.items ≡ cells.old.items ++ map byte_cell bytes.now) }
+{
+    for byte in bytes {
+        cells.push(Cell::from_byte(*byte, Attr::EMPTY))?;
+    }
+    Ok(())
+}
+
+// Puts so many spaces without an attribute.
+fn put_spaces(cells: &mut Vec<Cell>, count: usize) -> Result<(), AllocError>
+    ensures { OnOk result (cells.new.items
+        ≡ cells.old.items ++ replicate count (space empty_attr)) }
+{
+    for _ in 0..count {
+        cells.push(Cell::space(Attr::EMPTY))?;
+    }
+    Ok(())
+}
+
+// The first cells of a plain line without spans, at most so many.
+fn plain_cells(alloc: Global, line: &[u8], width: u32, most: usize) -> Result<Vec<Cell>, AllocError>
+    requires { 0 < width }
+    ensures { IfOk result (λ c. c.items ≡ take most (plain_line width line.now)) }
+{
+    let count = line.len();
+    if most <= count {
+        let mut cells = Vec::with_capacity(alloc, most)?;
+        put_plain(&mut cells, &line[..most])?;
+        return Ok(cells);
+    }
+    let blanks = (plain_filling(count, width) as usize).min(most - count);
+    let mut cells = Vec::with_capacity(alloc, count.saturating_add(blanks))?;
+    put_plain(&mut cells, line)?;
+    put_spaces(&mut cells, blanks)?;
+    Ok(cells)
+}
+
+// The number of rows of a width that so many cells take, each by itself, or `most` where they take
+// more.
+fn plain_rows(count: usize, width: u32, most: u32) -> u32
+    requires { 0 < width }
+    ensures { result ≡ min most ((count + plain_filling width count) / width) }
+{
+    if count == 0 {
+        return most.min(1);
+    }
+    let full = count / width as usize;
+    if count % width as usize == 0 {
+        return full.min(most as usize) as u32;
+    }
+    full.saturating_add(1).min(most as usize) as u32
+}
+
 /// The first cells of a line in rows of a width, at most so many, one row behind another. What lies
 /// behind them isn't looked at.
 pub fn first_cells(
@@ -101,6 +180,10 @@ pub fn first_cells(
     ensures { IfOk result (λ c. c.items ≡ take most
         (cells_of_line width tabstop line.now spans.now looks.now)) }
 {
+    if spans.is_empty() && is_plain(line) {
+        let cells = plain_cells(alloc, line, width, most)?;
+        return Ok(cells);
+    }
     let d = Drawn {
         line,
         spans,
@@ -153,6 +236,9 @@ pub fn first_rows(
     requires stop { 0 < tabstop }
     ensures { IfOk result (λ n. n ≡ min most (rows_of_line width tabstop line.now)) }
 {
+    if is_plain(line) {
+        return Ok(plain_rows(line.len(), width, most));
+    }
     let looks = Looks {
         nontext: Attr::EMPTY,
         special: Attr::EMPTY,

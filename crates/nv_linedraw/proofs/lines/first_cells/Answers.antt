@@ -1,7 +1,19 @@
-use Rattle.std.proofs.Common.{◌≡◌, take, ◌∙◌, rules}
+use Rattle.std.proofs.Common.{◌≡◌, ◌==◌, true, [], length, take, sym, ap, ◌∙◌, arith, rules}
+use Rattle.std.proofs.lemmas.Bool.Decides.{nat_tests}
+use Rattle.std.proofs.lemmas.List.{nil_from_length}
 use Rattle.nv_text.specs.Pieces.{pieces_of}
+use Rattle.nv_linedraw.specs.LineCells.{cells_of_line}
 use Rattle.nv_linedraw.proofs.FirstLemmas.{first_are}
+use Rattle.nv_linedraw.proofs.PlainLines.{cells_of_plain}
 use Rattle.nv_linedraw.proofs.lines.first_cells.Goals as goal
+
+pub returns-then-is_plain : goal.returns-then-is_plain
+returns-then-is_plain c =
+    let is_zero : (length c.args.spans.now == 0) ≡ true = sym c.if-is_empty.ensures in
+    let none : [] ≡ c.args.spans.now = sym (nil_from_length c.args.spans.now (grind (arith, nat_tests, is_zero))) in
+    c.in_ok-cells.ensures
+    ∙ ap (take c.args.most) (sym (cells_of_plain c.args.width c.args.tabstop c.args.line.now c.args.looks.now c.requires.wide (sym c.if-is_plain.ensures)))
+    ∙ ap (λ spans. take c.args.most (cells_of_line c.args.width c.args.tabstop c.args.line.now spans c.args.looks.now)) none
 
 pub returns : goal.returns
 returns c =

@@ -1,7 +1,13 @@
-use Rattle.std.proofs.Common.{◌/◌, [], ap, ◌∙◌}
+use Rattle.std.proofs.Common.{◌/◌, [], min, sym, ap, ◌∙◌}
 use Rattle.nv_linedraw.specs.LineCells.{cells_of_line, no_looks}
+use Rattle.nv_linedraw.proofs.PlainLines.{rows_of_plain}
 use Rattle.nv_linedraw.proofs.RowLemmas.{rows_among}
 use Rattle.nv_linedraw.proofs.lines.first_rows.Goals as goal
+
+pub returns-then-is_plain : goal.returns-then-is_plain
+returns-then-is_plain c =
+    c.plain_rows.ensures
+    ∙ ap (min c.args.most) (sym (rows_of_plain c.args.width c.args.tabstop c.args.line.now c.requires.wide (sym c.if-is_plain.ensures)))
 
 pub returns : goal.returns
 returns c =

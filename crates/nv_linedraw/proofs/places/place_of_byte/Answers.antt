@@ -1,10 +1,10 @@
-use Rattle.std.proofs.Common.{◌≡◌, ◌<◌, ◌≤◌, ◌+◌, ◌-◌, ◌%◌, ◌∷◌, ◌∙◌, ap, sym, take, drop, get_or, arith, rules}
+use Rattle.std.proofs.Common.{◌≡◌, ◌≤◌, ◌+◌, ◌-◌, ◌%◌, ◌∙◌, ap, sym, take, drop, get_or, rules}
 use Rattle.nv_text.specs.declared.piece.Kind.TheVariants.{Tab}
 use Rattle.nv_text.specs.declared.piece.Piece.{Piece}
 use Rattle.nv_text.specs.Pieces.{pieces_of}
 use Rattle.nv_linedraw.specs.inside.Placing.{cells_taken}
 use Rattle.nv_linedraw.proofs.LayLemmas.{drop_at}
-use Rattle.nv_linedraw.proofs.PlaceLemmas.{first_are_enough, found_here, found_later, sought, stands_at_first}
+use Rattle.nv_linedraw.proofs.PlaceLemmas.{first_are_enough, found_later, sought, stands_at_first}
 use Rattle.nv_linedraw.proofs.places.place_of_byte.Goals as goal
 
 pub loop-piece-init : goal.loop-piece-init
