@@ -39,7 +39,8 @@ fn empty_strips(alloc: Global, width: u32, height: u32) -> Result<Vec<Row>, Allo
     Ok(strips)
 }
 
-// Puts cells into a row from a column on. What would pass its end is left out.
+// Puts cells into a row from a column on. What would pass its end is left out. Cells that fill a
+// row by themselves become the row.
 fn lay_row(row: &mut Row, width: u32, col: u32, cells: Vec<Cell>) -> Result<(), AllocError>
     requires within { length row.old ≤ width }
     requires col { col ≤ width }
@@ -48,6 +49,10 @@ fn lay_row(row: &mut Row, width: u32, col: u32, cells: Vec<Cell>) -> Result<(), 
     ensures within { length row.new ≤ width }
 {
     let built = row.cells().len();
+    if built == 0 && cells.len() == width as usize && col == 0 {
+        *row = Row::new(cells);
+        return Ok(());
+    }
     if built <= col as usize && cells.len() <= (width - col) as usize {
         row.append_spaces(col as usize - built)?;
         row.append(cells)?;
