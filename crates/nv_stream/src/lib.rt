@@ -10,6 +10,3 @@ mod stream;
 
 pub use laws::{answers_are_one, flaws_stay, pieces_do_not_matter};
 pub use stream::{Next, Stream};
-
-#[cfg(test)]
-mod tests;

@@ -1,7 +1,7 @@
 //! Bytes that are spelled in hexadecimal digits.
 ghost use Rattle.std.specs.Prelude.{◌<◌};
 
-use std::alloc::AllocError;
+use std::alloc::{AllocError, Global};
 
 fn digit(digit: u8) -> u8
     ensures { result < 16 }
@@ -20,4 +20,10 @@ pub fn push_hex(bytes: &mut Vec<u8>, hex: &str) -> Result<(), AllocError> {
         }
     }
     Ok(())
+}
+
+pub fn bytes_of(alloc: Global, hex: &str) -> Result<Vec<u8>, AllocError> {
+    let mut bytes = Vec::new(alloc);
+    push_hex(&mut bytes, hex)?;
+    Ok(bytes)
 }

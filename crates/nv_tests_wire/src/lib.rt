@@ -1,4 +1,5 @@
-//! Tests of the codec, the messages, the arguments and the devices, over their public calls.
+//! Tests of values, the codec, streams, the messages, the arguments and the devices, over their
+//! public calls.
 #![tactic(auto)]
 
 #[cfg(test)]
@@ -8,6 +9,14 @@ mod digits;
 #[cfg(test)]
 mod io;
 #[cfg(test)]
+mod lines;
+#[cfg(test)]
 mod msgpack;
 #[cfg(test)]
 mod rpc;
+#[cfg(test)]
+mod spelling;
+#[cfg(test)]
+mod streams;
+#[cfg(test)]
+mod values;

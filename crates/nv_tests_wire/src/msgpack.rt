@@ -2,9 +2,9 @@
 
 mod writing;
 
-use crate::digits::push_hex;
+use crate::digits::{bytes_of, push_hex};
+use crate::lines::line_of;
 use nv_msgpack::{Bounds, Decoded, decode, handle_of};
-use nv_value::{Fields, Items, Value};
 use std::alloc::{AllocError, Global};
 use std::test::Fail;
 
@@ -207,71 +207,6 @@ fn handles() -> &'static [(&'static str, Option<i64>)] {
     ]
 }
 
-#[cycle(line)]
-fn list_line(alloc: Global, items: &Items) -> Result<String, AllocError> {
-    if items.len() > 8 {
-        return format!(in alloc; "list of {}", items.len());
-    }
-    let mut line = format!(in alloc; "[")?;
-    for item in items {
-        if line.len() > 1 {
-            line.push_str(", ")?;
-        }
-        let part = line_of(alloc, item)?;
-        line.push_str(part.as_str())?;
-    }
-    line.push_str("]")?;
-    Ok(line)
-}
-
-// One line of text for a value, to compare it by.
-#[cycle(line)]
-fn line_of(alloc: Global, value: &Value) -> Result<String, AllocError> {
-    match value {
-        Value::Nil => format!(in alloc; "nil"),
-        Value::Truth(truth) => format!(in alloc; "{truth}"),
-        Value::Int(number) => format!(in alloc; "{number}"),
-        Value::Big(number) => format!(in alloc; "big {number}"),
-        Value::Text(text) => bytes_line(alloc, "text", text.as_slice()),
-        Value::Bin(bin) => bytes_line(alloc, "bin", bin.as_slice()),
-        Value::List(items) => list_line(alloc, items),
-        Value::Pairs(fields) => map_line(alloc, fields),
-        Value::Ext(kind, data) => {
-            let name = format!(in alloc; "ext {kind}")?;
-            bytes_line(alloc, name.as_str(), data.as_slice())
-        }
-        Value::Opaque(bytes) => bytes_line(alloc, "float", bytes.as_slice()),
-    }
-}
-
-#[cycle(line)]
-fn map_line(alloc: Global, fields: &Fields) -> Result<String, AllocError> {
-    if fields.len() > 8 {
-        return format!(in alloc; "map of {}", fields.len());
-    }
-    let mut line = format!(in alloc; "{{")?;
-    for pair in fields {
-        if line.len() > 1 {
-            line.push_str(", ")?;
-        }
-        let key = line_of(alloc, &pair.key)?;
-        line.push_str(key.as_str())?;
-        line.push_str(": ")?;
-        let value = line_of(alloc, &pair.value)?;
-        line.push_str(value.as_str())?;
-    }
-    line.push_str("}")?;
-    Ok(line)
-}
-
-fn bytes_line(alloc: Global, name: &str, bytes: &[u8]) -> Result<String, AllocError> {
-    if bytes.len() > 8 {
-        format!(in alloc; "{name} of {}", bytes.len())
-    } else {
-        format!(in alloc; "{name} {bytes:?}")
-    }
-}
-
 // The answer of `decode`.
 fn answer(alloc: Global, bytes: &[u8]) -> Result<String, AllocError> {
     match decode(alloc, bytes, BOUNDS)? {
@@ -290,9 +225,7 @@ fn answer(alloc: Global, bytes: &[u8]) -> Result<String, AllocError> {
 fn vectors_are_read(rt: HostRuntime) -> Result<(), Fail> {
     let alloc = rt.alloc();
     for &(hex, expected) in vectors() {
-        let mut bytes = Vec::new(alloc);
-        push_hex(&mut bytes, hex)?;
-        let found = answer(alloc, bytes.as_slice())?;
+        let found = answer(alloc, bytes_of(alloc, hex)?.as_slice())?;
         assert_eq!(rt; found.as_str(), expected, "{hex}");
     }
     Ok(())
@@ -306,21 +239,39 @@ fn repeated(alloc: Global, part: &str, count: usize) -> Result<String, AllocErro
     Ok(all)
 }
 
+// These bytes within so many lists of one item.
+fn nested_bytes(alloc: Global, count: usize, hex: &str) -> Result<Vec<u8>, AllocError> {
+    let mut bytes = Vec::new(alloc);
+    for _ in 0..count {
+        bytes.push(0x91)?;
+    }
+    push_hex(&mut bytes, hex)?;
+    Ok(bytes)
+}
+
+// What is read of so many bytes: a flaw, or a nil within so many lists.
+fn nested_answer(
+    alloc: Global,
+    count: usize,
+    read: &str,
+    length: usize,
+) -> Result<String, AllocError> {
+    if read != "nil" {
+        return format!(in alloc; "{read}");
+    }
+    let opened = repeated(alloc, "[", count)?;
+    let closed = repeated(alloc, "]", count)?;
+    format!(in alloc; "{opened}{read}{closed} in {length}")
+}
+
 #[test]
 fn nested_lists_are_read(rt: HostRuntime) -> Result<(), Fail> {
     let alloc = rt.alloc();
     for &(count, hex, read) in nested() {
-        let mut bytes = Vec::new(alloc);
-        for _ in 0..count {
-            bytes.push(0x91)?;
-        }
-        push_hex(&mut bytes, hex)?;
+        let bytes = nested_bytes(alloc, count, hex)?;
         let found = answer(alloc, bytes.as_slice())?;
-        let opened = repeated(alloc, "[", count)?;
-        let closed = repeated(alloc, "]", count)?;
-        let whole = format!(in alloc; "{opened}{read}{closed} in {}", bytes.len())?;
-        let expected = if read == "nil" { whole.as_str() } else { read };
-        assert_eq!(rt; found.as_str(), expected, "{hex}");
+        let expected = nested_answer(alloc, count, read, bytes.len())?;
+        assert_eq!(rt; found.as_str(), expected.as_str(), "{hex}");
     }
     Ok(())
 }
@@ -371,16 +322,18 @@ fn each_length_is_read(rt: HostRuntime) -> Result<(), Fail> {
     Ok(())
 }
 
+// The handle of kind 1 that a value stands for, where the bytes are one.
+fn handle_in(alloc: Global, hex: &str) -> Result<Option<Option<i64>>, AllocError> {
+    match decode(alloc, bytes_of(alloc, hex)?.as_slice(), BOUNDS)? {
+        Decoded::Whole(value, _) => Ok(Some(handle_of(&value, 1))),
+        _ => Ok(None),
+    }
+}
+
 #[test]
 fn handles_are_read(rt: HostRuntime) -> Result<(), Fail> {
-    let alloc = rt.alloc();
     for &(hex, expected) in handles() {
-        let mut bytes = Vec::new(alloc);
-        push_hex(&mut bytes, hex)?;
-        match decode(alloc, bytes.as_slice(), BOUNDS)? {
-            Decoded::Whole(value, _) => assert_eq!(rt; handle_of(&value, 1), expected, "{hex}"),
-            _ => assert!(rt; false, "{hex}"),
-        }
+        assert_eq!(rt; handle_in(rt.alloc(), hex)?, Some(expected), "{hex}");
     }
     Ok(())
 }

@@ -1,11 +1,14 @@
 //! Worked messages of MessagePack-RPC, byte by byte.
+ghost use Rattle.std.specs.Prelude.{IfOk};
 ghost use Rattle.nv_rpc.specs.Messages.{IsSendable};
 ghost use Rattle.nv_rpc.specs.MessageView.{sent_of};
 
-use nv_msgpack::{Bounds, Decoded, decode, encode};
+use crate::spelling::spelled;
+use nv_msgpack::{Bounds, Decoded, decode};
 use nv_rpc::{Frame, Message, call_of, into_value, message_of, value_of};
 use nv_value::{ApiFault, Bytes, Value};
 use std::alloc::{AllocError, Global};
+use std::process::Abort;
 use std::test::Fail;
 
 // What each is told by (MessagePack-RPC specification; Neovim help `api-buffer-updates`,
@@ -23,80 +26,104 @@ const DETACH: &[u8] = b"\x93\x02\xb5nvim_buf_detach_event\x91\xd4\x00\x01";
 
 const FAULT: &[u8] = b"\x93\x02\xb0nvim_error_event\x92\x00\xb9Invalid method: nvim_nope";
 
+// The bytes of the message's copy, and of the message.
 fn told(alloc: Global, message: Message) -> Result<(Vec<u8>, Vec<u8>), AllocError>
     requires { IsSendable (sent_of message) }
 {
-    let copied = value_of(alloc, &message)?;
-    let mut first = Vec::new(alloc);
-    encode(&copied, &mut first)?;
-    let moved = into_value(alloc, message)?;
-    let mut second = Vec::new(alloc);
-    encode(&moved, &mut second)?;
-    Ok((first, second))
+    let copied = spelled(alloc, &value_of(alloc, &message)?)?;
+    let moved = spelled(alloc, &into_value(alloc, message)?)?;
+    Ok((copied, moved))
 }
 
-#[test]
-fn replies_are_told(rt: HostRuntime) -> Result<(), Fail> {
-    let alloc = rt.alloc();
-    let success = Message::Reply {
+fn assert_told(
+    rt: &impl Abort,
+    alloc: Global,
+    message: Message,
+    bytes: &[u8],
+) -> Result<(), AllocError>
+    requires { IsSendable (sent_of message) }
+{
+    let (copied, moved) = told(alloc, message)?;
+    assert_eq!(rt; copied.as_slice(), bytes, "copied");
+    assert_eq!(rt; moved.as_slice(), bytes, "moved");
+    Ok(())
+}
+
+fn success() -> Message
+    ensures { IsSendable (sent_of result) }
+{
+    Message::Reply {
         msgid: 1,
         fault: None,
         result: Value::Int(1),
-    };
-    let (copied, moved) = told(alloc, success)?;
-    assert_eq!(rt; copied.as_slice(), SUCCESS);
-    assert_eq!(rt; moved.as_slice(), SUCCESS);
+    }
+}
+
+fn failure(alloc: Global) -> Result<Message, AllocError>
+    ensures { IfOk result (λ message. IsSendable (sent_of message)) }
+{
     let fault = ApiFault {
         kind: 1,
         code: 9,
         words: Bytes::from_slice(alloc, b"Index out of bounds")?,
     };
-    let failure = Message::Reply {
+    Ok(Message::Reply {
         msgid: 2,
         fault: Some(fault),
         result: Value::Truth(true),
-    };
-    let (copied, moved) = told(alloc, failure)?;
-    assert_eq!(rt; copied.as_slice(), FAILURE);
-    assert_eq!(rt; moved.as_slice(), FAILURE);
-    Ok(())
+    })
 }
 
 #[test]
-fn events_are_told(rt: HostRuntime) -> Result<(), Fail> {
+fn replies_are_told(rt: HostRuntime) -> Result<(), Fail> {
     let alloc = rt.alloc();
-    let empty = Value::Text(Bytes::new(alloc)?);
-    let letter = Value::Text(Bytes::from_slice(alloc, b"a")?);
-    let lines = Message::Lines {
+    assert_told(&rt, alloc, success(), SUCCESS)?;
+    assert_told(&rt, alloc, failure(alloc)?, FAILURE)?;
+    Ok(())
+}
+
+fn lines(alloc: Global) -> Result<Message, AllocError>
+    ensures { IfOk result (λ message. IsSendable (sent_of message)) }
+{
+    let mut lines = Vec::new(alloc);
+    lines.push(Value::Text(Bytes::new(alloc)?))?;
+    lines.push(Value::Text(Bytes::from_slice(alloc, b"a")?))?;
+    Ok(Message::Lines {
         buffer: 1,
         tick: 2,
         first: 0,
         last: -1,
-        lines: vec![in alloc; empty, letter]?,
-    };
-    let (copied, moved) = told(alloc, lines)?;
-    assert_eq!(rt; copied.as_slice(), LINES);
-    assert_eq!(rt; moved.as_slice(), LINES);
-    let (copied, moved) = told(
-        alloc,
-        Message::Tick {
-            buffer: 128,
-            tick: 2,
-        },
-    )?;
-    assert_eq!(rt; copied.as_slice(), TICK);
-    assert_eq!(rt; moved.as_slice(), TICK);
-    let (copied, moved) = told(alloc, Message::Detach { buffer: 1 })?;
-    assert_eq!(rt; copied.as_slice(), DETACH);
-    assert_eq!(rt; moved.as_slice(), DETACH);
+        lines,
+    })
+}
+
+fn tick() -> Message
+    ensures { IsSendable (sent_of result) }
+{
+    Message::Tick {
+        buffer: 128,
+        tick: 2,
+    }
+}
+
+fn fault(alloc: Global) -> Result<Message, AllocError>
+    ensures { IfOk result (λ message. IsSendable (sent_of message)) }
+{
     let fault = ApiFault {
         kind: 0,
         code: 1,
         words: Bytes::from_slice(alloc, b"Invalid method: nvim_nope")?,
     };
-    let (copied, moved) = told(alloc, Message::Fault { fault })?;
-    assert_eq!(rt; copied.as_slice(), FAULT);
-    assert_eq!(rt; moved.as_slice(), FAULT);
+    Ok(Message::Fault { fault })
+}
+
+#[test]
+fn events_are_told(rt: HostRuntime) -> Result<(), Fail> {
+    let alloc = rt.alloc();
+    assert_told(&rt, alloc, lines(alloc)?, LINES)?;
+    assert_told(&rt, alloc, tick(), TICK)?;
+    assert_told(&rt, alloc, Message::Detach { buffer: 1 }, DETACH)?;
+    assert_told(&rt, alloc, fault(alloc)?, FAULT)?;
     Ok(())
 }
 

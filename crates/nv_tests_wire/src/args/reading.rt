@@ -23,9 +23,14 @@ pub fn params(alloc: Global, hex: &str) -> Result<Items, AllocError> {
     }
 }
 
+// A call whose params these digits spell, read.
+fn call(alloc: Global, method: Method, hex: &str) -> Result<Result<Args, Fail>, AllocError> {
+    Ok(read(alloc, method, params(alloc, hex)?))
+}
+
 // What a call comes to: nothing where it is read, or the words of its fault.
 fn outcome(alloc: Global, method: Method, hex: &str) -> Result<Vec<u8>, AllocError> {
-    match read(alloc, method, params(alloc, hex)?) {
+    match call(alloc, method, hex)? {
         Ok(_) => Ok(Vec::new(alloc)),
         Err(Fail::Api(fault)) => Vec::from_slice(alloc, fault.words.as_slice()),
         Err(Fail::NoMemory) => Vec::from_slice(alloc, b"no memory"),
@@ -198,10 +203,7 @@ fn methods_are_found_by_their_names(rt: HostRuntime) -> Result<(), Failed> {
 }
 
 fn arguments(alloc: Global, method: Method, hex: &str) -> Result<Option<Args>, AllocError> {
-    match read(alloc, method, params(alloc, hex)?) {
-        Ok(args) => Ok(Some(args)),
-        Err(_) => Ok(None),
-    }
+    Ok(call(alloc, method, hex)?.ok())
 }
 
 // What the call `[buffer 7, 2, -1, 1, ["a", b"b"]]` gives: its numbers, the first of them again

@@ -78,24 +78,36 @@ fn a_port_gives_its_lanes_and_takes_them_back(rt: HostRuntime) -> Result<(), Fai
     Ok(())
 }
 
-// A source and a sink, where the third call fails, and nothing is left for the fourth.
-#[test]
-fn files_give_what_they_have_and_take_it_back(rt: HostRuntime) -> Result<(), Fail> {
-    let sources = vec![in rt.alloc(); source_of(&rt, b"a")?]?;
-    let sinks = vec![in rt.alloc(); new_sink(&rt)]?;
-    let fails = vec![in rt.alloc(); 2u64]?;
-    let mut files = MemFiles::new(rt.alloc(), sources, sinks, fails)?;
-    let Some(mut source) = files.source(&rt, "one") else {
-        panic!(rt; "a source is left")
-    };
-    let Some(mut sink) = files.sink(&rt, "other") else {
-        panic!(rt; "a sink is left")
-    };
-    assert!(rt; files.source(&rt, "one").is_none() && files.sink(&rt, "other").is_none());
-    assert!(rt; first_byte(&rt, &mut source) == Some(b'a'));
-    assert!(rt; sink.write(&rt, b"xy") == Put::Took(2));
+// A source and a sink, where the third call fails.
+fn files_of_one(rt: &HostRuntime) -> Result<MemFiles, AllocError> {
+    let sources = vec![in rt.alloc(); source_of(rt, b"a")?]?;
+    let sinks = vec![in rt.alloc(); new_sink(rt)]?;
+    MemFiles::new(rt.alloc(), sources, sinks, vec![in rt.alloc(); 2u64]?)
+}
+
+// What comes of what they give: whether nothing more is given, the first byte of the source, and
+// what a write to the sink took. Both are taken back.
+fn use_of(rt: &HostRuntime, files: &mut MemFiles) -> Option<(bool, Option<u8>, Put)> {
+    let mut source = files.source(rt, "one")?;
+    let mut sink = files.sink(rt, "other")?;
+    let none = files.source(rt, "one").is_none() && files.sink(rt, "other").is_none();
+    let byte = first_byte(rt, &mut source);
+    let put = sink.write(rt, b"xy");
     files.back(sink);
     files.back_source(source);
+    Some((none, byte, put))
+}
+
+// The third call fails, and nothing is left for the fourth.
+#[test]
+fn files_give_what_they_have_and_take_it_back(rt: HostRuntime) -> Result<(), Fail> {
+    let mut files = files_of_one(&rt)?;
+    let Some((none, byte, put)) = use_of(&rt, &mut files) else {
+        panic!(rt; "a source and a sink are left")
+    };
+    assert!(rt; none);
+    assert!(rt; byte == Some(b'a'));
+    assert!(rt; put == Put::Took(2));
     let ([_], [sink]) = (files.sources(), files.sinks()) else {
         panic!(rt; "both came back")
     };

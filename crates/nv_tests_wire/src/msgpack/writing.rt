@@ -1,6 +1,9 @@
 //! The writer against vectors of the MessagePack specification.
-ghost use Rattle.std.specs.Prelude.{◌<◌};
+ghost use Rattle.std.specs.Prelude.{◌<◌, IfOk};
+ghost use Rattle.nv_value.specs.View.{content};
+ghost use Rattle.nv_msgpack.specs.Shortest.{HasSpelling};
 
+use crate::spelling::spelled;
 use nv_msgpack::{encode, handle};
 use nv_value::{Bytes, Pair, Value};
 use std::alloc::{AllocError, Global};
@@ -69,29 +72,19 @@ const MAP: [&[u8]; 4] = [
     b"\xc4\x02\x01\x02\xa1\x61",
 ];
 
-fn integer_spelled(alloc: Global, number: i64) -> Result<Vec<u8>, AllocError> {
-    let value = Value::Int(number);
-    let mut into = Vec::new(alloc);
-    encode(&value, &mut into)?;
-    Ok(into)
-}
-
 fn text_spelled(alloc: Global, length: usize) -> Result<Vec<u8>, AllocError>
     requires { length < 100000 }
 {
     let text = vec![in alloc; 0x61; length]?;
-    let value = Value::Text(Bytes::from_vec(text)?);
-    let mut into = Vec::new(alloc);
-    encode(&value, &mut into)?;
-    Ok(into)
+    spelled(alloc, &Value::Text(Bytes::from_vec(text)?))
 }
 
 #[test]
 fn integers(rt: HostRuntime) -> Result<(), Fail> {
     let alloc = rt.alloc();
     for (number, bytes) in INTEGERS.iter() {
-        let spelled = integer_spelled(alloc, *number)?;
-        assert_eq!(rt; spelled.as_slice(), *bytes, "{number}");
+        let found = spelled(alloc, &Value::Int(*number))?;
+        assert_eq!(rt; found.as_slice(), *bytes, "{number}");
     }
     Ok(())
 }
@@ -101,21 +94,24 @@ fn texts(rt: HostRuntime) -> Result<(), Fail> {
     let alloc = rt.alloc();
     for (length, head) in TEXTS.iter() {
         assert!(rt; *length < 100000);
-        let spelled = text_spelled(alloc, *length)?;
-        assert_eq!(rt; spelled.len(), head.len() + *length);
-        assert!(rt; spelled.starts_with(*head));
+        let found = text_spelled(alloc, *length)?;
+        assert_eq!(rt; found.len(), head.len() + *length);
+        assert!(rt; found.starts_with(*head));
     }
     Ok(())
+}
+
+fn put_handle(alloc: Global, kind: i8, number: i64, into: &mut Vec<u8>) -> Result<(), AllocError> {
+    let value = handle(alloc, kind, number)?;
+    encode(&value, into)
 }
 
 #[test]
 fn handles(rt: HostRuntime) -> Result<(), Fail> {
     let alloc = rt.alloc();
     let mut into = Vec::new(alloc);
-    let buffer = handle(alloc, 0, 1)?;
-    encode(&buffer, &mut into)?;
-    let window = handle(alloc, 1, 1000)?;
-    encode(&window, &mut into)?;
+    put_handle(alloc, 0, 1, &mut into)?;
+    put_handle(alloc, 1, 1000, &mut into)?;
     assert_eq!(rt;
         into.as_slice(),
         b"\xd4\x00\x01\xc7\x03\x01\xcd\x03\xe8".as_slice()
@@ -124,37 +120,64 @@ fn handles(rt: HostRuntime) -> Result<(), Fail> {
 }
 
 // The response to a request with the id 1, without error or result.
+fn put_response(alloc: Global, into: &mut Vec<u8>) -> Result<(), AllocError> {
+    let items = vec![in alloc; Value::Int(1), Value::Int(1), Value::Nil, Value::Nil]?;
+    encode(&Value::List(items), into)
+}
+
 #[test]
 fn response(rt: HostRuntime) -> Result<(), Fail> {
     let alloc = rt.alloc();
-    let items = vec![in alloc; Value::Int(1), Value::Int(1), Value::Nil, Value::Nil]?;
-    let value = Value::List(items);
     let mut into = Vec::new(alloc);
     into.push(0xc0)?;
-    encode(&value, &mut into)?;
+    put_response(alloc, &mut into)?;
     assert_eq!(rt; into.as_slice(), b"\xc0\x94\x01\x01\xc0\xc0".as_slice());
     Ok(())
 }
 
+fn truths() -> Pair
+    ensures { HasSpelling (content result.key) × HasSpelling (content result.value) }
+{
+    Pair {
+        key: Value::Truth(true),
+        value: Value::Truth(false),
+    }
+}
+
+fn numbers(alloc: Global) -> Result<Pair, AllocError>
+    ensures { IfOk result (λ pair.
+        HasSpelling (content pair.key) × HasSpelling (content pair.value)) }
+{
+    Ok(Pair {
+        key: Value::Big(9223372036854775808),
+        value: Value::Opaque(Bytes::from_slice(alloc, b"\x3f\x80\x00\x00")?),
+    })
+}
+
+fn strings(alloc: Global) -> Result<Pair, AllocError>
+    ensures { IfOk result (λ pair.
+        HasSpelling (content pair.key) × HasSpelling (content pair.value)) }
+{
+    Ok(Pair {
+        key: Value::Bin(Bytes::from_slice(alloc, b"\x01\x02")?),
+        value: Value::Text(Bytes::from_slice(alloc, b"a")?),
+    })
+}
+
 // A map of each kind of value that isn't in the tables.
+fn put_map(alloc: Global, into: &mut Vec<u8>) -> Result<(), AllocError> {
+    let mut fields = Vec::new(alloc);
+    fields.push(truths())?;
+    fields.push(numbers(alloc)?)?;
+    fields.push(strings(alloc)?)?;
+    encode(&Value::Pairs(fields), into)
+}
+
 #[test]
 fn map(rt: HostRuntime) -> Result<(), Fail> {
     let alloc = rt.alloc();
-    let truths = Pair {
-        key: Value::Truth(true),
-        value: Value::Truth(false),
-    };
-    let numbers = Pair {
-        key: Value::Big(9223372036854775808),
-        value: Value::Opaque(Bytes::from_slice(alloc, b"\x3f\x80\x00\x00")?),
-    };
-    let bytes = Pair {
-        key: Value::Bin(Bytes::from_slice(alloc, b"\x01\x02")?),
-        value: Value::Text(Bytes::from_slice(alloc, b"a")?),
-    };
-    let value = Value::Pairs(vec![in alloc; truths, numbers, bytes]?);
     let mut into = Vec::new(alloc);
-    encode(&value, &mut into)?;
+    put_map(alloc, &mut into)?;
     let mut wanted = Vec::new(alloc);
     for part in MAP.iter() {
         wanted.extend_from_slice(*part)?;

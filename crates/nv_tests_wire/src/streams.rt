@@ -1,6 +1,8 @@
-use super::*;
+//! Streams cut into values against a table written by hand.
+
 use nv_io::Flaw;
 use nv_msgpack::Bounds;
+use nv_stream::{Next, Stream};
 use std::alloc::{AllocError, Global};
 use std::test::Fail;
 
