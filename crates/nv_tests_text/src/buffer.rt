@@ -3,6 +3,7 @@
 
 mod joining;
 mod marks;
+mod places;
 mod undo;
 
 use crate::buffer::joining::lines_between;
@@ -152,19 +153,29 @@ pub(crate) fn at(place: (u32, u32)) -> Pos {
     }
 }
 
-// Each row: two places, the rows of the event, the new lines, the text afterwards, the lines of the
-// event, and the offset, the bytes removed and the bytes put. The first row puts lines in an empty
-// buffer, the last takes everything.
-fn texts_are_told(alloc: Global, buffer: &mut Buffer) -> Result<bool, AllocError> {
-    let edits = [
+// Two places, the rows of the event, the new lines, the text afterwards, the lines of the event,
+// and the offset, the bytes removed and the bytes put.
+type TextEdit = (
+    (u32, u32),
+    (u32, u32),
+    (u32, u32),
+    &'static [u8],
+    &'static [u8],
+    &'static [u8],
+    (u64, u64, u64),
+);
+
+// The first puts lines in an empty buffer, the last takes everything.
+fn text_edits() -> &'static [TextEdit] {
+    &[
         (
-            (0u32, 0u32),
-            (0u32, 0u32),
-            (0u32, 1u32),
-            b"hello\n\nworld\n".as_slice(),
-            b"hello\n\nworld\n".as_slice(),
-            b"hello\n\nworld\n".as_slice(),
-            (0u64, 0u64, 12u64),
+            (0, 0),
+            (0, 0),
+            (0, 1),
+            b"hello\n\nworld\n",
+            b"hello\n\nworld\n",
+            b"hello\n\nworld\n",
+            (0, 0, 12),
         ),
         (
             (0, 1),
@@ -194,11 +205,15 @@ fn texts_are_told(alloc: Global, buffer: &mut Buffer) -> Result<bool, AllocError
             (12, 0, 1),
         ),
         ((0, 0), (2, 0), (0, 3), b"\n", b"\n", b"\n", (0, 13, 0)),
-    ];
+    ]
+}
+
+// Whether all of them are told so, and then an edit that changes nothing isn't.
+fn texts_are_told(alloc: Global, buffer: &mut Buffer) -> Result<bool, AllocError> {
     let mut all = true;
-    for (start, stop, rows, new, after, lines, bytes) in edits {
-        let event = put_text(buffer, at(start), at(stop), list(alloc, new)?)?;
-        all &= was_told(alloc, buffer, event.as_ref(), rows, lines, bytes, after)?;
+    for (start, stop, rows, new, after, lines, bytes) in text_edits() {
+        let event = put_text(buffer, at(*start), at(*stop), list(alloc, new)?)?;
+        all &= was_told(alloc, buffer, event.as_ref(), *rows, lines, *bytes, after)?;
     }
     let nothing = put_text(buffer, at((0, 0)), at((0, 0)), list(alloc, b"\n")?)?;
     Ok(all && nothing.is_none() && buffer.tick() == 7)

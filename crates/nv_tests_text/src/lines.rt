@@ -64,12 +64,17 @@ fn first_wrong(alloc: Global, text: &mut Lines) -> Result<Option<(usize, usize)>
     Ok(None)
 }
 
+// Whether a text is that of one empty line.
+fn is_one_empty_line(alloc: Global, text: &Lines) -> Result<bool, AllocError> {
+    Ok(whole(alloc, text)?.as_slice() == b"\n".as_slice())
+}
+
 #[test]
 fn rows_are_replaced_added_and_removed(rt: HostRuntime) -> Result<(), Fail> {
     let mut text = Lines::new(rt.alloc())?;
-    let first = whole(rt.alloc(), &text)?;
+    let empty = is_one_empty_line(rt.alloc(), &text)?;
     let wrong = first_wrong(rt.alloc(), &mut text)?;
-    assert_eq!(rt; (first.as_slice(), wrong), (b"\n".as_slice(), None));
+    assert_eq!(rt; (empty, wrong), (true, None));
     Ok(())
 }
 
@@ -127,15 +132,21 @@ fn measures(text: &Lines) -> Measures {
     )
 }
 
+// Puts these lines in place of a new text's empty one, and tells how many bytes it had, and whether
+// they were put.
+fn fill(alloc: Global, text: &mut Lines, lines: &[u8]) -> Result<(u64, bool), AllocError> {
+    let empty = text.flat_len();
+    let taken = put(text, 0, 1, list(alloc, lines)?)?;
+    Ok((empty, taken.is_some()))
+}
+
 // The flat text of "ab", "" and "c" is "ab\n\nc\n".
 #[test]
 fn offsets_count_the_line_ends(rt: HostRuntime) -> Result<(), Fail> {
     let mut text = Lines::new(rt.alloc())?;
-    let empty = text.flat_len();
-    let new = list(rt.alloc(), b"ab\n\nc\n")?;
-    let put = put(&mut text, 0, 1, new)?.is_some();
+    let filled = fill(rt.alloc(), &mut text, b"ab\n\nc\n")?;
     let found = measures(&text);
-    assert_eq!(rt; (empty, put), (1, true));
+    assert_eq!(rt; filled, (1, true));
     assert_eq!(rt;
         found,
         (
@@ -175,49 +186,64 @@ fn first_is_ab(list: &LineList) -> Result<[bool; 4], AllocError> {
     ])
 }
 
+// A line of one byte, and an empty one where that can't be.
+fn line_of(alloc: Global, byte: u8) -> Result<Line, AllocError> {
+    let bytes = vec![in alloc; byte]?;
+    if !is_line(bytes.as_slice()) {
+        return Line::new(alloc);
+    }
+    Line::from_vec(bytes)
+}
+
 // Whether a new line is empty, and one of the byte "c" holds it.
 fn lines_hold(alloc: Global) -> Result<[bool; 2], AllocError> {
     let empty = Line::new(alloc)?.is_empty();
-    let bytes = vec![in alloc; b'c']?;
-    if !is_line(bytes.as_slice()) {
-        return Ok([empty, false]);
-    }
-    Ok([empty, Line::from_vec(bytes)?.as_slice() == b"c".as_slice()])
+    Ok([empty, line_of(alloc, b'c')?.as_slice() == b"c".as_slice()])
+}
+
+// Whether these are lines: none, three bytes, a line's end, and one between two bytes.
+fn are_lines() -> [bool; 4] {
+    [
+        is_line(b""),
+        is_line(b"a\r\xff"),
+        is_line(b"\n"),
+        is_line(b"a\nb"),
+    ]
+}
+
+// What a list of "ab" and an empty line gives back.
+type Given = ((usize, Option<u64>, bool, bool), [bool; 4]);
+
+fn given_back(alloc: Global) -> Result<Given, AllocError> {
+    let lines = list(alloc, b"ab\n\n")?.into_vec();
+    let list = LineList::from_vec(lines).share()?;
+    Ok((list_told(&list), first_is_ab(&list)?))
 }
 
 #[test]
 fn lists_give_back_what_they_were_given(rt: HostRuntime) -> Result<(), Fail> {
+    assert_eq!(rt; are_lines(), [true, true, false, false]);
     assert_eq!(rt;
-        [
-            is_line(b""),
-            is_line(b"a\r\xff"),
-            is_line(b"\n"),
-            is_line(b"a\nb"),
-        ],
-        [true, true, false, false]
-    );
-    let lines = list(rt.alloc(), b"ab\n\n")?.into_vec();
-    let list = LineList::from_vec(lines).share()?;
-    let first = first_is_ab(&list)?;
-    assert_eq!(rt;
-        (list_told(&list), first),
+        given_back(rt.alloc())?,
         ((2, Some(4), false, false), [true; 4])
     );
     assert_eq!(rt; lines_hold(rt.alloc())?, [true; 2]);
     Ok(())
 }
 
-// So many lines of one byte.
-fn many(alloc: Global, count: u32, byte: u8) -> Result<LineList, AllocError> {
-    let mut list = LineList::new(alloc);
-    let bytes = vec![in alloc; byte]?;
-    if !is_line(bytes.as_slice()) {
-        return Ok(list);
-    }
-    let line = Line::from_vec(bytes)?;
+// Puts shares of a line behind those of a list.
+fn push_shares(list: &mut LineList, line: &Line, count: u32) -> Result<(), AllocError> {
     for _ in 0..count {
         list.push(line.share()?)?;
     }
+    Ok(())
+}
+
+// So many lines of one byte.
+fn many(alloc: Global, count: u32, byte: u8) -> Result<LineList, AllocError> {
+    let line = line_of(alloc, byte)?;
+    let mut list = LineList::new(alloc);
+    push_shares(&mut list, &line, count)?;
     Ok(list)
 }
 
@@ -279,6 +305,27 @@ fn add_lines(
     Ok(())
 }
 
+// The lines from `from` up to before `to`.
+fn part(alloc: Global, lines: &LineList, from: usize, to: usize) -> Result<LineList, AllocError> {
+    let mut list = LineList::new(alloc);
+    add_lines(&mut list, lines, from, to)?;
+    Ok(list)
+}
+
+// A plain list with `new` in place of some lines.
+fn plain_splice(
+    alloc: Global,
+    plain: &LineList,
+    from: usize,
+    to: usize,
+    new: &LineList,
+) -> Result<LineList, AllocError> {
+    let mut list = part(alloc, plain, 0, from)?;
+    add_lines(&mut list, new, 0, new.len())?;
+    add_lines(&mut list, plain, to, plain.len())?;
+    Ok(list)
+}
+
 // Puts `new` in place of lines of a plain list, and gives those that stood there.
 fn plain_replace(
     alloc: Global,
@@ -287,13 +334,8 @@ fn plain_replace(
     to: usize,
     new: &LineList,
 ) -> Result<LineList, AllocError> {
-    let mut gone = LineList::new(alloc);
-    add_lines(&mut gone, plain, from, to)?;
-    let mut left = LineList::new(alloc);
-    add_lines(&mut left, plain, 0, from)?;
-    add_lines(&mut left, new, 0, new.len())?;
-    add_lines(&mut left, plain, to, plain.len())?;
-    *plain = left;
+    let gone = part(alloc, plain, from, to)?;
+    *plain = plain_splice(alloc, plain, from, to, new)?;
     Ok(gone)
 }
 

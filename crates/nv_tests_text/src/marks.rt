@@ -1,7 +1,7 @@
 //! Marks that are set, moved by splices and taken out.
 
 ghost use Rattle.nv_marks.specs.Bounds.{IsBelow, IsPosBelow, IsSpliceBelow};
-ghost use Rattle.std.specs.Prelude.{◌≡◌, ◌*◌, ◌^◌, ◌<◌, ◌≤◌, All, IfOk, None, OnOk};
+ghost use Rattle.std.specs.Prelude.{◌≡◌, ◌*◌, ◌^◌, ◌<◌, ◌≤◌, All, IfOk, None, OnOk, Some, true};
 
 use nv_marks::{Extent, Far, Mark, MarkSet, Paint, Pos};
 use std::alloc::{AllocError, Global};
@@ -64,45 +64,51 @@ fn listed(alloc: Global, set: &MarkSet) -> Result<Vec<(u32, u32, u32)>, AllocErr
         .collect(alloc)
 }
 
+/// Whether these are the ids, rows and columns of the marks, in order.
+fn lists(alloc: Global, set: &MarkSet, places: &[(u32, u32, u32)]) -> Result<bool, AllocError> {
+    Ok(listed(alloc, set)?.as_slice() == places)
+}
+
+// The line `abcdef`, then `abcXYdef`, `a-f` and `axyzf`: whether the marks stand so after each.
+fn move_along(alloc: Global, set: &mut MarkSet) -> Result<[bool; 3], AllocError>
+    requires { All (IsBelow 100) set.old.marks }
+{
+    put(set, mark(1, at(0, 3), false), 100)?;
+    put(set, mark(2, at(0, 3), true), 100)?;
+    shift(set, at(0, 3), by(0, 0), by(0, 2), 100);
+    let added = lists(alloc, set, &[(1, 0, 3), (2, 0, 5)])?;
+    put(set, mark(3, at(0, 7), false), 300)?;
+    shift(set, at(0, 1), by(0, 6), by(0, 1), 300);
+    let taken = lists(alloc, set, &[(1, 0, 1), (3, 0, 1), (2, 0, 2)])?;
+    put(set, mark(4, at(0, 3), true), 900)?;
+    shift(set, at(0, 1), by(0, 1), by(0, 3), 900);
+    let replaced = lists(alloc, set, &[(1, 0, 1), (3, 0, 1), (2, 0, 4), (4, 0, 5)])?;
+    Ok([added, taken, replaced])
+}
+
 #[test]
 fn marks_move_along(rt: HostRuntime) -> Result<(), Fail> {
-    // The line `abcdef`, then `abcXYdef`, `a-f` and `axyzf`.
-    let alloc = rt.alloc();
-    let mut set = MarkSet::new(alloc)?;
-    put(&mut set, mark(1, at(0, 3), false), 100)?;
-    put(&mut set, mark(2, at(0, 3), true), 100)?;
-    shift(&mut set, at(0, 3), by(0, 0), by(0, 2), 100);
-    assert_eq!(rt;
-        listed(alloc, &set)?.as_slice(),
-        [(1, 0, 3), (2, 0, 5)].as_slice()
-    );
-    put(&mut set, mark(3, at(0, 7), false), 300)?;
-    shift(&mut set, at(0, 1), by(0, 6), by(0, 1), 300);
-    assert_eq!(rt;
-        listed(alloc, &set)?.as_slice(),
-        [(1, 0, 1), (3, 0, 1), (2, 0, 2)].as_slice()
-    );
-    put(&mut set, mark(4, at(0, 3), true), 900)?;
-    shift(&mut set, at(0, 1), by(0, 1), by(0, 3), 900);
-    assert_eq!(rt;
-        listed(alloc, &set)?.as_slice(),
-        [(1, 0, 1), (3, 0, 1), (2, 0, 4), (4, 0, 5)].as_slice()
-    );
+    let mut set = MarkSet::new(rt.alloc())?;
+    let stand = move_along(rt.alloc(), &mut set)?;
+    assert_eq!(rt; stand, [true; 3]);
     Ok(())
+}
+
+// The lines `ab` and `c`, all replaced by one empty line: the places of two marks.
+fn replace_all(alloc: Global, set: &mut MarkSet) -> Result<bool, AllocError>
+    requires { All (IsBelow 100) set.old.marks }
+{
+    put(set, mark(1, at(2, 0), true), 100)?;
+    put(set, mark(2, at(1, 1), false), 100)?;
+    shift(set, at(0, 0), by(2, 0), by(1, 0), 100);
+    lists(alloc, set, &[(2, 0, 0), (1, 1, 0)])
 }
 
 #[test]
 fn marks_past_the_end(rt: HostRuntime) -> Result<(), Fail> {
-    // The lines `ab` and `c`, all replaced by one empty line.
-    let alloc = rt.alloc();
-    let mut set = MarkSet::new(alloc)?;
-    put(&mut set, mark(1, at(2, 0), true), 100)?;
-    put(&mut set, mark(2, at(1, 1), false), 100)?;
-    shift(&mut set, at(0, 0), by(2, 0), by(1, 0), 100);
-    assert_eq!(rt;
-        listed(alloc, &set)?.as_slice(),
-        [(2, 0, 0), (1, 1, 0)].as_slice()
-    );
+    let mut set = MarkSet::new(rt.alloc())?;
+    let stand = replace_all(rt.alloc(), &mut set)?;
+    assert!(rt; stand);
     Ok(())
 }
 
@@ -114,6 +120,37 @@ struct Edit {
     new: (u8, u8),
 }
 
+/// Moves a set of places below 256 by an edit.
+fn make_edit(set: &mut MarkSet, edit: Edit)
+    requires { All (IsBelow 256) set.old.marks }
+{
+    let start = at(u32::from(edit.start.0), u32::from(edit.start.1));
+    let old = by(u32::from(edit.old.0), u32::from(edit.old.1));
+    let new = by(u32::from(edit.new.0), u32::from(edit.new.1));
+    shift(set, start, old, new, 256);
+}
+
+/// The row and column of the mark of an id.
+fn place_of(set: &MarkSet, id: u32) -> Option<(u32, u32)> {
+    let start = set.find(1, id)?.start;
+    Some((start.row, start.col))
+}
+
+/// Moves a mark with this gravity by an edit, and gives its place.
+fn move_one(
+    set: &mut MarkSet,
+    edit: Edit,
+    start: Pos,
+    right: bool,
+) -> Result<Option<(u32, u32)>, AllocError>
+    requires set { All (IsBelow 256) set.old.marks }
+    requires start { IsPosBelow 256 start }
+{
+    put(set, mark(1, start, right), 256)?;
+    make_edit(set, edit);
+    Ok(place_of(set, 1))
+}
+
 /// Where a mark with this gravity stands after an edit.
 fn moved(
     alloc: Global,
@@ -123,16 +160,7 @@ fn moved(
     right: bool,
 ) -> Result<Option<(u32, u32)>, AllocError> {
     let mut set = MarkSet::new(alloc)?;
-    put(
-        &mut set,
-        mark(1, at(u32::from(row), u32::from(col)), right),
-        256,
-    )?;
-    let start = at(u32::from(edit.start.0), u32::from(edit.start.1));
-    let old = by(u32::from(edit.old.0), u32::from(edit.old.1));
-    let new = by(u32::from(edit.new.0), u32::from(edit.new.1));
-    shift(&mut set, start, old, new, 256);
-    Ok(set.find(1, 1).map(|mark| (mark.start.row, mark.start.col)))
+    move_one(&mut set, edit, at(u32::from(row), u32::from(col)), right)
 }
 
 #[test]
@@ -202,64 +230,74 @@ fn marks_at_the_edges(rt: HostRuntime) -> Result<(), Fail> {
     Ok(())
 }
 
+/// A painted mark in row 0 with an end of right gravity.
+fn painted(start: u32, stop: u32) -> Mark
+    ensures start { result.start ≡ record { row = 0; col = start } }
+    ensures stop { result.stop ≡ Some (record {
+      pos = record { row = 0; col = stop };
+      right = true;
+    }) }
+{
+    Mark {
+        stop: Some(Far {
+            pos: at(0, stop),
+            right: true,
+        }),
+        paint: Some(Paint {
+            group: 7,
+            eol: true,
+        }),
+        ..mark(1, at(0, start), false)
+    }
+}
+
+// A mark after three bytes were put at its end, and then two at its start.
+fn end_moved(set: &mut MarkSet) -> Result<Option<Mark>, AllocError>
+    requires { All (IsBelow 100) set.old.marks }
+{
+    put(set, painted(2, 4), 100)?;
+    shift(set, at(0, 4), by(0, 0), by(0, 3), 100);
+    shift(set, at(0, 2), by(0, 0), by(0, 2), 300);
+    Ok(set.find(1, 1))
+}
+
 #[test]
 fn ends_move_by_themselves(rt: HostRuntime) -> Result<(), Fail> {
-    // Three bytes put at the end of a mark, then two at its start.
     let mut set = MarkSet::new(rt.alloc())?;
-    let paint = Some(Paint {
-        group: 7,
-        eol: true,
-    });
-    let stop = Some(Far {
-        pos: at(0, 4),
-        right: true,
-    });
-    put(
-        &mut set,
-        Mark {
-            stop,
-            paint,
-            ..mark(1, at(0, 2), false)
-        },
-        100,
-    )?;
-    shift(&mut set, at(0, 4), by(0, 0), by(0, 3), 100);
-    shift(&mut set, at(0, 2), by(0, 0), by(0, 2), 300);
-    let stop = Some(Far {
-        pos: at(0, 9),
-        right: true,
-    });
-    assert_eq!(rt;
-        set.find(1, 1),
-        Some(Mark {
-            stop,
-            paint,
-            ..mark(1, at(0, 2), false)
-        })
-    );
+    let found = end_moved(&mut set)?;
+    assert_eq!(rt; found, Some(painted(2, 9)));
     Ok(())
 }
 
-// Marks with ids 5 and 2, of which 5 is removed twice: the ids that come next, and what is removed.
-fn next_ids(set: &mut MarkSet) -> Result<([Option<u32>; 4], [Option<Mark>; 2]), AllocError> {
+// The ids that come next before marks with ids 5 and 2 are set, behind them, and once 5 is removed
+// twice; what is removed; how many are left; and the ids behind the greatest.
+type NextIds = ([Option<u32>; 4], [Option<Mark>; 2], usize, [Option<u32>; 2]);
+
+fn next_ids(set: &mut MarkSet) -> Result<NextIds, AllocError> {
     let first = set.next_id(1);
     set.set(mark(5, at(0, 0), true))?;
     set.set(mark(2, at(0, 0), true))?;
     let behind = set.next_id(1);
     let removed = [set.remove(1, 5), set.remove(1, 5)];
-    Ok(([first, behind, set.next_id(1), set.next_id(2)], removed))
+    let ids = [first, behind, set.next_id(1), set.next_id(2)];
+    let left = set.len();
+    set.set(mark(u32::MAX, at(0, 0), true))?;
+    Ok((ids, removed, left, [set.next_id(1), set.next_id(2)]))
 }
 
 #[test]
 fn ids_are_not_given_again(rt: HostRuntime) -> Result<(), Fail> {
     let mut set = MarkSet::new(rt.alloc())?;
-    let (ids, removed) = next_ids(&mut set)?;
-    let left = set.len();
-    set.set(mark(u32::MAX, at(0, 0), true))?;
-    let none = (set.next_id(1), set.next_id(2));
-    assert_eq!(rt; ids, [Some(1), Some(6), Some(6), Some(1)]);
-    assert_eq!(rt; removed, [Some(mark(5, at(0, 0), true)), None]);
-    assert_eq!(rt; (left, none), (1, (None, Some(1))));
+    let found = next_ids(&mut set)?;
+    assert_eq!(rt;
+        found,
+        (
+            [Some(1), Some(6), Some(6), Some(1)],
+            [Some(mark(5, at(0, 0), true)), None],
+            1,
+            [None, Some(1)],
+        )
+    );
     Ok(())
 }
 
@@ -297,17 +335,17 @@ fn ranges_include_both_ends(rt: HostRuntime) -> Result<(), Fail> {
     Ok(())
 }
 
-/// A thousand marks without an end and with right gravity at column 0: one in each of the rows from
-/// 0, or all in row 500.
-fn thousand(alloc: Global, all_at_once: bool) -> Result<MarkSet, AllocError>
-    ensures { IfOk result (λ set. All (IsBelow 2000) set.marks) }
+/// Puts a thousand marks without an end and with right gravity at column 0: one in each of the rows
+/// from 0, or all in row 500.
+fn put_thousand(set: &mut MarkSet, all_at_once: bool) -> Result<(), AllocError>
+    requires { All (IsBelow 2000) set.old.marks }
+    ensures { OnOk result (All (IsBelow 2000) set.new.marks) }
 {
-    let mut set = MarkSet::new(alloc)?;
     for i in 0..1000u32 {
         let row = if all_at_once { 500 } else { i };
-        put(&mut set, mark(i + 1, at(row, 0), true), 2000)?;
+        put(set, mark(i + 1, at(row, 0), true), 2000)?;
     }
-    Ok(set)
+    Ok(())
 }
 
 /// Whether the marks listed are the thousand in the order of their ids, each one row further.
@@ -323,16 +361,35 @@ fn are_further(listed: &[(u32, u32, u32)], all_at_once: bool) -> bool {
     id == 1000
 }
 
+/// Puts a thousand marks and a line at a row, and tells whether each stands one row further.
+fn go_further(
+    alloc: Global,
+    set: &mut MarkSet,
+    all_at_once: bool,
+    row: u32,
+) -> Result<bool, AllocError>
+    requires set { All (IsBelow 2000) set.old.marks }
+    requires row { row < 2000 }
+{
+    put_thousand(set, all_at_once)?;
+    shift(set, at(row, 0), by(0, 0), by(1, 0), 2000);
+    Ok(are_further(&listed(alloc, set)?, all_at_once))
+}
+
+/// Whether each of a thousand new marks stands one row further once a line is put at a row.
+fn went_further(alloc: Global, all_at_once: bool, row: u32) -> Result<bool, AllocError>
+    requires { row < 2000 }
+{
+    let mut set = MarkSet::new(alloc)?;
+    go_further(alloc, &mut set, all_at_once, row)
+}
+
 #[test]
 fn thousand_marks_move(rt: HostRuntime) -> Result<(), Fail> {
     // One line put before all of them, and then where all of them stand.
-    for (all_at_once, row) in [(false, 0), (true, 500)] {
-        let alloc = rt.alloc();
-        let mut set = thousand(alloc, all_at_once)?;
-        shift(&mut set, at(row, 0), by(0, 0), by(1, 0), 2000);
-        let found = listed(alloc, &set)?;
-        assert_eq!(rt; are_further(&found, all_at_once), true, "{row}");
-    }
+    let before = went_further(rt.alloc(), false, 0)?;
+    let where_they_stand = went_further(rt.alloc(), true, 500)?;
+    assert_eq!(rt; (before, where_they_stand), (true, true));
     Ok(())
 }
 
@@ -352,27 +409,29 @@ fn take_out(set: &mut MarkSet) -> (usize, Option<u32>) {
     (set.len(), set.next_id(1))
 }
 
+// How many there are and two of them once some are set anew; how many are left and which id comes
+// next once most are taken out; and whether the right ones are left.
+type Left = ((usize, [Option<Mark>; 2]), (usize, Option<u32>), bool);
+
+fn come_and_go(alloc: Global, set: &mut MarkSet) -> Result<Left, AllocError>
+    requires { All (IsBelow 2000) set.old.marks }
+{
+    put_thousand(set, false)?;
+    let anew = set_anew(set)?;
+    let left = take_out(set);
+    let kept = lists(alloc, set, &[(2, 1, 0), (1, 999, 0), (3, 999, 1)])?;
+    Ok((anew, left, kept))
+}
+
 #[test]
 fn marks_come_and_go(rt: HostRuntime) -> Result<(), Fail> {
-    let alloc = rt.alloc();
-    let mut set = thousand(alloc, false)?;
-    let anew = set_anew(&mut set)?;
-    let left = take_out(&mut set);
-    let found = listed(alloc, &set)?;
+    let mut set = MarkSet::new(rt.alloc())?;
+    let (anew, left, kept) = come_and_go(rt.alloc(), &mut set)?;
+    let moved = Some(mark(999, at(999, 499), false));
+    let stayed = Some(mark(998, at(997, 0), true));
     assert_eq!(rt;
-        anew,
-        (
-            1000,
-            [
-                Some(mark(999, at(999, 499), false)),
-                Some(mark(998, at(997, 0), true)),
-            ],
-        )
-    );
-    assert_eq!(rt; left, (3, Some(1001)));
-    assert_eq!(rt;
-        found.as_slice(),
-        [(2, 1, 0), (1, 999, 0), (3, 999, 1)].as_slice()
+        (anew, left, kept),
+        ((1000, [moved, stayed]), (3, Some(1001)), true)
     );
     Ok(())
 }

@@ -5,20 +5,32 @@ use nv_value::Bytes;
 use std::alloc::{AllocError, Global};
 use std::mem;
 
+// Puts a line behind those of a list, where the bytes can be one.
+fn push_line(list: &mut LineList, bytes: Vec<u8>) -> Result<(), AllocError> {
+    let bytes = Bytes::from_vec(bytes)?;
+    if is_line(bytes.as_slice()) {
+        list.push(Line::from_bytes(bytes))?;
+    }
+    Ok(())
+}
+
+// Puts the lines of a flat text behind those of a list.
+fn push_lines(alloc: Global, list: &mut LineList, flat: &[u8]) -> Result<(), AllocError> {
+    let mut open = Vec::new(alloc);
+    for byte in flat {
+        if *byte == 10 {
+            push_line(list, mem::replace(&mut open, Vec::new(alloc)))?;
+        } else {
+            open.push(*byte)?;
+        }
+    }
+    Ok(())
+}
+
 // The lines of a flat text, each ended by the byte 10.
 pub(crate) fn list(alloc: Global, flat: &[u8]) -> Result<LineList, AllocError> {
     let mut list = LineList::new(alloc);
-    let mut open = Vec::new(alloc);
-    for byte in flat {
-        if *byte != 10 {
-            open.push(*byte)?;
-            continue;
-        }
-        let bytes = Bytes::from_vec(mem::replace(&mut open, Vec::new(alloc)))?;
-        if is_line(bytes.as_slice()) {
-            list.push(Line::from_bytes(bytes))?;
-        }
-    }
+    push_lines(alloc, &mut list, flat)?;
     Ok(list)
 }
 

@@ -1,5 +1,7 @@
 //! Windows that are opened, sized and closed, and views that move.
 
+ghost use Rattle.std.specs.Prelude.{◌≡◌};
+
 use nv_layout::{Rect, Side};
 use nv_places::{Extent, Pos};
 use nv_windows::{Opened, Windows};
@@ -123,10 +125,9 @@ fn stack(alloc: Global, windows: &mut Windows) -> Result<[(bool, Seen); 4], Allo
 
 // What is opened above window 1001 where there is no room, and which windows show buffer 2 before
 // and buffer 3 after it is shown in its place.
-fn shown_instead(
-    alloc: Global,
-    windows: &mut Windows,
-) -> Result<(Option<Opened>, bool, [bool; 2]), AllocError> {
+type Shown = (Option<Opened>, bool, [bool; 2]);
+
+fn shown_instead(alloc: Global, windows: &mut Windows) -> Result<Shown, AllocError> {
     let opened = open(alloc, windows, 1001, Side::Above, 2, 0, true)?;
     let fits = fits(alloc, windows, 1001, Side::Above)?;
     let before = windows.showing(alloc, 2)?.as_slice() == [1001].as_slice();
@@ -135,12 +136,20 @@ fn shown_instead(
     Ok((opened, fits, [before, after]))
 }
 
+// Both, one after the other.
+fn stack_and_show(
+    alloc: Global,
+    windows: &mut Windows,
+) -> Result<([(bool, Seen); 4], Shown), AllocError> {
+    let steps = stack(alloc, windows)?;
+    Ok((steps, shown_instead(alloc, windows)?))
+}
+
 // A height wish counts the status line.
 #[test]
 fn windows_are_stacked_with_heights(rt: HostRuntime) -> Result<(), Fail> {
     let mut windows = Windows::new(rt.alloc(), 1)?;
-    let steps = stack(rt.alloc(), &mut windows)?;
-    let shown = shown_instead(rt.alloc(), &mut windows)?;
+    let (steps, shown) = stack_and_show(rt.alloc(), &mut windows)?;
     let low = ([area(0, 0, 80, 3), area(4, 0, 80, 18)], 1000);
     assert_eq!(rt;
         steps,
@@ -156,7 +165,9 @@ fn windows_are_stacked_with_heights(rt: HostRuntime) -> Result<(), Fail> {
 }
 
 // The current tabpage, its current window, and how many tabpages there are.
-fn tabs(windows: &Windows) -> (i64, i64, usize) {
+type Tab = (i64, i64, usize);
+
+fn tabs(windows: &Windows) -> Tab {
     (
         windows.current(),
         windows.current_window(),
@@ -166,10 +177,9 @@ fn tabs(windows: &Windows) -> (i64, i64, usize) {
 
 // What is seen when a tabpage is opened with a window on buffer 2, one behind it, and one behind
 // the first; and which buffer the window of the second shows.
-fn open_tabs(
-    alloc: Global,
-    windows: &mut Windows,
-) -> Result<([(Option<i64>, (i64, i64, usize)); 3], Option<i64>), AllocError> {
+type Opening = ([(Option<i64>, Tab); 3], Option<i64>);
+
+fn open_tabs(alloc: Global, windows: &mut Windows) -> Result<Opening, AllocError> {
     let second = (windows.tab_new(alloc, 2)?, tabs(windows));
     let buffer = windows.find(1001).map(|window| window.buffer);
     let third = (windows.tab_new(alloc, 3)?, tabs(windows));
@@ -181,10 +191,7 @@ fn open_tabs(
 }
 
 // The tabpage is closed, the last one's window gone to and closed, and then the tabpage.
-fn close_tabs(
-    alloc: Global,
-    windows: &mut Windows,
-) -> Result<[(bool, (i64, i64, usize)); 4], AllocError> {
+fn close_tabs(alloc: Global, windows: &mut Windows) -> Result<[(bool, Tab); 4], AllocError> {
     let first = (windows.tab_close(), tabs(windows));
     if windows.find(1002).is_some() {
         windows.go(1002);
@@ -195,15 +202,23 @@ fn close_tabs(
     Ok([first, gone, closed, last])
 }
 
+// Whether the only tabpage is closed; what is seen when others are opened and closed; whether all
+// windows are those of the tabpages in their order, and whether handles are left.
+type Tabs = (bool, Opening, bool, [(bool, Tab); 4], (bool, bool));
+
+fn come_and_go(alloc: Global, windows: &mut Windows) -> Result<Tabs, AllocError> {
+    let only = windows.tab_close();
+    let opened = open_tabs(alloc, windows)?;
+    let all = windows.all(alloc)?.as_slice() == [1000, 1003, 1001, 1002].as_slice();
+    let closed = close_tabs(alloc, windows)?;
+    let left = (windows.window_left(), windows.tabpage_left());
+    Ok((only, opened, all, closed, left))
+}
+
 #[test]
 fn a_tabpage_comes_and_goes(rt: HostRuntime) -> Result<(), Fail> {
-    let alloc = rt.alloc();
-    let mut windows = Windows::new(alloc, 1)?;
-    let only = windows.tab_close();
-    let (opened, buffer) = open_tabs(alloc, &mut windows)?;
-    let all = windows.all(alloc)?.as_slice() == [1000, 1003, 1001, 1002].as_slice();
-    let closed = close_tabs(alloc, &mut windows)?;
-    let left = (windows.window_left(), windows.tabpage_left());
+    let mut windows = Windows::new(rt.alloc(), 1)?;
+    let (only, (opened, buffer), all, closed, left) = come_and_go(rt.alloc(), &mut windows)?;
     assert_eq!(rt;
         opened,
         [
@@ -229,40 +244,62 @@ fn a_tabpage_comes_and_goes(rt: HostRuntime) -> Result<(), Fail> {
     Ok(())
 }
 
-fn cursor(windows: &Windows, window: i64) -> Option<(u32, u32, u32)> {
-    windows.find(window).map(|window| (window.cursor.row, window.cursor.col, window.top))
+// Whether the cursor of window 1000 stands in this row and column, and this row is the first shown.
+fn sees(windows: &Windows, row: u32, col: u32, top: u32) -> bool {
+    match windows.find(1000) {
+        Some(window) => {
+            window.cursor.row == row && window.cursor.col == col && window.top == top
+        }
+        None => false,
+    }
 }
 
-// Five lines; rows 1 and 2 become one row, then a word is put at the cursor.
-#[test]
-fn views_move_with_the_text(rt: HostRuntime) -> Result<(), Fail> {
-    let alloc = rt.alloc();
+fn by(rows: u32, cols: u32) -> Extent
+    ensures { result ≡ record { rows = rows; cols = cols } }
+{
+    Extent { rows, cols }
+}
+
+// Five lines, the cursor in the last and the third the first that is shown: whether the view is
+// right once rows 1 and 2 became one row, once a word was put at the cursor, which stays as of left
+// gravity, and after an edit of another buffer.
+fn moved_views(alloc: Global) -> Result<[bool; 3], AllocError> {
     let mut windows = Windows::new(alloc, 1)?;
     windows.put_cursor(1000, Pos { row: 4, col: 3 });
     windows.put_top(1000, 2);
-    let by = |rows, cols| Extent { rows, cols };
     windows.splice(1, Pos { row: 1, col: 0 }, by(2, 0), by(1, 0), 4);
-    assert_eq!(rt; cursor(&windows, 1000), Some((3, 3, 1)));
+    let joined = sees(&windows, 3, 3, 1);
     windows.splice(1, Pos { row: 3, col: 3 }, by(0, 0), by(0, 5), 4);
-    assert_eq!(rt; cursor(&windows, 1000), Some((3, 3, 1)), "left gravity");
+    let put = sees(&windows, 3, 3, 1);
     windows.splice(2, Pos { row: 0, col: 0 }, by(4, 0), by(0, 0), 1);
-    assert_eq!(rt; cursor(&windows, 1000), Some((3, 3, 1)), "another buffer");
+    Ok([joined, put, sees(&windows, 3, 3, 1)])
+}
+
+#[test]
+fn views_move_with_the_text(rt: HostRuntime) -> Result<(), Fail> {
+    let right = moved_views(rt.alloc())?;
+    assert_eq!(rt; right, [true; 3]);
     Ok(())
 }
 
-// Two rows come in front of four, then all but two rows go.
-#[test]
-fn views_stay_in_the_text(rt: HostRuntime) -> Result<(), Fail> {
-    let alloc = rt.alloc();
+// Four lines, the cursor in the last and the second the first that is shown: whether the view is
+// right once two rows came in front, once all but two rows are gone, and once another buffer is
+// shown.
+fn kept_views(alloc: Global) -> Result<[bool; 3], AllocError> {
     let mut windows = Windows::new(alloc, 1)?;
     windows.put_cursor(1000, Pos { row: 3, col: 3 });
     windows.put_top(1000, 1);
-    let by = |rows, cols| Extent { rows, cols };
     windows.splice(1, Pos { row: 0, col: 0 }, by(0, 0), by(2, 0), 6);
-    assert_eq!(rt; cursor(&windows, 1000), Some((5, 3, 3)));
+    let behind = sees(&windows, 5, 3, 3);
     windows.splice(1, Pos { row: 2, col: 0 }, by(4, 0), by(0, 0), 2);
-    assert_eq!(rt; cursor(&windows, 1000), Some((1, 0, 1)), "in the text");
+    let within = sees(&windows, 1, 0, 1);
     windows.show(1000, 2);
-    assert_eq!(rt; cursor(&windows, 1000), Some((0, 0, 0)));
+    Ok([behind, within, sees(&windows, 0, 0, 0)])
+}
+
+#[test]
+fn views_stay_in_the_text(rt: HostRuntime) -> Result<(), Fail> {
+    let right = kept_views(rt.alloc())?;
+    assert_eq!(rt; right, [true; 3]);
     Ok(())
 }

@@ -2,25 +2,13 @@
 //! documented effect of nvim_buf_set_extmark(), nvim_buf_set_text() and nvim_buf_set_lines() (help:
 //! api-extended-marks).
 
-ghost use Rattle.std.specs.Prelude.{◌↔◌, IsTrue};
-ghost use Rattle.nv_places.specs.Places.{IsPlaceIn};
-
+use crate::buffer::places::is_place;
 use crate::buffer::undo::{redo, undo};
 use crate::buffer::{at, put_lines, put_text, text};
 use crate::texts::list;
-use nv_buffer::{Buffer, Lines, Mark, Pos};
+use nv_buffer::{Buffer, Mark};
 use std::alloc::{AllocError, Global};
 use std::test::Fail;
-
-// Whether a place is one of a text: in a row, up to the end of its line, or at the end of it all.
-fn is_place(text: &Lines, place: Pos) -> bool
-    ensures { IsTrue result ↔ IsPlaceIn text.now place }
-{
-    match text.get(place.row as usize) {
-        Some(line) => place.col as usize <= line.len(),
-        None => place.row as usize == text.count() && place.col == 0,
-    }
-}
 
 // Sets a mark of namespace 1 without an end, where its place is one of the text.
 fn set(buffer: &mut Buffer, id: u32, place: (u32, u32), right: bool) -> Result<bool, AllocError> {
@@ -67,9 +55,16 @@ fn moves(
     Ok(put.is_some() && same && stand(buffer, places))
 }
 
+// Puts lines in place of the empty one of a new buffer.
+fn fill(alloc: Global, buffer: &mut Buffer, lines: &[u8]) -> Result<(), AllocError> {
+    let _ = put_lines(buffer, 0, 1, list(alloc, lines)?)?;
+    buffer.seal()
+}
+
 // Text is put at two marks, of left and of right gravity; then from one before them up to behind
 // them, a third mark at its end; and then in place of one byte, a mark at its start and one behind.
 fn are_moved(alloc: Global, buffer: &mut Buffer) -> Result<bool, AllocError> {
+    fill(alloc, buffer, b"abcdef\n")?;
     let _ = set(buffer, 1, (0, 3), false)?;
     let _ = set(buffer, 2, (0, 3), true)?;
     let places = [(1, (0, 3)), (2, (0, 5))];
@@ -87,6 +82,7 @@ fn are_moved(alloc: Global, buffer: &mut Buffer) -> Result<bool, AllocError> {
 // All lines give way to one empty one: the mark past the end goes with the end, that of left
 // gravity to the start.
 fn are_past_the_end(alloc: Global, buffer: &mut Buffer) -> Result<bool, AllocError> {
+    fill(alloc, buffer, b"ab\nc\n")?;
     let _ = set(buffer, 1, (2, 0), true)?;
     let _ = set(buffer, 2, (1, 1), false)?;
     let put = put_lines(buffer, 0, 2, list(alloc, b"\n")?)?;
@@ -96,6 +92,7 @@ fn are_past_the_end(alloc: Global, buffer: &mut Buffer) -> Result<bool, AllocErr
 // A line is broken behind a mark of left gravity and before one of right gravity, undone and made
 // again.
 fn are_undone(alloc: Global, buffer: &mut Buffer) -> Result<bool, AllocError> {
+    fill(alloc, buffer, b"abcd\n")?;
     let _ = set(buffer, 1, (0, 2), false)?;
     let _ = set(buffer, 2, (0, 3), true)?;
     let before = [(1, (0, 2)), (2, (0, 3))];
@@ -107,31 +104,38 @@ fn are_undone(alloc: Global, buffer: &mut Buffer) -> Result<bool, AllocError> {
     Ok(put && undone && stand(buffer, &after))
 }
 
-// A buffer with these lines.
-fn filled(alloc: Global, lines: &[u8]) -> Result<Buffer, AllocError> {
+// Whether they are, in a new buffer.
+fn moved_in_new(alloc: Global) -> Result<bool, AllocError> {
     let mut buffer = Buffer::new(alloc, 1)?;
-    let _ = put_lines(&mut buffer, 0, 1, list(alloc, lines)?)?;
-    buffer.seal()?;
-    Ok(buffer)
+    are_moved(alloc, &mut buffer)
 }
 
 #[test]
 fn marks_move(rt: HostRuntime) -> Result<(), Fail> {
-    let mut buffer = filled(rt.alloc(), b"abcdef\n")?;
-    assert!(rt; are_moved(rt.alloc(), &mut buffer)?);
+    assert!(rt; moved_in_new(rt.alloc())?);
     Ok(())
+}
+
+// Whether they are, in a new buffer.
+fn past_the_end_of_new(alloc: Global) -> Result<bool, AllocError> {
+    let mut buffer = Buffer::new(alloc, 1)?;
+    are_past_the_end(alloc, &mut buffer)
 }
 
 #[test]
 fn marks_past_the_end(rt: HostRuntime) -> Result<(), Fail> {
-    let mut buffer = filled(rt.alloc(), b"ab\nc\n")?;
-    assert!(rt; are_past_the_end(rt.alloc(), &mut buffer)?);
+    assert!(rt; past_the_end_of_new(rt.alloc())?);
     Ok(())
+}
+
+// Whether they are, in a new buffer.
+fn undone_in_new(alloc: Global) -> Result<bool, AllocError> {
+    let mut buffer = Buffer::new(alloc, 1)?;
+    are_undone(alloc, &mut buffer)
 }
 
 #[test]
 fn undo_moves_marks(rt: HostRuntime) -> Result<(), Fail> {
-    let mut buffer = filled(rt.alloc(), b"abcd\n")?;
-    assert!(rt; are_undone(rt.alloc(), &mut buffer)?);
+    assert!(rt; undone_in_new(rt.alloc())?);
     Ok(())
 }

@@ -5,7 +5,7 @@ ghost use Rattle.std.specs.Prelude.{◌↔◌, ◌+ℤ◌, ◌≤ℤ◌, pos, Is
 
 use crate::buffer::{at, put_lines, put_text, text};
 use crate::texts::{flat, list};
-use nv_buffer::{Buffer, Spliced, change_laws, edit_laws};
+use nv_buffer::{Buffer, LineList, Spliced, change_laws, edit_laws};
 use std::alloc::{AllocError, Global};
 use std::test::Fail;
 
@@ -47,9 +47,9 @@ fn undo_to(buffer: &mut Buffer, n: u64) -> Result<Option<Vec<Spliced>>, AllocErr
 // Puts lines in place of all, as one change.
 fn set(alloc: Global, buffer: &mut Buffer, lines: &[u8]) -> Result<bool, AllocError> {
     let count = buffer.text().count();
-    let put = put_lines(buffer, 0, count, list(alloc, lines)?)?;
+    let put = put_lines(buffer, 0, count, list(alloc, lines)?)?.is_some();
     buffer.seal()?;
-    Ok(put.is_some())
+    Ok(put)
 }
 
 // Does what a command says: "undo", "redo", "undo N" with one digit, or else these lines in place
@@ -107,12 +107,22 @@ fn branches_stand(alloc: Global, buffer: &mut Buffer) -> Result<bool, AllocError
     Ok(all && !third)
 }
 
-#[test]
-fn undo_branches(rt: HostRuntime) -> Result<(), Fail> {
+// Whether they do, of a new buffer.
+fn branches_of_new(alloc: Global) -> Result<bool, AllocError> {
+    let mut buffer = Buffer::new(alloc, 1)?;
+    branches_stand(alloc, &mut buffer)
+}
+
+// The laws that hold of edits and of changes.
+fn laws_hold() {
     edit_laws();
     change_laws();
-    let mut buffer = Buffer::new(rt.alloc(), 1)?;
-    assert!(rt; branches_stand(rt.alloc(), &mut buffer)?);
+}
+
+#[test]
+fn undo_branches(rt: HostRuntime) -> Result<(), Fail> {
+    laws_hold();
+    assert!(rt; branches_of_new(rt.alloc())?);
     Ok(())
 }
 
@@ -139,14 +149,13 @@ fn was_told(
     Ok(flat(alloc, &edit.lines)?.as_slice() == lines)
 }
 
-// A buffer with "hello" and "world" as its first change, and a second change of two edits: "ell"
-// becomes "ipp", and the second line goes.
-fn two_edits(alloc: Global) -> Result<Buffer, AllocError> {
-    let mut buffer = Buffer::new(alloc, 1)?;
-    let _ = set(alloc, &mut buffer, b"hello\nworld\n")?;
-    let _ = put_text(&mut buffer, at((0, 1)), at((0, 4)), list(alloc, b"ipp\n")?)?;
-    let _ = put_lines(&mut buffer, 1, 2, list(alloc, b"")?)?;
-    Ok(buffer)
+// Puts "hello" and "world" as the first change of a new buffer, and makes a second of two edits:
+// "ell" becomes "ipp", and the second line goes.
+fn put_two_edits(alloc: Global, buffer: &mut Buffer) -> Result<(), AllocError> {
+    let _ = set(alloc, buffer, b"hello\nworld\n")?;
+    let _ = put_text(buffer, at((0, 1)), at((0, 4)), list(alloc, b"ipp\n")?)?;
+    let _ = put_lines(buffer, 1, 2, LineList::new(alloc))?;
+    Ok(())
 }
 
 // Undo takes the last edit back first.
@@ -185,16 +194,22 @@ fn open_is_told(alloc: Global, buffer: &mut Buffer) -> Result<bool, AllocError> 
 }
 
 fn all_are_told(alloc: Global, buffer: &mut Buffer) -> Result<bool, AllocError> {
+    put_two_edits(alloc, buffer)?;
     let back = back_is_told(alloc, buffer)?;
     let ahead = ahead_is_told(alloc, buffer)?;
     let open = open_is_told(alloc, buffer)?;
     Ok(back && ahead && open)
 }
 
+// Whether they are, of a new buffer.
+fn told_of_new(alloc: Global) -> Result<bool, AllocError> {
+    let mut buffer = Buffer::new(alloc, 1)?;
+    all_are_told(alloc, &mut buffer)
+}
+
 #[test]
 fn splices_are_told(rt: HostRuntime) -> Result<(), Fail> {
-    let mut buffer = two_edits(rt.alloc())?;
-    assert!(rt; all_are_told(rt.alloc(), &mut buffer)?);
+    assert!(rt; told_of_new(rt.alloc())?);
     Ok(())
 }
 
