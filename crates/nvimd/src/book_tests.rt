@@ -1,11 +1,7 @@
 //! Books over files in memory, against tables written by hand.
-ghost use Rattle.std.specs.Prelude.{◌≡◌, [], IfOk, Some};
-ghost use Rattle.nv_io.specs.Known.{IsUnused};
-
-use crate::command::run;
-use nv_io::{MemFiles, MemLane, MemPort, MemSink, MemSource};
+use crate::in_memory::{file_of, is_left, lane_of, left_of, left_of_files, sink};
+use nv_io::{MemFiles, MemPort, MemSink, MemSource};
 use nv_watch::Counter;
-use nv_world::History;
 use std::alloc::{AllocError, Global};
 use std::fs::File;
 use std::net::{Net, TcpListener, TcpStream};
@@ -83,63 +79,30 @@ fn rows() -> &'static [Row] {
     ]
 }
 
-// A source that gives these bytes.
-fn source(alloc: Global, bytes: &[u8]) -> Result<MemSource, AllocError>
-    ensures { IfOk result (λ s. IsUnused (Some s.pieces.taken) s.failures.faults) }
-{
-    let bytes = Vec::from_slice(alloc, bytes)?;
-    Ok(MemSource::new(bytes, vec![in alloc; 7]?, Vec::new(alloc)))
-}
-
 // The one watcher of a check.
 fn watchers(alloc: Global) -> Result<Vec<Counter>, AllocError> {
     Ok(vec![in alloc; Counter::new(alloc)]?)
 }
 
-// What a run left: its status, what went out, its line, and how many sources and sinks came back.
-#[derive(Drop)]
-struct Left {
-    status: u8,
-    output: MemSink,
-    errors: MemSink,
-    came_back: (usize, usize),
-}
-
-// Runs over a port and over files.
-fn run_over<
+// Whether a run over files that are lent leaves this, and one source came back.
+fn is_left_over<
     R: Files<File = File> + Net<Listener = TcpListener, Stream = TcpStream> + Threads + Wait + Sync,
 >(
     rt: &R,
     alloc: Global,
     words: &[&str],
     files: &mut MemFiles,
-    port: &mut MemPort<MemSource, MemSink>,
-) -> Result<Left, AllocError> {
-    let mut output = MemSink::new(alloc, 4_096, Vec::new(alloc));
-    let mut errors = MemSink::new(alloc, 4_096, Vec::new(alloc));
-    let status = run(
-        rt,
-        alloc,
-        words,
-        &mut source(alloc, b"")?,
-        &mut output,
-        &mut errors,
-        files,
-        port,
-        watchers(alloc)?,
-        &mut History::new(alloc),
-    );
-    let came_back = (files.sources().len(), files.sinks().len());
-    Ok(Left {
-        status,
-        output,
-        errors,
-        came_back,
-    })
+    output: &[u8],
+    status: u8,
+    line: &[u8],
+) -> Result<bool, AllocError> {
+    let left = left_of_files(rt, alloc, words, files, watchers(alloc)?)?;
+    let came_back = files.sources().len() == 1 && files.sinks().is_empty();
+    Ok(came_back && is_left(&left, output, status, line))
 }
 
 // Whether a run over a book in a file leaves this.
-fn is_left<
+fn is_replayed<
     R: Files<File = File> + Net<Listener = TcpListener, Stream = TcpStream> + Threads + Wait + Sync,
 >(
     rt: &R,
@@ -150,16 +113,8 @@ fn is_left<
     status: u8,
     line: &[u8],
 ) -> Result<bool, AllocError> {
-    let sources = vec![in alloc; source(alloc, book)?]?;
-    let mut files = MemFiles::new(alloc, sources, Vec::new(alloc), Vec::new(alloc))?;
-    let mut port = MemPort::new(alloc, Vec::new(alloc), Vec::new(alloc))?;
-    let left = run_over(rt, alloc, words, &mut files, &mut port)?;
-    Ok(
-        left.status == status
-            && left.output.bytes() == output
-            && left.errors.bytes() == line
-            && left.came_back == (1, 0),
-    )
+    let mut files = file_of(alloc, book, &[])?;
+    is_left_over(rt, alloc, words, &mut files, output, status, line)
 }
 
 // The first row that is left in another way.
@@ -167,7 +122,7 @@ fn first_wrong<
     R: Files<File = File> + Net<Listener = TcpListener, Stream = TcpStream> + Threads + Wait + Sync,
 >(rt: &R, alloc: Global) -> Result<Option<&'static str>, AllocError> {
     for row in rows() {
-        if !is_left(
+        if !is_replayed(
             rt, alloc, row.words, row.book, row.output, row.status, row.line,
         )? {
             return Ok(Some(row.name));
@@ -184,39 +139,64 @@ fn books_are_replayed(rt: HostRuntime) -> Result<(), Fail> {
 
 // A port of one lane of one connection, by which a request comes in.
 fn port_of_one(alloc: Global) -> Result<MemPort<MemSource, MemSink>, AllocError> {
-    let output = MemSink::new(alloc, 64, Vec::new(alloc));
-    let links = vec![in alloc; (source(alloc, REQUEST)?, output)]?;
-    let lane = MemLane::new(alloc, links, Vec::new(alloc))?;
+    let lane = lane_of(alloc, REQUEST, 7, &[])?;
     MemPort::new(alloc, vec![in alloc; lane]?, Vec::new(alloc))
 }
 
-// The status of a server of one session over files whose sinks fail at such writes and that fail at
-// such calls, and whether the book that it leaves is checked without a fault.
-fn serve_one<
+// The status of a server of one session over files that are lent.
+fn status_served<
     R: Files<File = File> + Net<Listener = TcpListener, Stream = TcpStream> + Threads + Wait + Sync,
->(rt: &R, alloc: Global, writes: Vec<u64>, calls: Vec<u64>) -> Result<(u8, bool), AllocError> {
-    let sinks = vec![in alloc; MemSink::new(alloc, 7, writes)]?;
-    let mut files = MemFiles::new(alloc, Vec::new(alloc), sinks, calls)?;
+>(rt: &R, alloc: Global, files: &mut MemFiles) -> Result<u8, AllocError> {
+    let mut port = port_of_one(alloc)?;
     let words = ["serve", "--listen", "/a", "--sessions=1", "--book", "b"];
-    let left = run_over(rt, alloc, &words, &mut files, &mut port_of_one(alloc)?)?;
+    let left = left_of(
+        rt,
+        alloc,
+        &words,
+        files,
+        &mut port,
+        Vec::<Counter>::new(alloc),
+    )?;
+    Ok(left.status)
+}
+
+// The same, and whether the book that it leaves is checked without a fault.
+fn served<
+    R: Files<File = File> + Net<Listener = TcpListener, Stream = TcpStream> + Threads + Wait + Sync,
+>(rt: &R, alloc: Global, files: &mut MemFiles) -> Result<(u8, bool), AllocError> {
+    let status = status_served(rt, alloc, files)?;
     let book = files
         .sinks()
         .first()
         .map_or(b"".as_slice(), |sink| sink.bytes());
     let words = ["replay", "b", "--check"];
-    let is_whole = is_left(rt, alloc, &words, book, CHECKED, 0, b"")?;
-    Ok((left.status, is_whole))
+    let is_whole = is_replayed(rt, alloc, &words, book, CHECKED, 0, b"")?;
+    Ok((status, is_whole))
+}
+
+// One file to be written, of whose writes such fail, where such calls fail.
+fn book_file(alloc: Global, writes: &[u64], calls: &[u64]) -> Result<MemFiles, AllocError> {
+    let calls = Vec::from_slice(alloc, calls)?;
+    let file = sink(alloc, 7, writes)?;
+    MemFiles::new(alloc, Vec::new(alloc), vec![in alloc; file]?, calls)
+}
+
+// The same of a server whose book is such a file.
+fn serve_one<
+    R: Files<File = File> + Net<Listener = TcpListener, Stream = TcpStream> + Threads + Wait + Sync,
+>(rt: &R, alloc: Global, writes: &[u64], calls: &[u64]) -> Result<(u8, bool), AllocError> {
+    let mut files = book_file(alloc, writes, calls)?;
+    served(rt, alloc, &mut files)
 }
 
 // The book of a server is that of its history; where its file fails that is told.
 #[test]
 fn a_server_leaves_its_book(rt: HostRuntime) -> Result<(), Fail> {
     let alloc = rt.alloc();
-    let none = Vec::new(alloc);
     let met = [
-        serve_one(&rt, alloc, Vec::new(alloc), Vec::new(alloc))?,
-        serve_one(&rt, alloc, vec![in alloc; 3]?, Vec::new(alloc))?,
-        serve_one(&rt, alloc, none, vec![in alloc; 0]?)?,
+        serve_one(&rt, alloc, &[], &[])?,
+        serve_one(&rt, alloc, &[3], &[])?,
+        serve_one(&rt, alloc, &[], &[0])?,
     ];
     assert!(rt; met == [(0, true), (4, false), (4, false)]);
     Ok(())

@@ -1,11 +1,7 @@
 //! Hostile input, devices that fail, books that are cut, and watchers that say no or want memory.
-ghost use Rattle.std.specs.Prelude.{◌≡◌, []};
-
-use crate::command::run;
-use crate::tests::{Left, ample, is_left, joined, letters, source};
-use nv_io::{MemFiles, MemPort, MemSink, MemSource};
+use crate::in_memory::{Left, embedded, file_of, is_left, joined, left_of_files, session_left};
 use nv_watch::{Verdict, Watcher};
-use nv_world::{History, Step, World};
+use nv_world::{Step, World};
 use std::alloc::{AllocError, Global};
 use std::cell::Cell;
 use std::fs::File;
@@ -19,15 +15,21 @@ use std::thread::Threads;
 // A request for the number of lines, and its reply.
 const COUNT: &[u8] = b"\x94\x00\x01\xb3nvim_buf_line_count\x91\x00";
 
+fn count() -> &'static [u8] {
+    COUNT
+}
+
 const REPLY: &[u8] = b"\x94\x01\x01\xc0\x01";
 
 // 16 lists of one item, one in another.
 const LISTS: &[u8] = b"\x91\x91\x91\x91\x91\x91\x91\x91\x91\x91\x91\x91\x91\x91\x91\x91";
 
 // The book of a session that makes the request, and where its values begin.
-const BOOK: &[u8] = b"\x93\xaanvimd-book\x01\xcd\x10\x00\x92\xa1o\x00\
-    \x96\xa1r\x00\x01\x01\xb3nvim_buf_line_count\x91\x00\x94\xa1t\x00\x01\x01\
-    \xc4\x05\x94\x01\x01\xc0\x01\x93\xa1c\x00\x01\x92\xa3end\x04";
+fn book() -> &'static [u8] {
+    b"\x93\xaanvimd-book\x01\xcd\x10\x00\x92\xa1o\x00\
+        \x96\xa1r\x00\x01\x01\xb3nvim_buf_line_count\x91\x00\x94\xa1t\x00\x01\x01\
+        \xc4\x05\x94\x01\x01\xc0\x01\x93\xa1c\x00\x01\x92\xa3end\x04"
+}
 
 const BEGINNINGS: [usize; 7] = [0, 16, 20, 48, 54, 61, 66];
 
@@ -282,93 +284,15 @@ fn endings() -> &'static [Check] {
     ]
 }
 
-// One file of such bytes, of which such reads fail.
-fn files_of(alloc: Global, bytes: &[u8], fails: &[u64]) -> Result<MemFiles, AllocError> {
-    let bytes = Vec::from_slice(alloc, bytes)?;
-    let fails = Vec::from_slice(alloc, fails)?;
-    let file = MemSource::new(bytes, vec![in alloc; 7usize]?, fails);
-    MemFiles::new(
-        alloc,
-        vec![in alloc; file]?,
-        Vec::new(alloc),
-        Vec::new(alloc),
-    )
-}
-
-// Runs over devices that are lent, and a port without lanes, before such watchers.
-fn run_before<
+// Whether a session goes as it is said.
+fn is_case<
     R: Files<File = File> + Net<Listener = TcpListener, Stream = TcpStream> + Threads + Wait + Sync,
->(
-    rt: &R,
-    alloc: Global,
-    words: &[&str],
-    input: &mut MemSource,
-    output: &mut MemSink,
-    errors: &mut MemSink,
-    files: &mut MemFiles,
-    testers: Vec<Tester>,
-    kept: &mut History,
-) -> Result<u8, AllocError>
-    requires { kept.old.entries ≡ [] }
-{
-    let mut port = MemPort::<MemSource, MemSink>::new(alloc, Vec::new(alloc), Vec::new(alloc))?;
-    Ok(run(
-        rt, alloc, words, input, output, errors, files, &mut port, testers, kept,
-    ))
-}
-
-// What a run leaves over such devices and files, before such watchers.
-fn left_of<
-    R: Files<File = File> + Net<Listener = TcpListener, Stream = TcpStream> + Threads + Wait + Sync,
->(
-    rt: &R,
-    alloc: Global,
-    words: &[&str],
-    mut input: MemSource,
-    mut output: MemSink,
-    mut errors: MemSink,
-    mut files: MemFiles,
-    testers: Vec<Tester>,
-) -> Result<Left, AllocError> {
-    let mut kept = History::new(alloc);
-    let status = run_before(
-        rt,
-        alloc,
-        words,
-        &mut input,
-        &mut output,
-        &mut errors,
-        &mut files,
-        testers,
-        &mut kept,
-    )?;
-    Ok(Left {
-        status,
-        output,
-        errors,
-        kept,
-    })
-}
-
-// What a session leaves over such devices.
-fn session_left<
-    R: Files<File = File> + Net<Listener = TcpListener, Stream = TcpStream> + Threads + Wait + Sync,
->(rt: &R, alloc: Global, case: &Case) -> Result<Left, AllocError> {
+>(rt: &R, alloc: Global, case: &Case) -> Result<bool, AllocError> {
     let bytes = joined(alloc, case.input)?;
-    let files = files_of(alloc, b"", &[])?;
-    let input = source(alloc, &bytes, 4_096, Vec::from_slice(alloc, case.reads)?)?;
-    let output = MemSink::new(alloc, 4_096, Vec::from_slice(alloc, case.writes)?);
-    let errors = MemSink::new(alloc, 4_096, Vec::from_slice(alloc, case.lines)?);
-    left_of(
-        rt,
-        alloc,
-        &["embed"],
-        input,
-        output,
-        errors,
-        files,
-        Vec::new(alloc),
-    )
+    let fails = [case.reads, case.writes, case.lines];
+    let left = session_left(rt, alloc, &["embed"], &bytes, 4_096, 4_096, fails)?;
+    let is_kept = left.kept.as_slice() == case.kept;
+    Ok(is_kept && is_left(&left, case.output, case.status, case.line))
 }
 
 // The first session that goes another way.
@@ -376,10 +300,29 @@ fn first_wrong_case<
     R: Files<File = File> + Net<Listener = TcpListener, Stream = TcpStream> + Threads + Wait + Sync,
 >(rt: &R, alloc: Global, cases: &[Case]) -> Result<Option<&'static str>, AllocError> {
     for case in cases {
-        let left = session_left(rt, alloc, case)?;
-        let is_kept = letters(alloc, &left.kept)?.as_slice() == case.kept;
-        if !is_kept || !is_left(&left, case.output, case.status, case.line) {
+        if !is_case(rt, alloc, case)? {
             return Ok(Some(case.name));
+        }
+    }
+    Ok(None)
+}
+
+// Whether a beginning of the request is told as cut.
+fn is_cut<
+    R: Files<File = File> + Net<Listener = TcpListener, Stream = TcpStream> + Threads + Wait + Sync,
+>(rt: &R, alloc: Global, front: &[u8]) -> Result<bool, AllocError> {
+    let left = embedded(rt, alloc, front, 4_096)?;
+    Ok(is_left(&left, b"", 6, b"nvimd: malformed input: cut at 0\n"))
+}
+
+// The least length below its own by which the request is cut and isn't told as cut.
+fn first_wrong_cut<
+    R: Files<File = File> + Net<Listener = TcpListener, Stream = TcpStream> + Threads + Wait + Sync,
+>(rt: &R, alloc: Global) -> Result<Option<usize>, AllocError> {
+    let request = count();
+    for came in 1..request.len() {
+        if !is_cut(rt, alloc, &request[..came])? {
+            return Ok(Some(came));
         }
     }
     Ok(None)
@@ -396,42 +339,8 @@ fn replay_left<
     fails: &[u64],
     testers: Vec<Tester>,
 ) -> Result<Left, AllocError> {
-    let input = source(alloc, b"", 1, Vec::new(alloc))?;
-    let files = files_of(alloc, book, fails)?;
-    left_of(
-        rt,
-        alloc,
-        words,
-        input,
-        ample(alloc),
-        ample(alloc),
-        files,
-        testers,
-    )
-}
-
-// The least length below its own by which the request is cut and isn't told as cut.
-fn first_wrong_cut<
-    R: Files<File = File> + Net<Listener = TcpListener, Stream = TcpStream> + Threads + Wait + Sync,
->(rt: &R, alloc: Global) -> Result<Option<usize>, AllocError> {
-    for came in 1..COUNT.len() {
-        let files = files_of(alloc, b"", &[])?;
-        let input = source(alloc, &COUNT[..came], 4_096, Vec::new(alloc))?;
-        let left = left_of(
-            rt,
-            alloc,
-            &["embed"],
-            input,
-            ample(alloc),
-            ample(alloc),
-            files,
-            Vec::new(alloc),
-        )?;
-        if !is_left(&left, b"", 6, b"nvimd: malformed input: cut at 0\n") {
-            return Ok(Some(came));
-        }
-    }
-    Ok(None)
+    let mut files = file_of(alloc, book, fails)?;
+    left_of_files(rt, alloc, words, &mut files, testers)
 }
 
 // Where the value begins that a book lacks of which so many bytes came.
@@ -445,16 +354,23 @@ fn place_of_fault(came: usize) -> usize {
     place
 }
 
+// Whether a beginning of the book is told as malformed where its value begins that isn't whole.
+fn is_malformed<
+    R: Files<File = File> + Net<Listener = TcpListener, Stream = TcpStream> + Threads + Wait + Sync,
+>(rt: &R, alloc: Global, front: &[u8]) -> Result<bool, AllocError> {
+    let place = place_of_fault(front.len());
+    let line = format!(in alloc; "nvimd: malformed book at {place}\n")?;
+    let left = replay_left(rt, alloc, &["replay", "book"], front, &[], Vec::new(alloc))?;
+    Ok(is_left(&left, b"", 6, line.as_bytes()))
+}
+
 // The least length below its own by which the book is cut and isn't told as malformed there.
 fn first_wrong_book<
     R: Files<File = File> + Net<Listener = TcpListener, Stream = TcpStream> + Threads + Wait + Sync,
 >(rt: &R, alloc: Global) -> Result<Option<usize>, AllocError> {
-    for came in 0..BOOK.len() {
-        let place = place_of_fault(came);
-        let line = format!(in alloc; "nvimd: malformed book at {place}\n")?;
-        let words = ["replay", "book"];
-        let left = replay_left(rt, alloc, &words, &BOOK[..came], &[], Vec::new(alloc))?;
-        if !is_left(&left, b"", 6, line.as_bytes()) {
+    let book = book();
+    for came in 0..book.len() {
+        if !is_malformed(rt, alloc, &book[..came])? {
             return Ok(Some(came));
         }
     }
@@ -465,9 +381,34 @@ fn first_wrong_book<
 fn is_read_fault<
     R: Files<File = File> + Net<Listener = TcpListener, Stream = TcpStream> + Threads + Wait + Sync,
 >(rt: &R, alloc: Global) -> Result<bool, AllocError> {
-    let words = ["replay", "book"];
-    let left = replay_left(rt, alloc, &words, BOOK, &[0], Vec::new(alloc))?;
+    let left = replay_left(
+        rt,
+        alloc,
+        &["replay", "book"],
+        book(),
+        &[0],
+        Vec::new(alloc),
+    )?;
     Ok(is_left(&left, b"", 3, b"nvimd: read fault\n"))
+}
+
+// One more watcher of such a manner, and the cell in which it counts its steps.
+fn put_tester(
+    alloc: Global,
+    manner: Manner,
+    drops: &Rc<Cell<u64>>,
+    testers: &mut Vec<Tester>,
+    steps: &mut Vec<Rc<Cell<u64>>>,
+) -> Result<(), AllocError> {
+    let seen = Rc::new(alloc, Cell::new(0))?;
+    steps.push(seen.clone()?)?;
+    testers.push(Tester {
+        manner,
+        verdict: Verdict::Yes,
+        steps: seen,
+        drops: drops.clone()?,
+    })?;
+    Ok(())
 }
 
 // Watchers of such manners, and the cells in which each counts its steps and all count their ends.
@@ -479,16 +420,25 @@ fn testers_of(
     let mut testers = Vec::new(alloc);
     let mut steps = Vec::new(alloc);
     for manner in manners {
-        let seen = Rc::new(alloc, Cell::new(0))?;
-        steps.push(seen.clone()?)?;
-        testers.push(Tester {
-            manner: *manner,
-            verdict: Verdict::Yes,
-            steps: seen,
-            drops: drops.clone()?,
-        })?;
+        put_tester(alloc, *manner, drops, &mut testers, &mut steps)?;
     }
     Ok((testers, steps))
+}
+
+// Whether a check before such watchers goes as it is said.
+fn is_played<
+    R: Files<File = File> + Net<Listener = TcpListener, Stream = TcpStream> + Threads + Wait + Sync,
+>(rt: &R, alloc: Global, check: &Check, testers: Vec<Tester>) -> Result<bool, AllocError> {
+    let left = replay_left(rt, alloc, check.words, book(), &[], testers)?;
+    Ok(is_left(&left, check.output, check.status, check.line))
+}
+
+// Whether each watcher was shown so many steps.
+fn are_shown(steps: &[Rc<Cell<u64>>], shown: &[u64]) -> bool {
+    steps
+        .iter()
+        .map(|seen| seen.get())
+        .eq(shown.iter().copied())
 }
 
 // Whether a check goes as it is said, and each of its watchers is dropped.
@@ -497,16 +447,8 @@ fn is_checked<
 >(rt: &R, alloc: Global, check: &Check) -> Result<bool, AllocError> {
     let drops = Rc::new(alloc, Cell::new(0u64))?;
     let (testers, steps) = testers_of(alloc, check.manners, &drops)?;
-    let left = replay_left(rt, alloc, check.words, BOOK, &[], testers)?;
-    let is_shown = steps
-        .iter()
-        .map(|seen| seen.get())
-        .eq(check.steps.iter().copied());
-    Ok(
-        is_shown
-            && drops.get() == check.manners.len() as u64
-            && is_left(&left, check.output, check.status, check.line),
-    )
+    let is_played = is_played(rt, alloc, check, testers)?;
+    Ok(is_played && drops.get() == check.manners.len() as u64 && are_shown(&steps, check.steps))
 }
 
 // The first check that goes another way.
@@ -521,14 +463,29 @@ fn first_wrong_check<
     Ok(None)
 }
 
+// The first session or check that goes another way.
+fn first_wrong_name<
+    R: Files<File = File> + Net<Listener = TcpListener, Stream = TcpStream> + Threads + Wait + Sync,
+>(rt: &R, alloc: Global) -> Result<Option<&'static str>, AllocError> {
+    if let Some(name) = first_wrong_case(rt, alloc, cases())? {
+        return Ok(Some(name));
+    }
+    first_wrong_check(rt, alloc, checks())
+}
+
+// The least lengths at which the request and the book are cut and that isn't told.
+fn first_wrong_lengths<
+    R: Files<File = File> + Net<Listener = TcpListener, Stream = TcpStream> + Threads + Wait + Sync,
+>(rt: &R, alloc: Global) -> Result<[Option<usize>; 2], AllocError> {
+    Ok([first_wrong_cut(rt, alloc)?, first_wrong_book(rt, alloc)?])
+}
+
 #[test]
 fn hostile_cases(rt: HostRuntime) -> Result<(), Fail> {
     let alloc = rt.alloc();
-    assert_eq!(rt; first_wrong_case(&rt, alloc, cases())?, None);
-    assert_eq!(rt; first_wrong_cut(&rt, alloc)?, None);
-    assert_eq!(rt; first_wrong_book(&rt, alloc)?, None);
+    assert_eq!(rt; first_wrong_name(&rt, alloc)?, None);
+    assert_eq!(rt; first_wrong_lengths(&rt, alloc)?, [None, None]);
     assert!(rt; is_read_fault(&rt, alloc)?);
-    assert_eq!(rt; first_wrong_check(&rt, alloc, checks())?, None);
     Ok(())
 }
 

@@ -82,6 +82,8 @@ mod book_tests;
 #[cfg(test)]
 mod hostile_tests;
 #[cfg(test)]
+mod in_memory;
+#[cfg(test)]
 mod serving_tests;
 #[cfg(test)]
 mod tests;

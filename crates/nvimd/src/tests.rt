@@ -1,11 +1,8 @@
 //! The command over devices in memory, against tables written by hand.
-ghost use Rattle.std.specs.Prelude.{◌≡◌, ◌<◌, []};
+ghost use Rattle.std.specs.Prelude.{◌<◌};
 
-use crate::command::run;
+use crate::in_memory::{Left, embedded, is_left, joined, session_left};
 use crate::whole::answer_all;
-use nv_io::{MemFiles, MemPort, MemSink, MemSource};
-use nv_watch::Counter;
-use nv_world::{Event, History};
 use std::alloc::{AllocError, Global};
 use std::fs::File;
 use std::net::{Net, TcpListener, TcpStream};
@@ -32,6 +29,10 @@ const GET: &[u8] = b"\x94\x00\x02\xb2nvim_buf_get_lines\x94\x00\x00\xff\xc3";
 const SET_GET: &[u8] = b"\x94\x00\x01\xb2nvim_buf_set_lines\x95\x00\x00\xff\xc3\x91\xa1a\
     \x94\x00\x02\xb2nvim_buf_get_lines\x94\x00\x00\xff\xc3";
 
+fn set_get() -> &'static [u8] {
+    SET_GET
+}
+
 // The length of the first request.
 const FIRST: usize = 30;
 
@@ -40,10 +41,9 @@ const SET_REPLY: &[u8] = b"\x94\x01\x01\xc0\xc0";
 
 const GET_REPLY: &[u8] = b"\x94\x01\x02\xc0\x91\xa1a";
 
-const REPLIES: &[u8] = b"\x94\x01\x01\xc0\xc0\x94\x01\x02\xc0\x91\xa1a";
-
-// The length of the first reply.
-const FIRST_REPLY: usize = 5;
+fn replies() -> &'static [u8] {
+    b"\x94\x01\x01\xc0\xc0\x94\x01\x02\xc0\x91\xa1a"
+}
 
 // 16 lists of one item, one in another.
 const LISTS: &[u8] = b"\x91\x91\x91\x91\x91\x91\x91\x91\x91\x91\x91\x91\x91\x91\x91\x91";
@@ -162,6 +162,12 @@ fn rows() -> &'static [Row] {
             status: 0,
             line: b"",
         },
+    ]
+}
+
+// Bytes that aren't calls, alone and behind calls.
+fn flaws() -> &'static [Row] {
+    &[
         Row {
             name: "a string longer than a message",
             input: &[b"\x94\x00\x01\xdb\xff\xff\xff\xff"],
@@ -219,6 +225,12 @@ fn rows() -> &'static [Row] {
             status: 6,
             line: b"nvimd: malformed input: call at 2\n",
         },
+    ]
+}
+
+// Counts, and changes that are undone.
+fn changes() -> &'static [Row] {
+    &[
         Row {
             name: "lines are counted",
             input: &[b"\x94\x00\x01\xb3nvim_buf_line_count\x91\x00"],
@@ -718,117 +730,16 @@ fn shows() -> &'static [Story] {
     ]
 }
 
-// What a run left: its status, what went out, the line, and the history.
-#[derive(Drop)]
-pub(crate) struct Left {
-    pub status: u8,
-    pub output: MemSink,
-    pub errors: MemSink,
-    pub kept: History,
-}
-
-pub(crate) fn source(
-    alloc: Global,
-    bytes: &[u8],
-    cut: usize,
-    fails: Vec<u64>,
-) -> Result<MemSource, AllocError>
+// Whether a session of such a row, by pieces of one size, goes as it is said.
+fn is_row<
+    R: Files<File = File> + Net<Listener = TcpListener, Stream = TcpStream> + Threads + Wait + Sync,
+>(rt: &R, alloc: Global, row: &Row, cut: usize) -> Result<bool, AllocError>
     requires { 0 < cut }
 {
-    let bytes = Vec::from_slice(alloc, bytes)?;
-    let cuts = vec![in alloc; cut]?;
-    Ok(MemSource::new(bytes, cuts, fails))
-}
-
-pub(crate) fn ample(alloc: Global) -> MemSink {
-    MemSink::new(alloc, 4_096, Vec::new(alloc))
-}
-
-// Runs over devices that are lent, without files, and over a port without lanes.
-fn run_over<
-    R: Files<File = File> + Net<Listener = TcpListener, Stream = TcpStream> + Threads + Wait + Sync,
->(
-    rt: &R,
-    alloc: Global,
-    words: &[&str],
-    input: &mut MemSource,
-    output: &mut MemSink,
-    errors: &mut MemSink,
-    kept: &mut History,
-) -> u8
-    requires { kept.old.entries ≡ [] }
-{
-    let none = MemPort::<MemSource, MemSink>::new(alloc, Vec::new(alloc), Vec::new(alloc));
-    let Ok(mut port) = none else {
-        return 1;
-    };
-    let none = MemFiles::new(alloc, Vec::new(alloc), Vec::new(alloc), Vec::new(alloc));
-    let Ok(mut files) = none else {
-        return 1;
-    };
-    let watchers: Vec<Counter> = Vec::new(alloc);
-    run(
-        rt, alloc, words, input, output, errors, &mut files, &mut port, watchers, kept,
-    )
-}
-
-fn play<
-    R: Files<File = File> + Net<Listener = TcpListener, Stream = TcpStream> + Threads + Wait + Sync,
->(rt: &R, alloc: Global, words: &[&str], mut input: MemSource, mut output: MemSink) -> Left {
-    let mut errors = ample(alloc);
-    let mut kept = History::new(alloc);
-    let status = run_over(
-        rt,
-        alloc,
-        words,
-        &mut input,
-        &mut output,
-        &mut errors,
-        &mut kept,
-    );
-    Left {
-        status,
-        output,
-        errors,
-        kept,
-    }
-}
-
-fn embedded<
-    R: Files<File = File> + Net<Listener = TcpListener, Stream = TcpStream> + Threads + Wait + Sync,
->(rt: &R, alloc: Global, input: &[u8], cut: usize) -> Result<Left, AllocError>
-    requires { 0 < cut }
-{
-    let input = source(alloc, input, cut, Vec::new(alloc))?;
-    Ok(play(rt, alloc, &["embed"], input, ample(alloc)))
-}
-
-pub(crate) fn joined(alloc: Global, parts: &[&[u8]]) -> Result<Vec<u8>, AllocError> {
-    let mut all = Vec::new(alloc);
-    for part in parts {
-        all.extend_from_slice(*part)?;
-    }
-    Ok(all)
-}
-
-// The letters of what was kept.
-pub(crate) fn letters(alloc: Global, kept: &History) -> Result<Vec<u8>, AllocError> {
-    let mut letters = Vec::new(alloc);
-    for entry in kept.entries() {
-        let letter = match &entry.event {
-            Event::Open => b'O',
-            Event::Request { .. } => b'R',
-            Event::Take { .. } => b'T',
-            Event::Close { .. } => b'C',
-        };
-        letters.push(if entry.caller == 0 { letter } else { b'?' })?;
-    }
-    Ok(letters)
-}
-
-// Whether a run left this.
-pub(crate) fn is_left(left: &Left, output: &[u8], status: u8, line: &[u8]) -> bool {
-    left.status == status && left.output.bytes() == output && left.errors.bytes() == line
+    let input = joined(alloc, row.input)?;
+    let output = joined(alloc, row.output)?;
+    let left = embedded(rt, alloc, &input, cut)?;
+    Ok(is_left(&left, &output, row.status, row.line))
 }
 
 // The first row that gives something else, in one piece or byte by byte.
@@ -836,16 +747,24 @@ fn first_wrong<
     R: Files<File = File> + Net<Listener = TcpListener, Stream = TcpStream> + Threads + Wait + Sync,
 >(rt: &R, alloc: Global, rows: &[Row]) -> Result<Option<&'static str>, AllocError> {
     for row in rows {
-        let input = joined(alloc, row.input)?;
-        let output = joined(alloc, row.output)?;
-        for whole in [true, false] {
-            let left = embedded(rt, alloc, &input, if whole { 4_096 } else { 1 })?;
-            if !is_left(&left, &output, row.status, row.line) {
-                return Ok(Some(row.name));
-            }
+        if !is_row(rt, alloc, row, 4_096)? || !is_row(rt, alloc, row, 1)? {
+            return Ok(Some(row.name));
         }
     }
     Ok(None)
+}
+
+// Whether a session of such a story, by pieces of one size, goes on as it is said.
+fn is_story<
+    R: Files<File = File> + Net<Listener = TcpListener, Stream = TcpStream> + Threads + Wait + Sync,
+>(rt: &R, alloc: Global, story: &Story, cut: usize) -> Result<bool, AllocError>
+    requires { 0 < cut }
+{
+    let input = joined(alloc, story.input)?;
+    let output = joined(alloc, story.output)?;
+    let left = embedded(rt, alloc, &input, cut)?;
+    let is_kept = left.kept.as_slice() == story.kept;
+    Ok(is_kept && is_left(&left, &output, story.status, story.line))
 }
 
 // The first story that goes on in another way, in one piece or byte by byte.
@@ -853,15 +772,8 @@ fn first_told_wrong<
     R: Files<File = File> + Net<Listener = TcpListener, Stream = TcpStream> + Threads + Wait + Sync,
 >(rt: &R, alloc: Global, stories: &[Story]) -> Result<Option<&'static str>, AllocError> {
     for story in stories {
-        let input = joined(alloc, story.input)?;
-        let output = joined(alloc, story.output)?;
-        for whole in [true, false] {
-            let left = embedded(rt, alloc, &input, if whole { 4_096 } else { 1 })?;
-            let kept = letters(alloc, &left.kept)?;
-            let is_left = is_left(&left, &output, story.status, story.line);
-            if !is_left || kept.as_slice() != story.kept {
-                return Ok(Some(story.name));
-            }
+        if !is_story(rt, alloc, story, 4_096)? || !is_story(rt, alloc, story, 1)? {
+            return Ok(Some(story.name));
         }
     }
     Ok(None)
@@ -880,23 +792,34 @@ fn screens_are_drawn(rt: HostRuntime) -> Result<(), Fail> {
 }
 
 // The calls with which a client begins: what the server is, what the client is, a UI, a namespace,
-// a text of 200 lines, and 50 marks in it.
-fn opening(alloc: Global) -> Result<Vec<u8>, AllocError> {
-    let calls = b"\x94\x00\x01\xb1nvim_get_api_info\x90\
+// and a text of 200 lines, which come behind; and the two parts of a call that sets a mark in it.
+fn opening_calls() -> &'static [u8] {
+    b"\x94\x00\x01\xb1nvim_get_api_info\x90\
         \x94\x00\x02\xb4nvim_set_client_info\x95\xa3gui\x80\xa2ui\x80\x80\
         \x94\x00\x03\xaenvim_ui_attach\x93\x78\x28\x83\xa3rgb\xc3\
         \xacext_linegrid\xc3\xadext_popupmenu\xc3\
         \x94\x00\x04\xb5nvim_create_namespace\x91\xa3gui\
-        \x94\x00\x05\xb2nvim_buf_set_lines\x95\x00\x00\xff\xc3\xdc\x00\xc8";
-    let mut input = Vec::from_slice(alloc, calls)?;
+        \x94\x00\x05\xb2nvim_buf_set_lines\x95\x00\x00\xff\xc3\xdc\x00\xc8"
+}
+
+fn mark_call() -> [&'static [u8]; 2] {
+    [
+        b"\xb4nvim_buf_set_extmark\x95\x00\x01",
+        b"\x82\xa7end_col\x04\xa8hl_group\xaaSpecialKey",
+    ]
+}
+
+// All that such a client sends first, the lines and 50 marks with it.
+fn opening(alloc: Global) -> Result<Vec<u8>, AllocError> {
+    let mut input = Vec::from_slice(alloc, opening_calls())?;
     for _ in 0..200 {
         input.extend_from_slice(b"\xa4line")?;
     }
     for row in 0..50 {
         input.extend_from_slice(&[0x94, 0x00, 6 + row])?;
-        input.extend_from_slice(b"\xb4nvim_buf_set_extmark\x95\x00\x01")?;
+        input.extend_from_slice(mark_call()[0])?;
         input.extend_from_slice(&[row, 0x00])?;
-        input.extend_from_slice(b"\x82\xa7end_col\x04\xa8hl_group\xaaSpecialKey")?;
+        input.extend_from_slice(mark_call()[1])?;
     }
     Ok(input)
 }
@@ -912,57 +835,112 @@ fn count_of(text: &[u8], piece: &[u8]) -> usize {
     count
 }
 
+// The status of a session with these calls, how many flushes go out, how many of these before the
+// replies to a namespace and to a text, how many before any reply, and whether one ends it.
+fn begun<
+    R: Files<File = File> + Net<Listener = TcpListener, Stream = TcpStream> + Threads + Wait + Sync,
+>(rt: &R, alloc: Global) -> Result<(u8, [usize; 3], bool), AllocError> {
+    let left = embedded(rt, alloc, &opening(alloc)?, 4_096)?;
+    let between = b"\x92\xa5flush\x90\x94\x01\x04\xc0\x01\x94\x01\x05\xc0\xc0\x93\x02\xa6redraw";
+    let counts = [
+        count_of(&left.output, b"\x92\xa5flush\x90"),
+        count_of(&left.output, between),
+        count_of(&left.output, b"\x92\xa5flush\x90\x94\x01"),
+    ];
+    let is_shown = left.output.ends_with(b"\x92\xa5flush\x90");
+    Ok((left.status, counts, is_shown))
+}
+
 // Each of them is answered without an error, and each that is seen with a batch behind its reply.
 #[test]
 fn a_client_begins(rt: HostRuntime) -> Result<(), Fail> {
-    let alloc = rt.alloc();
-    let left = embedded(&rt, rt.alloc(), &opening(alloc)?, 4_096)?;
-    let output = left.output.bytes();
-    let between = b"\x92\xa5flush\x90\x94\x01\x04\xc0\x01\x94\x01\x05\xc0\xc0\x93\x02\xa6redraw";
-    assert_eq!(rt; left.status, 0);
-    assert_eq!(rt; count_of(output, b"\x92\xa5flush\x90"), 52);
-    assert_eq!(rt; count_of(output, between), 1);
-    assert_eq!(rt; count_of(output, b"\x92\xa5flush\x90\x94\x01"), 51);
-    assert!(rt; output.ends_with(b"\x92\xa5flush\x90"));
+    let met = begun(&rt, rt.alloc())?;
+    assert!(rt; met == (0, [52, 1, 51], true));
     Ok(())
 }
 
-// A request that attaches to the buffer, and one with so many edits of it.
+// A request that attaches to the buffer with the front of one that makes many calls, and an edit.
+fn editing_calls() -> [&'static [u8]; 2] {
+    [
+        b"\x94\x00\x01\xafnvim_buf_attach\x93\x00\xc2\x80\
+            \x94\x00\x02\xb0nvim_call_atomic\x91\xdc",
+        b"\x92\xb2nvim_buf_set_lines\x95\x00\x00\x00\xc3\x91\xa1a",
+    ]
+}
+
+// The request that attaches, and one with so many edits.
 fn many_edits(alloc: Global, count: u16) -> Result<Vec<u8>, AllocError> {
-    let attach = b"\x94\x00\x01\xafnvim_buf_attach\x93\x00\xc2\x80\
-        \x94\x00\x02\xb0nvim_call_atomic\x91\xdc";
+    let [attach, edit] = editing_calls();
     let mut input = Vec::from_slice(alloc, attach)?;
     input.extend_from_slice(&count.to_be_bytes())?;
     for _ in 0..count {
-        input.extend_from_slice(b"\x92\xb2nvim_buf_set_lines\x95\x00\x00\x00\xc3\x91\xa1a")?;
+        input.extend_from_slice(edit)?;
     }
     Ok(input)
+}
+
+// What a session with so many edits leaves.
+fn edited<
+    R: Files<File = File> + Net<Listener = TcpListener, Stream = TcpStream> + Threads + Wait + Sync,
+>(rt: &R, alloc: Global, words: &[&str], count: u16) -> Result<Left, AllocError> {
+    let input = many_edits(alloc, count)?;
+    session_left(rt, alloc, words, &input, 4_096, 4_096, [&[], &[], &[]])
+}
+
+// Whether a session with 4,096 edits is told that its outbox overflows.
+fn overflows<
+    R: Files<File = File> + Net<Listener = TcpListener, Stream = TcpStream> + Threads + Wait + Sync,
+>(rt: &R, alloc: Global) -> Result<bool, AllocError> {
+    let left = edited(rt, alloc, &["embed"], 4_096)?;
+    let is_told = left.line.as_slice() == b"nvimd: outbox overflow at entry 3\n".as_slice();
+    let is_kept = left.kept.as_slice() == b"ORTRT".as_slice();
+    Ok(left.status == 7 && is_told && is_kept)
+}
+
+// The status of a session with so many edits.
+fn status_edited<
+    R: Files<File = File> + Net<Listener = TcpListener, Stream = TcpStream> + Threads + Wait + Sync,
+>(rt: &R, alloc: Global, words: &[&str], count: u16) -> Result<u8, AllocError> {
+    let left = edited(rt, alloc, words, count)?;
+    Ok(left.status)
+}
+
+// The statuses of sessions with such an outbox and so many edits.
+fn statuses<
+    R: Files<File = File> + Net<Listener = TcpListener, Stream = TcpStream> + Threads + Wait + Sync,
+>(rt: &R, alloc: Global) -> Result<[u8; 3], AllocError> {
+    let least: [&str; 3] = ["embed", "--outbox", "16"];
+    Ok([
+        status_edited(rt, alloc, &["embed"], 4_095)?,
+        status_edited(rt, alloc, &least, 15)?,
+        status_edited(rt, alloc, &least, 16)?,
+    ])
 }
 
 // One request makes 4,096 messages due, and one makes one more; and so with the least outbox.
 #[test]
 fn an_outbox_overflows(rt: HostRuntime) -> Result<(), Fail> {
-    let alloc = rt.alloc();
-    let left = embedded(&rt, rt.alloc(), &many_edits(alloc, 4_095)?, 4_096)?;
-    assert_eq!(rt; left.status, 0);
-    let left = embedded(&rt, rt.alloc(), &many_edits(alloc, 4_096)?, 4_096)?;
-    assert_eq!(rt; left.status, 7);
-    assert_eq!(rt;
-        left.errors.bytes(),
-        b"nvimd: outbox overflow at entry 3\n".as_slice()
-    );
-    assert_eq!(rt; letters(alloc, &left.kept)?.as_slice(), b"ORTRT".as_slice());
-    let least: [&str; 3] = ["embed", "--outbox", "16"];
-    let input = source(alloc, &many_edits(alloc, 15)?, 4_096, Vec::new(alloc))?;
-    assert_eq!(rt; play(&rt, alloc, &least, input, ample(alloc)).status, 0);
-    let input = source(alloc, &many_edits(alloc, 16)?, 4_096, Vec::new(alloc))?;
-    assert_eq!(rt; play(&rt, alloc, &least, input, ample(alloc)).status, 7);
+    let met = statuses(&rt, rt.alloc())?;
+    assert!(rt; met == [0, 0, 7]);
+    assert!(rt; overflows(&rt, rt.alloc())?);
     Ok(())
+}
+
+// The first of the rows, the flaws and the changes that gives something else.
+fn first_wrong_row<
+    R: Files<File = File> + Net<Listener = TcpListener, Stream = TcpStream> + Threads + Wait + Sync,
+>(rt: &R, alloc: Global) -> Result<Option<&'static str>, AllocError> {
+    for rows in [rows(), flaws(), changes()] {
+        if let Some(name) = first_wrong(rt, alloc, rows)? {
+            return Ok(Some(name));
+        }
+    }
+    Ok(None)
 }
 
 #[test]
 fn rows_however_they_are_cut(rt: HostRuntime) -> Result<(), Fail> {
-    assert_eq!(rt; first_wrong(&rt, rt.alloc(), rows())?, None);
+    assert_eq!(rt; first_wrong_row(&rt, rt.alloc())?, None);
     Ok(())
 }
 
@@ -972,19 +950,25 @@ fn several_buffers_options_and_calls_in_one(rt: HostRuntime) -> Result<(), Fail>
     Ok(())
 }
 
+// The status of a session that asks for what the server tells of itself, the length of what goes
+// out, and whether that begins with the number of the session and the version.
+fn api_told<
+    R: Files<File = File> + Net<Listener = TcpListener, Stream = TcpStream> + Threads + Wait + Sync,
+>(rt: &R, alloc: Global) -> Result<(u8, usize, bool), AllocError> {
+    let left = embedded(rt, alloc, b"\x94\x00\x01\xb1nvim_get_api_info\x90", 4_096)?;
+    let front = b"\x94\x01\x01\xc0\x92\x01\x86\xa7version\x86\xa5major\x00\xa5minor\x0b";
+    Ok((
+        left.status,
+        left.output.len(),
+        left.output.starts_with(front),
+    ))
+}
+
 // What a client asks first: the number of its session, and the table of methods.
 #[test]
 fn the_api_tells_of_itself(rt: HostRuntime) -> Result<(), Fail> {
-    let left = embedded(
-        &rt,
-        rt.alloc(),
-        b"\x94\x00\x01\xb1nvim_get_api_info\x90",
-        4_096,
-    )?;
-    let front = b"\x94\x01\x01\xc0\x92\x01\x86\xa7version\x86\xa5major\x00\xa5minor\x0b";
-    assert_eq!(rt; left.status, 0);
-    assert_eq!(rt; left.output.bytes().len(), 7_032);
-    assert!(rt; left.output.bytes().starts_with(front));
+    let met = api_told(&rt, rt.alloc())?;
+    assert!(rt; met == (0, 7_032, true));
     Ok(())
 }
 
@@ -998,117 +982,148 @@ fn refusals_have_their_exact_words(rt: HostRuntime) -> Result<(), Fail> {
 fn due(came: usize) -> &'static [u8] {
     if came < FIRST {
         b""
-    } else if came < SET_GET.len() {
-        &REPLIES[..FIRST_REPLY]
+    } else if came < set_get().len() {
+        SET_REPLY
     } else {
-        REPLIES
+        replies()
     }
+}
+
+// The line that tells where so many bytes of the two requests end, inside one of them.
+fn line_of_cut(came: usize) -> &'static [u8] {
+    if came == 0 || came == FIRST || came == set_get().len() {
+        b""
+    } else if came < FIRST {
+        b"nvimd: malformed input: cut at 0\n"
+    } else {
+        b"nvimd: malformed input: cut at 30\n"
+    }
+}
+
+// Whether a beginning of the two requests is answered and told as it is due.
+fn is_cut<
+    R: Files<File = File> + Net<Listener = TcpListener, Stream = TcpStream> + Threads + Wait + Sync,
+>(rt: &R, alloc: Global, front: &[u8]) -> Result<bool, AllocError> {
+    let left = embedded(rt, alloc, front, 3)?;
+    let line = line_of_cut(front.len());
+    let status = if line.is_empty() { 0 } else { 6 };
+    Ok(is_left(&left, due(front.len()), status, line))
+}
+
+// The least length of a beginning that isn't.
+fn first_wrong_cut<
+    R: Files<File = File> + Net<Listener = TcpListener, Stream = TcpStream> + Threads + Wait + Sync,
+>(rt: &R, alloc: Global) -> Result<Option<usize>, AllocError> {
+    let requests = set_get();
+    for came in 0..=requests.len() {
+        if !is_cut(rt, alloc, &requests[..came])? {
+            return Ok(Some(came));
+        }
+    }
+    Ok(None)
 }
 
 // Each beginning of the two requests ends between them or inside one of them.
 #[test]
 fn beginnings_are_cut_where_a_request_is(rt: HostRuntime) -> Result<(), Fail> {
-    for came in 0..=SET_GET.len() {
-        let left = embedded(&rt, rt.alloc(), &SET_GET[..came], 3)?;
-        let line = if came == 0 || came == FIRST || came == SET_GET.len() {
-            String::new(rt.alloc())
-        } else {
-            let begun = if came < FIRST { 0 } else { FIRST };
-            format!(in rt.alloc(); "nvimd: malformed input: cut at {begun}\n")?
-        };
-        assert_eq!(rt; left.status, if line.is_empty() { 0 } else { 6 }, "{came}");
-        assert_eq!(rt; left.output.bytes(), due(came), "{came}");
-        assert_eq!(rt; left.errors.bytes(), line.as_bytes(), "{came}");
-    }
+    assert_eq!(rt; first_wrong_cut(&rt, rt.alloc())?, None);
     Ok(())
+}
+
+// Whether the fault of a read behind so many bytes ends a session as it is due.
+fn is_read_fault<
+    R: Files<File = File> + Net<Listener = TcpListener, Stream = TcpStream> + Threads + Wait + Sync,
+>(rt: &R, alloc: Global, came: usize) -> Result<bool, AllocError> {
+    let fails: [&[u64]; 3] = [&[came as u64], &[], &[]];
+    let left = session_left(rt, alloc, &["embed"], set_get(), 1, 4_096, fails)?;
+    Ok(is_left(&left, due(came), 3, b"nvimd: read fault\n"))
+}
+
+// The least number of bytes behind which it doesn't.
+fn first_wrong_read<
+    R: Files<File = File> + Net<Listener = TcpListener, Stream = TcpStream> + Threads + Wait + Sync,
+>(rt: &R, alloc: Global) -> Result<Option<usize>, AllocError> {
+    for came in 0..=set_get().len() {
+        if !is_read_fault(rt, alloc, came)? {
+            return Ok(Some(came));
+        }
+    }
+    Ok(None)
 }
 
 // One byte a read, where one of the reads fails.
 #[test]
 fn a_read_that_fails_ends_it(rt: HostRuntime) -> Result<(), Fail> {
-    let alloc = rt.alloc();
-    for came in 0..=SET_GET.len() {
-        let fails = vec![in alloc; came as u64]?;
-        let input = source(alloc, SET_GET, 1, fails)?;
-        let left = play(&rt, alloc, &["embed"], input, ample(alloc));
-        assert_eq!(rt; left.status, 3, "{came}");
-        assert_eq!(rt; left.output.bytes(), due(came), "{came}");
-        assert_eq!(rt;
-            left.errors.bytes(),
-            b"nvimd: read fault\n".as_slice(),
-            "{came}"
-        );
-    }
+    assert_eq!(rt; first_wrong_read(&rt, rt.alloc())?, None);
     Ok(())
+}
+
+// Whether the fault of a write ends a session of which these bytes went out before.
+fn is_write_fault<
+    R: Files<File = File> + Net<Listener = TcpListener, Stream = TcpStream> + Threads + Wait + Sync,
+>(rt: &R, alloc: Global, front: &[u8]) -> Result<bool, AllocError> {
+    let fails: [&[u64]; 3] = [&[], &[front.len() as u64], &[]];
+    let left = session_left(rt, alloc, &["embed"], set_get(), 4_096, 1, fails)?;
+    Ok(is_left(&left, front, 4, b"nvimd: write fault\n"))
+}
+
+// The least number of bytes behind which it doesn't.
+fn first_wrong_write<
+    R: Files<File = File> + Net<Listener = TcpListener, Stream = TcpStream> + Threads + Wait + Sync,
+>(rt: &R, alloc: Global) -> Result<Option<usize>, AllocError> {
+    let output = replies();
+    for went in 0..output.len() {
+        if !is_write_fault(rt, alloc, &output[..went])? {
+            return Ok(Some(went));
+        }
+    }
+    Ok(None)
 }
 
 // One byte a write, where one of the writes fails.
 #[test]
 fn a_write_that_fails_ends_it(rt: HostRuntime) -> Result<(), Fail> {
-    let alloc = rt.alloc();
-    for went in 0..REPLIES.len() {
-        let fails = vec![in alloc; went as u64]?;
-        let input = source(alloc, SET_GET, 4_096, Vec::new(alloc))?;
-        let left = play(&rt, alloc, &["embed"], input, MemSink::new(alloc, 1, fails));
-        assert_eq!(rt; left.status, 4, "{went}");
-        assert_eq!(rt; left.output.bytes(), &REPLIES[..went], "{went}");
-        assert_eq!(rt;
-            left.errors.bytes(),
-            b"nvimd: write fault\n".as_slice(),
-            "{went}"
-        );
-    }
+    assert_eq!(rt; first_wrong_write(&rt, rt.alloc())?, None);
     Ok(())
+}
+
+// Whether the fault of such a write leaves this of a session.
+fn is_ended<
+    R: Files<File = File> + Net<Listener = TcpListener, Stream = TcpStream> + Threads + Wait + Sync,
+>(
+    rt: &R,
+    alloc: Global,
+    input: &[u8],
+    write: u64,
+    output: &[u8],
+    kept: &[u8],
+) -> Result<bool, AllocError> {
+    let fails: [&[u64]; 3] = [&[], &[write], &[]];
+    let left = session_left(rt, alloc, &["embed"], input, 4_096, 4_096, fails)?;
+    Ok(left.status == 4 && left.output.as_slice() == output && left.kept.as_slice() == kept)
 }
 
 // Two requests, where the second write fails.
 #[test]
 fn a_reply_goes_out_before_the_next_write_fails(rt: HostRuntime) -> Result<(), Fail> {
-    let alloc = rt.alloc();
     let requests =
         b"\x94\x00\x01\xb3nvim_buf_line_count\x91\x00\x94\x00\x02\xb3nvim_buf_line_count\x91\x00";
-    let input = source(alloc, requests.as_slice(), 4_096, Vec::new(alloc))?;
-    let fails = vec![in alloc; 1]?;
-    let left = play(
-        &rt,
-        alloc,
-        &["embed"],
-        input,
-        MemSink::new(alloc, 4_096, fails),
-    );
-    assert_eq!(rt; left.status, 4);
-    assert_eq!(rt; left.output.bytes(), b"\x94\x01\x01\xc0\x01".as_slice());
-    assert_eq!(rt;
-        letters(alloc, &left.kept)?.as_slice(),
-        b"ORTRTC".as_slice()
-    );
+    let reply = b"\x94\x01\x01\xc0\x01";
+    assert!(rt; is_ended(&rt, rt.alloc(), requests, 1, reply, b"ORTRTC")?);
     Ok(())
 }
 
 // The server was to end, and its reply couldn't be written.
 #[test]
 fn a_write_fault_goes_before_the_end_of_the_server(rt: HostRuntime) -> Result<(), Fail> {
-    let alloc = rt.alloc();
     let request = b"\x94\x00\x01\xacnvim_command\x91\xa5qall!";
-    let input = source(alloc, request.as_slice(), 4_096, Vec::new(alloc))?;
-    let fails = vec![in alloc; 0]?;
-    let left = play(
-        &rt,
-        alloc,
-        &["embed"],
-        input,
-        MemSink::new(alloc, 4_096, fails),
-    );
-    assert_eq!(rt; left.status, 4);
-    assert_eq!(rt; left.output.bytes(), b"".as_slice());
-    assert_eq!(rt; letters(alloc, &left.kept)?.as_slice(), b"ORT".as_slice());
+    assert!(rt; is_ended(&rt, rt.alloc(), request, 0, b"", b"ORT")?);
     Ok(())
 }
 
-#[test]
-fn other_words_are_refused(rt: HostRuntime) -> Result<(), Fail> {
-    let alloc = rt.alloc();
-    let refused: [&[&str]; 9] = [
+// Words that ask for nothing.
+fn refused() -> &'static [&'static [&'static str]] {
+    &[
         &[],
         &["serve"],
         &["serve", "--listen", "/a", "--sessions", "0"],
@@ -1118,27 +1133,49 @@ fn other_words_are_refused(rt: HostRuntime) -> Result<(), Fail> {
         &["replay", "a", "b"],
         &["generate", "-1"],
         &["generate", "18446744073709551616"],
-    ];
-    for words in refused {
-        let input = source(alloc, SET_GET, 1, Vec::new(alloc))?;
-        let left = play(&rt, alloc, words, input, ample(alloc));
-        assert_eq!(rt; left.status, 2);
-        assert_eq!(rt; left.output.bytes(), b"".as_slice());
-        assert_eq!(rt;
-            left.errors.bytes(),
-            b"nvimd: bad command line\n".as_slice()
-        );
+    ]
+}
+
+// Whether these words are refused, and nothing goes out.
+fn is_refused<
+    R: Files<File = File> + Net<Listener = TcpListener, Stream = TcpStream> + Threads + Wait + Sync,
+>(rt: &R, alloc: Global, words: &[&str]) -> Result<bool, AllocError> {
+    let left = session_left(rt, alloc, words, set_get(), 1, 4_096, [&[], &[], &[]])?;
+    Ok(is_left(&left, b"", 2, b"nvimd: bad command line\n"))
+}
+
+// Whether all of them are.
+fn are_refused<
+    R: Files<File = File> + Net<Listener = TcpListener, Stream = TcpStream> + Threads + Wait + Sync,
+>(rt: &R, alloc: Global) -> Result<bool, AllocError> {
+    for words in refused() {
+        if !is_refused(rt, alloc, *words)? {
+            return Ok(false);
+        }
     }
+    Ok(true)
+}
+
+#[test]
+fn other_words_are_refused(rt: HostRuntime) -> Result<(), Fail> {
+    assert!(rt; are_refused(&rt, rt.alloc())?);
     Ok(())
+}
+
+// What all is answered with over sure devices: the status, whether the replies went out, and the
+// length of the history.
+fn answered<
+    R: Files<File = File> + Net<Listener = TcpListener, Stream = TcpStream> + Threads + Wait + Sync,
+>(rt: &R, alloc: Global) -> Result<(u8, bool, usize), AllocError> {
+    let cuts = vec![in alloc; 7]?;
+    let bytes = Vec::from_slice(alloc, SET_GET)?;
+    let (status, output, kept) = answer_all(rt, alloc, bytes, cuts);
+    Ok((status, output.bytes() == replies(), kept.len()))
 }
 
 #[test]
 fn all_is_answered_over_sure_devices(rt: HostRuntime) -> Result<(), Fail> {
-    let alloc = rt.alloc();
-    let bytes = Vec::from_slice(alloc, SET_GET)?;
-    let (status, output, kept) = answer_all(&rt, alloc, bytes, vec![in alloc; 7]?);
-    assert_eq!(rt; status, 0);
-    assert_eq!(rt; output.bytes(), REPLIES);
-    assert_eq!(rt; kept.len(), 6);
+    let met = answered(&rt, rt.alloc())?;
+    assert!(rt; met == (0, true, 6));
     Ok(())
 }
