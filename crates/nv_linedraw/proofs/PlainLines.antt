@@ -1,10 +1,8 @@
 -- Lemmas on lines of printable ASCII without spans: each byte is a cell by itself.
-use Rattle.std.proofs.Common.{◌≡◌, ◌<◌, ◌≤◌, ◌+◌, ◌-◌, ◌*◌, ◌/◌, ◌%◌, ℕ, suc, min, true, false, cond, ◌==◌, List, [], ◌∷◌, ◌++◌, length, take, drop, map, replicate, refl, sym, ap, ap₂, ◌∙◌, arith, append-nil, length-append, ⊎_elim}
-use Rattle.std.proofs.Math.Nat.{div-add-mod', mod-eq_of_lt, mul-div_cancel, mul-add-mod_self_right, suc-mul}
+use Rattle.std.proofs.Common.{◌≡◌, ◌<◌, ◌≤◌, ◌+◌, ◌-◌, ◌*◌, ◌/◌, ◌%◌, ℕ, suc, min, true, ◌==◌, List, [], ◌∷◌, ◌++◌, length, take, drop, map, replicate, refl, sym, ap, ap₂, ◌∙◌, arith, append-nil, length-append, ⊎_elim}
+use Rattle.std.proofs.Math.Nat.{mod-eq_of_lt, mul-add-mod_self_right}
 use Rattle.std.proofs.lemmas.Bool.{cases_lt}
-use Rattle.std.proofs.lemmas.Bool.Decides.{nat_tests}
 use Rattle.std.proofs.lemmas.List.{drop-drop, length-map, length-replicate, take-append-le, take-map, take-replicate, take_all, drop_all}
-use Rattle.std.proofs.lemmas.Nat.{mod_below}
 use Rattle.std.proofs.lemmas.Str.{utf8_valid_len-IsUtf8, IsUtf8-from_ascii}
 use Rattle.std.specs.List.{list_all}
 use Rattle.std.specs.Str.Lossy.{utf8_valid_len}
@@ -84,38 +82,6 @@ plain_count w line = omega (
 pub rows_of_plain : (w t : ℕ) (line : List ℕ) → 0 < w → list_all is_printable line ≡ true
     → rows_of_line w t line ≡ (length line + plain_filling w (length line)) / w
 rows_of_plain w t line wide plain = ap (λ cs. length cs / w) (cells_of_plain w t line no_looks wide plain) ∙ ap (λ n. n / w) (plain_count w line)
-
--- the cells and the spaces behind them fill whole rows
-filled : (w q r count : ℕ) → 0 < w → count ≡ q * w + r → 0 < r → r < w → (count + (w - r)) / w ≡ q + 1
-filled w q r count wide is some lt =
-    let whole : count + (w - r) ≡ suc q * w = omega (arith, is, some, lt, suc-mul q w) in
-    ap (λ n. n / w) whole ∙ mul-div_cancel (suc q) wide ∙ omega arith
-
-not_zero : (k : ℕ) → 0 < k → (k == 0) ≡ false
-not_zero k some = grind (arith, nat_tests)
-
-is_zero : (k : ℕ) → k ≡ 0 → (k == 0) ≡ true
-is_zero k none = grind (arith, nat_tests)
-
-pub one_row : (w : ℕ) → 0 < w → (0 + plain_filling w 0) / w ≡ 1
-one_row w wide =
-    let one : 0 + plain_filling w 0 ≡ suc 0 * w = omega (arith, suc-mul 0 w) in
-    ap (λ n. n / w) one ∙ mul-div_cancel 1 wide
-
--- with a last row that isn't full
-pub more_rows : (w count : ℕ) → 0 < w → 0 < count → 0 < count % w → (count + plain_filling w count) / w ≡ count / w + 1
-more_rows w count wide some rest =
-    ap (λ b. (count + filling w b (count % w)) / w) (not_zero count some)
-    ∙ ap (λ b. (count + cond b 0 (w - count % w)) / w) (not_zero (count % w) rest)
-    ∙ filled w (count / w) (count % w) count wide (sym (div-add-mod' count w)) rest (mod_below count w wide)
-
--- with full rows alone
-pub full_rows : (w count : ℕ) → 0 < count → count % w ≡ 0 → (count + plain_filling w count) / w ≡ count / w
-full_rows w count some none =
-    let more : count + 0 ≡ count = omega arith in
-    ap (λ b. (count + filling w b (count % w)) / w) (not_zero count some)
-    ∙ ap (λ b. (count + cond b 0 (w - count % w)) / w) (is_zero (count % w) none)
-    ∙ ap (λ n. n / w) more
 
 -- ---- the first of them
 

@@ -7,7 +7,7 @@ ghost use Rattle.nv_linedraw.specs.inside.DrawnCells.{laid_cells, laid_col};
 ghost use Rattle.nv_linedraw.specs.inside.Plain.{byte_cell, plain_filling, plain_line};
 ghost use Rattle.std.specs.Int.{is_in_range};
 ghost use Rattle.std.specs.List.{list_all};
-ghost use Rattle.std.specs.Prelude.{◌≡◌, ◌<◌, ◌≤◌, ◌+◌, ◌/◌, ◌++◌, ◌==◌, true, All, IfOk, OnOk, length, map, min, replicate, take};
+ghost use Rattle.std.specs.Prelude.{◌≡◌, ◌<◌, ◌≤◌, ◌+◌, ◌/◌, ◌++◌, ◌==◌, true, All, IfOk, IsTrue, OnOk, length, map, min, replicate, take};
 
 use crate::flow::{Drawn, Flow, rest_attr};
 use crate::looks::{Looks, Span};
@@ -89,10 +89,14 @@ fn fill(flow: &mut Flow, d: &Drawn, most: usize) -> Result<(), AllocError>
     put_blanks(&mut flow.cells, n, d)
 }
 
-// Whether all bytes of a line are printable characters of ASCII, each of which is a cell by itself.
-fn is_plain(line: &[u8]) -> bool
-    ensures { result ≡ list_all (is_in_range 0x20 0x7E) line.now }
+// Whether a line has at most so many bytes, all of them printable characters of ASCII, each of
+// which is a cell by itself. Of a longer line no byte is looked at.
+fn is_plain(line: &[u8], most: usize) -> bool
+    ensures { IsTrue result → list_all (is_in_range 0x20 0x7E) line.now ≡ true }
 {
+    if most < line.len() {
+        return false;
+    }
     for byte in line {
         if !(0x20..=0x7E).contains(byte) {
             return false;
@@ -180,7 +184,7 @@ pub fn first_cells(
     ensures { IfOk result (λ c. c.items ≡ take most
         (cells_of_line width tabstop line.now spans.now looks.now)) }
 {
-    if spans.is_empty() && is_plain(line) {
+    if spans.is_empty() && is_plain(line, most) {
         let cells = plain_cells(alloc, line, width, most)?;
         return Ok(cells);
     }
@@ -236,7 +240,8 @@ pub fn first_rows(
     requires stop { 0 < tabstop }
     ensures { IfOk result (λ n. n ≡ min most (rows_of_line width tabstop line.now)) }
 {
-    if is_plain(line) {
+    let count = most as usize * width as usize;
+    if is_plain(line, count) {
         return Ok(plain_rows(line.len(), width, most));
     }
     let looks = Looks {
@@ -244,7 +249,6 @@ pub fn first_rows(
         special: Attr::EMPTY,
         beyond: Attr::EMPTY,
     };
-    let count = most as usize * width as usize;
     let cells = first_cells(alloc, line, &[], width, tabstop, &looks, count)?;
     Ok((cells.len() / width as usize) as u32)
 }

@@ -12,7 +12,7 @@ returns-then-is_plain c =
     let is_zero : (length c.args.spans.now == 0) ≡ true = sym c.if-is_empty.ensures in
     let none : [] ≡ c.args.spans.now = sym (nil_from_length c.args.spans.now (grind (arith, nat_tests, is_zero))) in
     c.in_ok-cells.ensures
-    ∙ ap (take c.args.most) (sym (cells_of_plain c.args.width c.args.tabstop c.args.line.now c.args.looks.now c.requires.wide (sym c.if-is_plain.ensures)))
+    ∙ ap (take c.args.most) (sym (cells_of_plain c.args.width c.args.tabstop c.args.line.now c.args.looks.now c.requires.wide (c.is_plain.ensures c.if-is_plain.true)))
     ∙ ap (λ spans. take c.args.most (cells_of_line c.args.width c.args.tabstop c.args.line.now spans c.args.looks.now)) none
 
 pub returns : goal.returns

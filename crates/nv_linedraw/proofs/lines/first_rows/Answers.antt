@@ -7,7 +7,7 @@ use Rattle.nv_linedraw.proofs.lines.first_rows.Goals as goal
 pub returns-then-is_plain : goal.returns-then-is_plain
 returns-then-is_plain c =
     c.plain_rows.ensures
-    ∙ ap (min c.args.most) (sym (rows_of_plain c.args.width c.args.tabstop c.args.line.now c.requires.wide (sym c.if-is_plain.ensures)))
+    ∙ ap (min c.args.most) (sym (rows_of_plain c.args.width c.args.tabstop c.args.line.now c.requires.wide (c.is_plain.ensures c.if-is_plain.true)))
 
 pub returns : goal.returns
 returns c =
