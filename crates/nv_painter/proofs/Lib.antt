@@ -5,4 +5,5 @@ pub mod LoneLemmas
 pub mod MoveLemmas
 pub mod PictureLemmas
 pub mod RunLemmas
+pub mod SketchLemmas
 pub mod ToldLemmas

@@ -3,4 +3,5 @@ pub mod Lent
 pub mod Lone
 pub mod Moving
 pub mod SameKeys
+pub mod Sketch
 pub mod Telling

@@ -2,10 +2,11 @@
 
 ghost use Rattle.nv_linegrid.specs.Rows.{differs_at, end_due, first_due, is_due, is_last_id, is_right_at, line_of_row, lines_of_rows, run_of, runs_of, starts_with_right};
 ghost use Rattle.nv_linegrid.specs.Told.{known_rows, shown_cell, shown_rows};
+ghost use Rattle.nv_painter.specs.inside.Sketch.{IsSketch};
 ghost use Rattle.nv_painter.specs.inside.Telling.{half_at, joins_at, runs_with};
-ghost use Rattle.std.specs.Prelude.{◌≡◌, ◌<◌, ◌≤◌, ◌+◌, ◌^◌, ◌++◌, All, IfOk, OnOk, Some, drop, length, map};
+ghost use Rattle.std.specs.Prelude.{◌≡◌, ◌<◌, ◌≤◌, ◌+◌, ◌^◌, ◌++◌, List, [], All, IfOk, OnOk, Some, drop, if◌then◌else◌, length, map};
 
-use crate::ids::{is_shown, shown_cells};
+use crate::ids::{has_flag, shown_cells};
 use crate::shown::{ShownCell, ShownRow};
 use nv_hl::{Attr, Cell, Row};
 use nv_linegrid::{Redraw, Run, Runs};
@@ -203,21 +204,24 @@ fn push_line(
     Ok(())
 }
 
-// Tells the due cells of a row, which then shows these cells.
+// Tells the due cells of a row, which then shows these cells, where it isn't shown already.
 fn push_row(
     alloc: Global,
     events: &mut Vec<Redraw>,
     number: u32,
     row: &mut ShownRow,
+    is_shown: bool,
     attrs: &[Attr],
     cells: &[Cell],
 ) -> Result<(), AllocError>
     requires { length cells.now < 2 ^ 32 }
     ensures events { OnOk result (events.new.items ≡ events.old.items
-        ++ line_of_row number row.old (map (shown_cell attrs.now) cells.now)) }
-    ensures row { OnOk result (row.new ≡ map Some (map (shown_cell attrs.now) cells.now)) }
+        ++ (if is_shown then []
+        else line_of_row number row.old (map (shown_cell attrs.now) cells.now))) }
+    ensures row { OnOk result (row.new ≡ (if is_shown then row.old
+        else map Some (map (shown_cell attrs.now) cells.now))) }
 {
-    if is_shown(cells, attrs, row.cells()) {
+    if is_shown {
         return Ok(());
     }
     let shown = shown_cells(alloc, cells, attrs)?;
@@ -226,30 +230,36 @@ fn push_row(
     Ok(())
 }
 
-/// Tells the due cells of all rows, which then show this screen.
+/// Tells the due cells of all rows, which then show this screen. Rows with a flag are shown already
+/// and aren't looked at.
 pub fn push_rows(
     alloc: Global,
     events: &mut Vec<Redraw>,
     rows: &mut Vec<ShownRow>,
     attrs: &[Attr],
-    screen: &[Row],
+    flags: &[bool],
+    drawn: &[Row],
 ) -> Result<(), AllocError>
-    requires high { length rows.old.items ≡ length screen.now }
-    requires rows { length screen.now < 2 ^ 32 }
-    requires cells { All (λ row. length row < 2 ^ 32) screen.now }
-    ensures events { OnOk result (events.new.items ≡ events.old.items
-        ++ lines_of_rows 0 rows.old.items (shown_rows attrs.now screen.now)) }
-    ensures rows { OnOk result
-        (rows.new.items ≡ known_rows (shown_rows attrs.now screen.now)) }
+    requires high { length rows.old.items ≡ length drawn.now }
+    requires rows { length drawn.now < 2 ^ 32 }
+    requires cells { All (λ row. length row < 2 ^ 32) drawn.now }
+    ensures events { OnOk result ((screen : List (List Cell))
+        → IsSketch flags.now drawn.now attrs.now rows.old.items screen
+        → events.new.items ≡ events.old.items
+        ++ lines_of_rows 0 rows.old.items (shown_rows attrs.now screen)) }
+    ensures rows { OnOk result ((screen : List (List Cell))
+        → IsSketch flags.now drawn.now attrs.now rows.old.items screen
+        → rows.new.items ≡ known_rows (shown_rows attrs.now screen)) }
 {
-    for k in 0..screen.len() {
+    for k in 0..drawn.len() {
         push_row(
             alloc,
             events,
             k as u32,
             &mut rows[k],
+            has_flag(flags, k),
             attrs,
-            screen[k].cells(),
+            drawn[k].cells(),
         )?;
     }
     Ok(())

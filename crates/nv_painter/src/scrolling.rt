@@ -269,26 +269,45 @@ fn push_scroll(events: &mut Vec<Redraw>, shift: &Shift) -> Result<(), AllocError
     Ok(())
 }
 
-/// Tells the scrolls of windows that were shown before, and gives the rows after them.
-pub fn push_scrolls(
+/// How the texts of windows moved that were shown before.
+pub fn shifts_between(
     alloc: Global,
-    events: &mut Vec<Redraw>,
-    rows: Vec<ShownRow>,
     olds: &[PaneView],
     news: &[PaneView],
-) -> Result<Vec<ShownRow>, AllocError>
+) -> Result<Vec<Shift>, AllocError>
     requires { All EndsInReach news.now }
-    ensures events { OnOk result (events.new.items
-        ≡ events.old.items ++ map scroll_of (shifts_between olds.now news.now)) }
-    ensures rows { IfOk result (λ after. after.items
-        ≡ rows_after_shifts (shifts_between olds.now news.now) rows.items) }
+    ensures { IfOk result (λ shifts. shifts.items ≡ shifts_between olds.now news.now) }
 {
-    let mut rows = rows;
+    let mut shifts = Vec::new(alloc);
     for new in news {
         if let Some(shift) = shift_in(olds, new) {
-            push_scroll(events, &shift)?;
-            rows = rows_after_shift(alloc, rows.as_slice(), &shift)?;
+            shifts.push(shift)?;
         }
     }
+    Ok(shifts)
+}
+
+/// The rows after all shifts.
+pub fn rows_after_shifts(
+    alloc: Global,
+    rows: Vec<ShownRow>,
+    shifts: &[Shift],
+) -> Result<Vec<ShownRow>, AllocError>
+    ensures { IfOk result (λ after. after.items ≡ rows_after_shifts shifts.now rows.items) }
+{
+    let mut rows = rows;
+    for shift in shifts {
+        rows = rows_after_shift(alloc, rows.as_slice(), shift)?;
+    }
     Ok(rows)
+}
+
+/// Tells the scrolls.
+pub fn push_scrolls(events: &mut Vec<Redraw>, shifts: &[Shift]) -> Result<(), AllocError>
+    ensures { OnOk result (events.new.items ≡ events.old.items ++ map scroll_of shifts.now) }
+{
+    for shift in shifts {
+        push_scroll(events, shift)?;
+    }
+    Ok(())
 }

@@ -2,14 +2,13 @@
 
 ghost use Rattle.nv_linegrid.specs.Batch.{batch, event_if, is_place, is_size, same_colours, told_after};
 ghost use Rattle.nv_linegrid.specs.Laws.{ShowsWanted};
-ghost use Rattle.nv_linegrid.specs.Scrolls.{rows_after_shifts, scroll_of};
 ghost use Rattle.nv_linegrid.specs.Told.{IsDrawn, nothing_told};
 ghost use Rattle.nv_painter.specs.inside.Moving.{EndsInReach, moves, rows_to_move};
 ghost use Rattle.std.specs.Prelude.{◌≡◌, ◌++◌, All, IfOk, None, OnOk, if◌then◌else◌, map};
 
-use crate::ids::{add_attrs_of_rows, push_attrs};
+use crate::ids::{add_attrs_of_rows, push_attrs, rows_shown};
 use crate::lines::push_rows;
-use crate::scrolling::push_scrolls;
+use crate::scrolling::{Shift, push_scrolls, rows_after_shifts, shifts_between};
 use crate::shown::{ShownRow, blank_rows};
 use crate::view::PaneView;
 use nv_hl::{Attr, Colours, Grid};
@@ -128,26 +127,36 @@ fn cursor_before(is_resized: bool, cursor: Option<(u32, u32)>) -> Option<(u32, u
     if is_resized { None } else { cursor }
 }
 
-// Tells the scrolls, and gives the rows before the lines are told: spaces where the size is new.
-fn push_moves(
+// How the texts of windows moved, not at all where the size is new.
+fn moves(
     alloc: Global,
-    events: &mut Vec<Redraw>,
     is_resized: bool,
-    rows: Vec<ShownRow>,
     olds: &[PaneView],
     picture: &Picture,
-) -> Result<Vec<ShownRow>, AllocError>
+) -> Result<Vec<Shift>, AllocError>
     requires { All EndsInReach picture.now.views }
-    ensures events { OnOk result (events.new.items ≡ events.old.items
-        ++ map scroll_of (moves is_resized olds.now picture.now.views)) }
-    ensures rows { IfOk result (λ after. after.items ≡ rows_after_shifts
-        (moves is_resized olds.now picture.now.views)
-        (rows_to_move is_resized rows.items picture.now.screen)) }
+    ensures { IfOk result (λ shifts. shifts.items ≡ moves is_resized olds.now picture.now.views) }
+{
+    if is_resized {
+        return Ok(Vec::new(alloc));
+    }
+    shifts_between(alloc, olds, picture.views.as_slice())
+}
+
+// The rows before the scrolls: spaces where the size is new.
+fn rows_to_move(
+    alloc: Global,
+    is_resized: bool,
+    rows: Vec<ShownRow>,
+    picture: &Picture,
+) -> Result<Vec<ShownRow>, AllocError>
+    ensures { IfOk result
+        (λ before. before.items ≡ rows_to_move is_resized rows.items picture.now.screen) }
 {
     if is_resized {
         return blank_rows(alloc, picture.screen.width(), picture.screen.height());
     }
-    push_scrolls(alloc, events, rows, olds, picture.views.as_slice())
+    Ok(rows)
 }
 
 // Tells what differs, and gives what was told then.
@@ -182,18 +191,23 @@ fn told_next(
         is_recoloured,
         Redraw::DefaultColors { colours },
     )?;
+    let shifts = moves(alloc, is_resized, old_views.as_slice(), &picture)?;
+    let before = rows_to_move(alloc, is_resized, old_rows, &picture)?;
+    let mut rows = rows_after_shifts(alloc, before, shifts.as_slice())?;
+    let drawn = picture.screen.rows();
+    let flags = rows_shown(alloc, attrs.as_slice(), drawn, rows.as_slice())?;
     let count = attrs.len();
-    add_attrs_of_rows(&mut attrs, picture.screen.rows())?;
+    add_attrs_of_rows(&mut attrs, flags.as_slice(), drawn)?;
     push_attrs(&mut events, attrs.as_slice(), count)?;
     push_if(&mut events, is_resized, Redraw::Clear { grid: 1 })?;
-    let olds = old_views.as_slice();
-    let mut rows = push_moves(alloc, &mut events, is_resized, old_rows, olds, &picture)?;
+    push_scrolls(&mut events, shifts.as_slice())?;
     push_rows(
         alloc,
         &mut events,
         &mut rows,
         attrs.as_slice(),
-        picture.screen.rows(),
+        flags.as_slice(),
+        drawn,
     )?;
     let cursor = picture.cursor;
     let is_moved = !is_place(cursor_before(is_resized, old_cursor), cursor);

@@ -1,6 +1,12 @@
-use Rattle.std.proofs.Common.{◌≡◌, drop}
+use Rattle.std.proofs.Common.{◌≡◌, List, drop}
+use Rattle.nv_hl.specs.declared.cell.Cell.{Cell}
+use Rattle.nv_linegrid.specs.Client.{ShownRows}
 use Rattle.nv_linegrid.specs.Told.{with_attrs_of_rows}
+use Rattle.nv_painter.specs.inside.Sketch.{IsSketch}
 use Rattle.nv_painter.proofs.ids.add_attrs_of_rows.Given as goal
 
-abbrev pub invariant-loop-row : goal.invariant-loop-row
-invariant-loop-row l = with_attrs_of_rows l.attrs.items (drop l.row-index l.rows) ≡ with_attrs_of_rows l.fn.attrs.items l.rows
+abbrev pub invariant-loop-k : goal.invariant-loop-k
+invariant-loop-k l =
+    (rows : ShownRows) (screen : List (List Cell)) → IsSketch l.flags l.drawn l.fn.attrs.items rows screen
+    → (with_attrs_of_rows l.attrs.items (drop l.k screen) ≡ with_attrs_of_rows l.fn.attrs.items screen)
+    × IsSketch l.flags l.drawn l.attrs.items rows screen

@@ -1,12 +1,16 @@
-use Rattle.std.proofs.Common.{◌≡◌, ◌++◌, drop, length, take}
+use Rattle.std.proofs.Common.{◌≡◌, ◌++◌, List, drop, length}
+use Rattle.nv_hl.specs.declared.cell.Cell.{Cell}
 use Rattle.nv_linegrid.specs.Rows.{lines_of_rows}
-use Rattle.nv_linegrid.specs.Told.{known_rows, shown_rows}
+use Rattle.nv_linegrid.specs.Told.{shown_rows}
+use Rattle.nv_painter.specs.inside.Sketch.{IsSketch}
+use Rattle.nv_painter.proofs.SketchLemmas.{ToldTo}
 use Rattle.nv_painter.proofs.lines.push_rows.Given as goal
 
 abbrev pub invariant-loop-k : goal.invariant-loop-k
 invariant-loop-k l = record {
-  high : length l.rows.items ≡ length l.screen;
-  events : l.events.items ++ lines_of_rows l.k (drop l.k l.rows.items) (shown_rows l.attrs (drop l.k l.screen))
-      ≡ l.fn.events.items ++ lines_of_rows 0 l.fn.rows.items (shown_rows l.attrs l.screen);
-  rows : take l.k l.rows.items ≡ known_rows (shown_rows l.attrs (take l.k l.screen));
+  high : length l.rows.items ≡ length l.drawn;
+  rest : drop l.k l.rows.items ≡ drop l.k l.fn.rows.items;
+  told : (screen : List (List Cell)) → IsSketch l.flags l.drawn l.attrs l.fn.rows.items screen
+      → ToldTo l.k l.attrs screen l.rows.items l.events.items
+      (l.fn.events.items ++ lines_of_rows 0 l.fn.rows.items (shown_rows l.attrs screen));
 }
