@@ -5,6 +5,7 @@ pub mod PatchLemmas
 pub mod ShapeLemmas
 pub mod SoundLemmas
 pub mod StatusLemmas
+pub mod SteadyLemmas
 pub mod Strips
 pub mod TextLemmas
 pub mod WholeScreens

@@ -30,7 +30,7 @@ pub record Within (row n col k r c : ℕ) : Type 0 where
 abbrev pub Outside : ℕ → ℕ → ℕ → ℕ → ℕ → ℕ → Type 0
 Outside row n col k r c = ((r < row) ⊎ (row + n ≤ r)) ⊎ ((c < col) ⊎ (col + k ≤ c))
 
-decide : (row n col k r c : ℕ) → Within row n col k r c ⊎ Outside row n col k r c
+pub decide : (row n col k r c : ℕ) → Within row n col k r c ⊎ Outside row n col k r c
 decide row n col k r c =
     ⊎_elim (λ (a : r < row). inr (inl (inl a)))
     (λ (top : row ≤ r).
@@ -54,11 +54,11 @@ span_out from size x out =
     ⊎_elim (λ (a : x < from). grind (arith, nat_tests)) (λ (a : from + size ≤ x). grind (arith, nat_tests)) out in
     ap (λ b. cond b 1 0) no
 
-rect_in : (a : Rect) (r c : ℕ) → Within a.row a.height a.col a.width r c → in_rect r c a ≡ 1
+pub rect_in : (a : Rect) (r c : ℕ) → Within a.row a.height a.col a.width r c → in_rect r c a ≡ 1
 rect_in a r c i =
     (λ j. span_in a.row a.height r i.top i.bottom j * span_in a.col a.width c i.left i.right j)
 
-rect_out : (a : Rect) (r c : ℕ) → Outside a.row a.height a.col a.width r c → in_rect r c a ≡ 0
+pub rect_out : (a : Rect) (r c : ℕ) → Outside a.row a.height a.col a.width r c → in_rect r c a ≡ 0
 rect_out a r c out =
     ⊎_elim
     (λ (o : (r < a.row) ⊎ (a.row + a.height ≤ r)).

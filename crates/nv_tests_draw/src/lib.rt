@@ -8,4 +8,6 @@ mod redraw;
 #[cfg(test)]
 mod screen;
 #[cfg(test)]
+mod steady;
+#[cfg(test)]
 mod text_lines;

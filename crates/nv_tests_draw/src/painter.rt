@@ -65,7 +65,7 @@ fn one_line(alloc: Global, bytes: &[u8]) -> Result<Vec<SceneLine>, AllocError>
     Ok(lines)
 }
 
-fn two_lines(
+pub fn two_lines(
     alloc: Global,
     row: u32,
     upper: &[u8],
@@ -143,7 +143,7 @@ fn scene_with(alloc: Global, size: (u32, u32), pane: Pane, row: u32) -> Result<S
     })
 }
 
-fn scene_of(
+pub fn scene_of(
     alloc: Global,
     size: (u32, u32),
     lines: Vec<SceneLine>,
