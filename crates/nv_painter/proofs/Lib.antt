@@ -1,5 +1,6 @@
 pub mod KeptLemmas
 pub mod IdLemmas
+pub mod LastLemmas
 pub mod LineLemmas
 pub mod LoneLemmas
 pub mod MoveLemmas

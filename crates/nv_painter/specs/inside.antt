@@ -1,4 +1,5 @@
 pub mod Kept
+pub mod Last
 pub mod Lent
 pub mod Lone
 pub mod Moving

@@ -10,6 +10,7 @@ mod lines;
 mod painter;
 mod scrolling;
 mod shown;
+mod sketch;
 mod speaking;
 mod told;
 mod view;

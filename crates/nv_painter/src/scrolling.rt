@@ -4,7 +4,7 @@ ghost use Rattle.nv_linegrid.specs.Client.{cells_from, row_between, row_from};
 ghost use Rattle.nv_linegrid.specs.Scrolls.{is_same_text, rows_after_shift, rows_after_shifts, scroll_of, shift_between, shift_by, shift_in, shifts_between};
 ghost use Rattle.nv_painter.specs.inside.Moving.{EndsInReach, row_after_shift, rows_up};
 ghost use Rattle.std.specs.Ordering.{int_eq};
-ghost use Rattle.std.specs.Prelude.{◌≡◌, ◌<◌, ◌≤◌, ◌++◌, ◌∷◌, ◌&&◌, ◌==◌, [], All, IfOk, MatchOption, None, OnOk, get_or, if◌then◌else◌, length, map, min, nat_le, nat_lt, sum, take};
+ghost use Rattle.std.specs.Prelude.{◌≡◌, ◌<◌, ◌≤◌, ◌++◌, ◌∷◌, ◌&&◌, ◌==◌, [], All, IfOk, IsTrue, MatchOption, None, OnOk, get_or, if◌then◌else◌, length, map, min, nat_le, nat_lt, sum, take};
 
 use crate::shown::{ShownCell, ShownRow};
 use crate::view::PaneView;
@@ -285,6 +285,19 @@ pub fn shifts_between(
         }
     }
     Ok(shifts)
+}
+
+/// Whether the text of no window moved. False may stand where none did.
+pub fn are_still(olds: &[PaneView], news: &[PaneView]) -> bool
+    requires { All EndsInReach news.now }
+    ensures { IsTrue result → shifts_between olds.now news.now ≡ [] }
+{
+    for new in news {
+        if shift_in(olds, new).is_some() {
+            return false;
+        }
+    }
+    true
 }
 
 /// The rows after all shifts.

@@ -3,16 +3,21 @@
 ghost use Rattle.nv_linegrid.specs.Batch.{batch, event_if, is_place, is_size, same_colours, told_after};
 ghost use Rattle.nv_linegrid.specs.Laws.{ShowsWanted};
 ghost use Rattle.nv_linegrid.specs.Told.{IsDrawn, nothing_told};
+ghost use Rattle.nv_linegrid.specs.Scrolls.{shifts_between};
+ghost use Rattle.nv_painter.specs.Pictures.{picture_of, views_of};
+ghost use Rattle.nv_painter.specs.inside.Last.{IsSketchOf};
 ghost use Rattle.nv_painter.specs.inside.Moving.{EndsInReach, moves, rows_to_move};
-ghost use Rattle.std.specs.Prelude.{◌≡◌, ◌++◌, All, IfOk, None, OnOk, if◌then◌else◌, map};
+ghost use Rattle.nv_screen.specs.Cursor.{cursor_of_scene};
+ghost use Rattle.std.specs.Prelude.{◌≡◌, ◌++◌, [], true, All, IfOk, IsTrue, None, OnOk, if◌then◌else◌};
 
 use crate::ids::{add_attrs_of_rows, push_attrs, rows_shown};
 use crate::lines::push_rows;
-use crate::scrolling::{Shift, push_scrolls, rows_after_shifts, shifts_between};
+use crate::scrolling::{Shift, are_still, push_scrolls, rows_after_shifts, shifts_between};
 use crate::shown::{ShownRow, blank_rows};
 use crate::view::PaneView;
-use nv_hl::{Attr, Colours, Grid};
+use nv_hl::{Attr, Colours, Grid, Row};
 use nv_linegrid::Redraw;
+use nv_screen::Scene;
 use std::alloc::{AllocError, Global};
 use std::marker::Model;
 use std::mem;
@@ -75,6 +80,14 @@ impl Model for ToldScreen {
       cursor = t.cursor;
       views = t.views.items;
     }) };
+}
+
+/// What a scene shows otherwise than the one before: a flag for each row that stays as it is, and
+/// the rows, which have no cells where they stay.
+#[derive(Drop)]
+pub struct Sketch {
+    pub flags: Vec<bool>,
+    pub drawn: Vec<Row>,
 }
 
 fn is_size(size: Option<(u32, u32)>, width: u32, height: u32) -> bool
@@ -229,6 +242,67 @@ fn told_next(
     Ok((events, told))
 }
 
+// Tells what differs of a scene of the same size, in which nothing moved: only the rows that are
+// drawn are looked at.
+fn told_of_sketch(
+    alloc: Global,
+    old: ToldScreen,
+    scene: &Scene,
+    cursor: (u32, u32),
+    views: Vec<PaneView>,
+    sketch: &Sketch,
+) -> Result<(Vec<Redraw>, ToldScreen), AllocError>
+    requires drawn { IsDrawn (picture_of scene.now) }
+    requires cursor { cursor ≡ cursor_of_scene scene.now }
+    requires views { views.items ≡ views_of scene.now.panes.items }
+    requires sketch { IsSketchOf old sketch.now.flags.items sketch.now.drawn.items scene.now }
+    ensures events { IfOk result (λ next. next.0.items ≡ batch old (picture_of scene.now)) }
+    ensures told { IfOk result (λ next. next.1 ≡ told_after old (picture_of scene.now)) }
+    ensures shows { IfOk result (λ next. ShowsWanted old (picture_of scene.now)) }
+{
+    let (old_colours, old_cursor) = (old.colours, old.cursor);
+    let mut rows = old.rows;
+    let mut attrs = old.attrs;
+    let flags = sketch.flags.as_slice();
+    let drawn = sketch.drawn.as_slice();
+    let mut events = Vec::new(alloc);
+    let colours = scene.colours;
+    let is_recoloured = !are_same_colours(old_colours, colours);
+    push_if(
+        &mut events,
+        is_recoloured,
+        Redraw::DefaultColors { colours },
+    )?;
+    let count = attrs.len();
+    add_attrs_of_rows(&mut attrs, flags, drawn)?;
+    push_attrs(&mut events, attrs.as_slice(), count)?;
+    push_rows(
+        alloc,
+        &mut events,
+        &mut rows,
+        attrs.as_slice(),
+        flags,
+        drawn,
+    )?;
+    let is_moved = !is_place(old_cursor, cursor);
+    let place = Redraw::Goto {
+        grid: 1,
+        row: cursor.0,
+        col: cursor.1,
+    };
+    push_if(&mut events, is_moved, place)?;
+    events.push(Redraw::Flush)?;
+    let told = ToldScreen {
+        size: Some((scene.width, scene.height)),
+        rows,
+        attrs,
+        colours: Some(colours),
+        cursor: Some(cursor),
+        views,
+    };
+    Ok((events, told))
+}
+
 impl ToldScreen {
     /// Nothing was told.
     pub fn new(alloc: Global) -> ToldScreen
@@ -253,6 +327,40 @@ impl ToldScreen {
     {
         let old = mem::replace(self, ToldScreen::new(alloc));
         let (events, told) = told_next(alloc, old, picture)?;
+        *self = told;
+        Ok(events)
+    }
+
+    /// Whether this size was told, and the text of no window moved. False may stand where none did.
+    pub fn is_steady(&self, width: u32, height: u32, views: &[PaneView]) -> bool
+        requires { All EndsInReach views.now }
+        ensures size { IsTrue result → is_size self.now.size width height ≡ true }
+        ensures still { IsTrue result → shifts_between self.now.views views.now ≡ [] }
+    {
+        is_size(self.size, width, height) && are_still(self.views.as_slice(), views)
+    }
+
+    /// Tells what differs of a scene of the same size, in which nothing moved.
+    pub fn tell_sketch(
+        &mut self,
+        alloc: Global,
+        scene: &Scene,
+        cursor: (u32, u32),
+        views: Vec<PaneView>,
+        sketch: &Sketch,
+    ) -> Result<Vec<Redraw>, AllocError>
+        requires drawn { IsDrawn (picture_of scene.now) }
+        requires cursor { cursor ≡ cursor_of_scene scene.now }
+        requires views { views.items ≡ views_of scene.now.panes.items }
+        requires sketch { IsSketchOf self.old sketch.now.flags.items sketch.now.drawn.items
+            scene.now }
+        ensures events { IfOk result
+            (λ events. events.items ≡ batch self.old (picture_of scene.now)) }
+        ensures told { OnOk result (self.new ≡ told_after self.old (picture_of scene.now)) }
+        ensures shows { IfOk result (λ events. ShowsWanted self.old (picture_of scene.now)) }
+    {
+        let old = mem::replace(self, ToldScreen::new(alloc));
+        let (events, told) = told_of_sketch(alloc, old, scene, cursor, views, sketch)?;
         *self = told;
         Ok(events)
     }

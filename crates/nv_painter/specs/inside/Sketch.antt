@@ -16,7 +16,8 @@ abbrev pub HaveIds : List Attr → List Cell → Type 0
 HaveIds attrs cells = AllByRecursion (λ c. has_id attrs c.attr ≡ true) cells
 
 -- inside: a row shows these cells, whose attributes have ids
-pub record ShowsCells (attrs : List Attr) (cells : List Cell) (row : List (Option Shown)) : Type 0 where
+pub record ShowsCells (attrs : List Attr) (cells : List Cell)
+    (row : List (Option Shown)) : Type 0 where
   pub ids : HaveIds attrs cells
   pub row_is : row ≡ map Some (map (shown_cell attrs) cells)
 
