@@ -1,5 +1,5 @@
 -- A session that is left, and its close.
-use Rattle.std.proofs.Common.{◌≡◌, ℕ, Bool, true, false, List, [], ◌∷◌, ◌++◌, Option, Some, None, refl, sym, ap, ◌∙◌, subst, inl, inr, arith}
+use Rattle.std.proofs.Common.{◌≡◌, ℕ, Bool, true, false, List, [], ◌∷◌, ◌++◌, Option, Some, None, refl, sym, ap, ◌∙◌, subst, inl, inr}
 use Rattle.std.proofs.lemmas.List.{append-nil}
 use Rattle.std.specs.Io.KnownBytes.{append_known}
 use Rattle.nv_io.specs.declared.ending.Flaw.{Flaw}
@@ -102,7 +102,6 @@ all_unclosed start flaw bytes h b a l =
     record {
       calls = l.calls;
       next = [];
-      at_most_one = omega arith;
       whole = r.0;
       rest = r.1;
       parts = r.2;
@@ -125,7 +124,6 @@ some_closed start bytes h k b a s g =
     record {
       calls = s.calls;
       next = s.next;
-      at_most_one = s.at_most_one;
       whole = s.whole;
       rest = s.rest;
       parts = s.parts;
@@ -144,7 +142,6 @@ some_unclosed : (start : Start) (bytes : List ℕ) (h : List Entry) (b a : Optio
 some_unclosed start bytes h b a s = record {
   calls = s.calls;
   next = s.next;
-  at_most_one = s.at_most_one;
   whole = s.whole;
   rest = s.rest;
   parts = s.parts;

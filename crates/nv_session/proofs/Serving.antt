@@ -88,6 +88,7 @@ pub up_to_then : (start : Start) (cause : Cause) (calls more : List Call) (a b c
 up_to_then start cause calls more a b c t u x y z p q = record {
   later = q.later;
   went = went_then start calls more a b c t u q.later x y z p q.went;
+  nothing_due = q.nothing_due;
   whatever = q.whatever;
   cause_is = q.cause_is;
 }
@@ -204,7 +205,6 @@ abbrev pub cut_then : (Is : Start → List Call → List Entry → Type 0) (byte
 cut_then Is bytes piece first second last a b c p q = record {
   calls = p.calls ++ q.calls;
   next = q.next;
-  at_most_one = q.at_most_one;
   whole = p.whole ++ q.whole;
   rest = q.rest;
   parts = parts_then bytes piece p.whole second.stream.held q.whole q.rest p.parts q.parts;
@@ -314,7 +314,6 @@ some_answered Is bytes s last a b n h earlier =
     record {
       calls = h.calls;
       next = h.next;
-      at_most_one = h.at_most_one;
       whole = h.whole;
       rest = h.rest;
       parts = h.parts;
@@ -401,7 +400,6 @@ pub leaves_before : (start : Start) (left out : Option (List ℕ)) → LeavesWit
 leaves_before start left out = record {
   calls = [];
   next = [];
-  at_most_one = omega arith;
   whole = [];
   rest = [];
   parts = refl;

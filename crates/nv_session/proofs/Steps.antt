@@ -31,9 +31,9 @@ use Rattle.nv_session.specs.Sending.{AreBytesTaken, history_of, cause_after, Has
 use Rattle.nv_world.specs.declared.story.Start.{Start}
 use Rattle.nv_halves.specs.Reading.{most_depth, most_bytes, Calls, EndsAt, IsUnfinished, IfInside}
 use Rattle.nv_session.specs.Ends.{IsFront}
-use Rattle.nv_session.specs.inside.Alone.{HasNothingDue, IsAlone, IsClosing, IsSent, bytes_of_batch, Answers, IsUnanswered, WentOn, WentPart, WentUpTo}
+use Rattle.nv_session.specs.inside.Alone.{HasNothingDue, IsAlone, IsSent, bytes_of_batch, Answers, IsUnanswered, WentOn, WentPart, WentUpTo}
 use Rattle.nv_session.specs.inside.Worlds.{entries_in, IsEndedBy}
-use Rattle.nv_session.specs.inside.Serving.{SessionState, begun_with, session_entries, client_told, IsReady, IsNew, WroteSome, IsCutShort, AnswersCall, StopsAtCall, StopsAtValue, ServesCalls, FinishesCalls, StopsShort, StopsClosed, EndsIn, end_by_flaw}
+use Rattle.nv_session.specs.inside.Serving.{SessionState, begun_with, session_entries, client_told, IsReady, IsNew, AnswersCall, StopsAtCall, StopsAtValue, ServesCalls, FinishesCalls, StopsShort, StopsClosed, EndsIn, end_by_flaw}
 use Rattle.nv_session.proofs.Sending.{sent_bytes, sent_alike, sent_nil}
 use Rattle.nv_session.proofs.Serving.{known_none, went_none, served_none}
 use Rattle.nv_session.proofs.Lone.{alone_front, rest_front, closing, closed_taken, alone_if, whatever}
@@ -60,7 +60,7 @@ pub due_has : (start : Start) (h : List Entry) → HasNothingDue start h → Has
 due_has start h a = record { now = a.now; runs = a.runs; one = a.one; there = a.there }
 
 -- what is sent of the calls that were answered
-rest_answered : (start : Start) (h : List Entry) (told : Told) (a : HasNothingDue start h) (bytes : List ℕ) → IsSent start h told bytes → AreBytesTaken start (history_of start (calls_of 1 h ++ [])) (bytes ++ [])
+pub rest_answered : (start : Start) (h : List Entry) (told : Told) (a : HasNothingDue start h) (bytes : List ℕ) → IsSent start h told bytes → AreBytesTaken start (history_of start (calls_of 1 h ++ [])) (bytes ++ [])
 rest_answered start h told a bytes s =
     sent_nil start (history_of start (calls_of 1 h ++ [])) bytes
     (subst (λ (l : List Call). AreBytesTaken start (history_of start l) bytes) (sym (append-nil (calls_of 1 h)))
@@ -84,7 +84,6 @@ pub cut_none : (bytes : List ℕ) (s last : SessionState) (out : Option (List �
 cut_none bytes s last out r e = record {
   calls = [];
   next = [];
-  at_most_one = omega arith;
   whole = [];
   rest = bytes;
   parts = refl;
@@ -216,7 +215,6 @@ cut_in_call : (Is : Start → List Call → List Entry → Type 0) (v : Value) (
 cut_in_call Is v old middle new before after call r g e b = record {
   calls = [];
   next = call ∷ [];
-  at_most_one = omega arith;
   whole = g.gives.0;
   rest = middle.stream.held;
   parts = g.gives.3;
@@ -239,7 +237,7 @@ closed_in_call cause v old middle new before after call r g e b = record {
 pub refused : (ended : Ended) (v : Value) (old middle new : SessionState) (before after : Option (List ℕ)) → IsReady old → Given v old middle → StopsAtValue ended (content v) middle new before after → EndsIn ⊥ ended old.stream.held old new before after
 refused (Malformed flaw) v old middle new before after r g h =
     (no_call_here flaw v old middle new before after r g h.0 h.1 h.2 h.3, not_inside flaw middle.number h.0)
-refused WriteFault v old middle new before after r g h = cut_in_call IsClosing v old middle new before after h.0 r g h.1 h.2
+refused WriteFault v old middle new before after r g h = absurd h.2
 refused NoMemory v old middle new before after r g h = cut_in_call IsFront v old middle new before after h.0 r g h.1 h.2
 refused (Overflowed entry) v old middle new before after r g h = closed_in_call (overflowed_at entry) v old middle new before after h.0 r g h.1 h.2
 refused (Quit entry) v old middle new before after r g h = closed_in_call (quit_at entry) v old middle new before after h.0 r g h.1 h.2
@@ -325,35 +323,23 @@ unanswered_part start h k call told out a u = record {
   is = subst (λ (l : List Call). IsFront start (l ++ call ∷ []) k) (sym (append-nil (calls_of 1 h))) u.front;
 }
 
--- a part of what a call made due went out
-pub spoken_part : (start : Start) (Is : Start → List Call → List Entry → Type 0) (h k : List Entry) (call : Call) (messages : List Sent) (scene : Option Scene) (told : Told) (before after : Option (List ℕ)) → IsAlone start h
-    → Answers start call messages scene h k → WroteSome (bytes_of_batch told messages scene) before after → Is start (calls_of 1 k) k → WentPart start Is [] (call ∷ []) h k told before after
-spoken_part start Is h k call messages scene told before after a w front is = record {
-  has = record { now = w.nothing_due.now; runs = w.nothing_due.runs; one = w.nothing_due.one; there = w.nothing_due.there };
+-- a call was answered, and memory was wanting for the bytes of its answer
+pub unspoken_part : (start : Start) (h k : List Entry) (call : Call) (messages : List Sent) (scene : Option Scene) (told : Told) (out : Option (List ℕ)) → IsAlone start h → Answers start call messages scene h k
+    → WentPart start IsFront [] (call ∷ []) h k told out out
+unspoken_part start h k call messages scene told out a w = record {
+  has = due_has start k w.nothing_due;
   gave = [];
   last = bytes_of_batch told messages scene;
-  count = front.0;
+  count = 0;
   answered = λ bytes s. rest_answered start h told a.nothing_due bytes s;
   sent = λ bytes s.
       subst (λ (l : List ℕ). AreBytesTaken start k (l ++ bytes_of_batch told messages scene)) (sym (append-nil bytes))
       (sent_bytes start k (told_with told scene) (bytes ++ bytes_of_batch told messages scene) (w.sent told bytes s));
-  written = front.1;
-  is = subst (λ (l : List Call). Is start (l ++ call ∷ []) k) (sym (append-nil (calls_of 1 h))) (subst (λ (l : List Call). Is start l k) w.asked is);
+  written = known_none out;
+  is = subst (λ (l : List Call). IsFront start (l ++ call ∷ []) k) (sym (append-nil (calls_of 1 h))) (subst (λ (l : List Call). IsFront start l k) w.asked (rest_front start k w.nothing_due));
 }
 
-pub cut_speaking : (ended : Ended) (call : Call) (messages : List Sent) (scene : Option Scene) (old new : WorldRecord) (told : Told) (before after : Option (List ℕ)) → IsAlone (start_of old) (entries_in old)
-    → Answers (start_of old) call messages scene (entries_in old) (entries_in new) → IsCutShort ended × WroteSome (bytes_of_batch told messages scene) before after → StopsAtCall ended call old new told before after
-cut_speaking WriteFault call messages scene old new told before after a w h =
-    spoken_part (start_of old) IsClosing (entries_in old) (entries_in new) call messages scene told before after a w h.1 (closing (start_of old) (entries_in new) w.nothing_due)
-cut_speaking NoMemory call messages scene old new told before after a w h =
-    spoken_part (start_of old) IsFront (entries_in old) (entries_in new) call messages scene told before after a w h.1 (rest_front (start_of old) (entries_in new) w.nothing_due)
-cut_speaking Closed call messages scene old new told before after a w h = absurd h.0
-cut_speaking (Malformed flaw) call messages scene old new told before after a w h = absurd h.0
-cut_speaking ReadFault call messages scene old new told before after a w h = absurd h.0
-cut_speaking (Overflowed entry) call messages scene old new told before after a w h = absurd h.0
-cut_speaking (Quit entry) call messages scene old new told before after a w h = absurd h.0
-
--- all of it went out
+-- all of it waits
 spoken_all : (start : Start) (h k : List Entry) (call : Call) (messages : List Sent) (scene : Option Scene) (told : Told) (before after : Option (List ℕ)) → Answers start call messages scene h k
     → after ≡ append_known before (bytes_of_batch told messages scene) → WentOn start (call ∷ []) h k told (told_with told scene) before after
 spoken_all start h k call messages scene told before after w e =
@@ -376,6 +362,7 @@ goes_up_to : (start : Start) (cause : Cause) (call : Call) (messages : List Sent
 goes_up_to start cause call messages scene h k told before after w e c = record {
   later = told_with told scene;
   went = spoken_all start h k call messages scene told before after w e;
+  nothing_due = w.nothing_due;
   whatever = whatever start k w.nothing_due cause c;
   cause_is = c;
 }

@@ -64,15 +64,14 @@ IsHistoryOf start calls kept = kept ≡ history_of start calls
 abbrev pub IsFront : Start → List Call → List Entry → Type 0
 IsFront start calls kept = (more : List Entry) × (history_of start calls ≡ kept ++ more)
 
--- The bytes read begin with calls that were answered whole, and then with one more at most; the
--- history is, so far as `Is` says, that of a session that makes them. What went out grew by all
--- that is sent of what was taken for the former calls, and a prefix of what is sent for the last.
--- Each call that was whole before the last read was answered whole.
+-- The bytes read begin with calls whose answers went out whole, and then with the next ones; the
+-- history is, so far as `Is` says, that of a session that makes them all. What went out grew by all
+-- that is sent of what was taken for the former calls, and a prefix of what is sent for the next
+-- ones together. Each call that was whole before the last read was answered whole.
 pub record AnswersSome (start : Start) (Is : Start → List Call → List Entry → Type 0)
     (bytes : List ℕ) (kept : List Entry) (before after : Option (List ℕ)) : Type 0 where
   pub calls : List Call
   pub next : List Call
-  pub at_most_one : length next ≤ 1
   pub whole : List ℕ
   pub rest : List ℕ
   pub parts : bytes ≡ whole ++ rest

@@ -18,11 +18,11 @@ ghost use Rattle.nv_halves.specs.Passes.{start_of};
 ghost use Rattle.nv_session.specs.Sending.{HasSession};
 ghost use Rattle.nv_session.specs.inside.Alone.{IsAlone};
 ghost use Rattle.nv_session.specs.inside.Leaving.{LeavesWith, IsClosedSo, leaves_open};
-ghost use Rattle.nv_session.specs.inside.Serving.{IsUnusedSession, IsReady, IsNew, AnswersCall, StopsAtCall, StopsAtValue, StepsOn, Serves, TakesPiece, Turns, end_by_flaw, state_of};
+ghost use Rattle.nv_session.specs.inside.Serving.{IsUnusedSession, IsReady, IsNew, AnswersCall, StopsAtCall, StopsAtValue, StepsOn, Serves, TakesPiece, Turns, bytes_waiting, end_by_fault, end_by_flaw, state_of};
 ghost use Rattle.nv_session.specs.inside.Worlds.{entries_in};
 
 use crate::asking::{answer, close, ended, open};
-use crate::speaking::speak;
+use crate::speaking::Outgoing;
 use nv_io::{Ended, Flaw, Got, Sink, Source};
 use nv_msgpack::Bounds;
 use nv_painter::Painter;
@@ -54,8 +54,8 @@ pub struct Session {
     number: u64,
     // What its client was told of the screen.
     painter: Painter,
-    // The bytes that go out.
-    room: Vec<u8>,
+    // What it answered that wasn't written yet.
+    outgoing: Outgoing,
 }
 
 impl Session {
@@ -68,7 +68,7 @@ impl Session {
             stream: Stream::new(alloc, BOUNDS)?,
             number: 0,
             painter: Painter::new(alloc)?,
-            room: Vec::new(alloc),
+            outgoing: Outgoing::new(alloc),
         })
     }
 
@@ -90,37 +90,25 @@ impl Session {
         }
     }
 
-    // Answers a call.
-    fn answer_call<R: Net<Listener = TcpListener, Stream = TcpStream>, S: Sink>(
-        &mut self,
-        rt: &R,
-        world: &mut World,
-        call: Frame,
-        output: &mut S,
-    ) -> Result<(), Ended>
+    // Answers a call. What it makes due waits to be written, behind what waits already.
+    fn answer_call(&mut self, world: &mut World, call: Frame) -> Result<(), Ended>
         requires light { IsLightCall (call_of_frame call) }
         requires number { self.old.number < 2 ^ 63 }
         requires alone { IsAlone (start_of world.old) (entries_in world.old) }
         ensures ok { OnOk result (AnswersCall (call_of_frame call) (state_of self.old world.old)
-            (state_of self.new world.new) (S.taken output.old) (S.taken output.new)) }
+            (state_of self.new world.new) (Some (bytes_waiting self.old))
+            (Some (bytes_waiting self.new))) }
         ensures err { IfErr result (λ ended. StopsAtCall ended (call_of_frame call) world.old
-            world.new self.old.painter.told (S.taken output.old) (S.taken output.new)) }
+            world.new self.old.painter.told (Some (bytes_waiting self.old))
+            (Some (bytes_waiting self.new))) }
         ensures begins { start_of world.new ≡ start_of world.old }
-        ensures later { S.faults output.old ≤ S.faults output.new }
-        ensures fault { result ≡ Err Ended.WriteFault
-            → Rose (S.faults output.old) (S.faults output.new) }
     {
         let Ok(batch) = answer(self.alloc, world, call) else {
             return Err(Ended::NoMemory);
         };
-        speak(
-            rt,
-            self.alloc,
-            batch,
-            &mut self.painter,
-            &mut self.room,
-            output,
-        )?;
+        let Ok(()) = self.outgoing.add(self.alloc, batch, &mut self.painter) else {
+            return Err(Ended::NoMemory);
+        };
         self.number += 1;
         match ended(world) {
             None => Ok(()),
@@ -129,57 +117,41 @@ impl Session {
     }
 
     // Answers the call that a value is.
-    fn serve<R: Net<Listener = TcpListener, Stream = TcpStream>, S: Sink>(
-        &mut self,
-        rt: &R,
-        world: &mut World,
-        value: Value,
-        output: &mut S,
-    ) -> Result<(), Ended>
+    fn serve(&mut self, world: &mut World, value: Value) -> Result<(), Ended>
         requires spelled { (front : List ℕ)
             × SpellsWithin most_depth most_bytes (content value) front }
         requires number { self.old.number < 2 ^ 63 }
         requires alone { IsAlone (start_of world.old) (entries_in world.old) }
         ensures ok { OnOk result ((call : Call) × (call_in (content value) ≡ Some call)
             × AnswersCall call (state_of self.old world.old) (state_of self.new world.new)
-            (S.taken output.old) (S.taken output.new)) }
+            (Some (bytes_waiting self.old)) (Some (bytes_waiting self.new))) }
         ensures err { IfErr result (λ ended. StopsAtValue ended (content value)
             (state_of self.old world.old) (state_of self.new world.new)
-            (S.taken output.old) (S.taken output.new)) }
+            (Some (bytes_waiting self.old)) (Some (bytes_waiting self.new))) }
         ensures begins { start_of world.new ≡ start_of world.old }
-        ensures later { S.faults output.old ≤ S.faults output.new }
-        ensures fault { result ≡ Err Ended.WriteFault
-            → Rose (S.faults output.old) (S.faults output.new) }
     {
         match call_of(value) {
-            Ok(call) => self.answer_call(rt, world, call, output),
+            Ok(call) => self.answer_call(world, call),
             Err(_) => Err(Ended::Malformed(Flaw::NoCall(self.number))),
         }
     }
 
     // Answers the next call of what it holds. `false` where that needs more bytes.
-    fn step<R: Net<Listener = TcpListener, Stream = TcpStream>, S: Sink>(
-        &mut self,
-        rt: &R,
-        world: &mut World,
-        output: &mut S,
-    ) -> Result<bool, Ended>
+    fn step(&mut self, world: &mut World) -> Result<bool, Ended>
         requires ready { IsReady (state_of self.old world.old) }
         requires fits { self.old.stream.start + length self.old.stream.held < 2 ^ 63 }
         ensures steps { StepsOn result (state_of self.old world.old) (state_of self.new world.new)
-            (S.taken output.old) (S.taken output.new) }
+            (Some (bytes_waiting self.old)) (Some (bytes_waiting self.new)) }
         ensures begins { start_of world.new ≡ start_of world.old }
-        ensures later { S.faults output.old ≤ S.faults output.new }
-        ensures fault { result ≡ Err Ended.WriteFault
-            → Rose (S.faults output.old) (S.faults output.new) }
         ensures no_read { result ≡ Err Ended.ReadFault → ⊥ }
+        ensures no_write { result ≡ Err Ended.WriteFault → ⊥ }
     {
         let Ok(next) = self.stream.next() else {
             return Err(Ended::NoMemory);
         };
         match next {
             Next::Value(value) => {
-                self.serve(rt, world, value, output)?;
+                self.serve(world, value)?;
                 Ok(true)
             }
             Next::More => Ok(false),
@@ -187,7 +159,55 @@ impl Session {
         }
     }
 
-    // Answers the calls of what it holds, one after another.
+    // Answers calls of what it holds, one after another, until so much waits to be written that it
+    // is to go out first. `false` where what it holds needs more bytes.
+    fn answer_some(&mut self, world: &mut World) -> Result<bool, Ended>
+        requires ready { IsReady (state_of self.old world.old) }
+        requires fits { self.old.stream.start + length self.old.stream.held < 2 ^ 63 }
+        ensures steps { StepsOn result (state_of self.old world.old) (state_of self.new world.new)
+            (Some (bytes_waiting self.old)) (Some (bytes_waiting self.new)) }
+        ensures begins { start_of world.new ≡ start_of world.old }
+        ensures no_read { result ≡ Err Ended.ReadFault → ⊥ }
+        ensures no_write { result ≡ Err Ended.WriteFault → ⊥ }
+    {
+        while self.step(world)? {
+            if self.outgoing.is_full() {
+                return Ok(true);
+            }
+        }
+        Ok(false)
+    }
+
+    // Answers calls of what it holds, and writes what waits then, whatever came of them.
+    fn serve_some<R: Net<Listener = TcpListener, Stream = TcpStream>, S: Sink>(
+        &mut self,
+        rt: &R,
+        world: &mut World,
+        output: &mut S,
+    ) -> Result<bool, Ended>
+        requires ready { IsReady (state_of self.old world.old) }
+        requires fits { self.old.stream.start + length self.old.stream.held < 2 ^ 63 }
+        requires nothing_waits { bytes_waiting self.old ≡ [] }
+        ensures steps { StepsOn result (state_of self.old world.old) (state_of self.new world.new)
+            (S.taken output.old) (S.taken output.new) }
+        ensures nothing_waits { bytes_waiting self.new ≡ [] }
+        ensures begins { start_of world.new ≡ start_of world.old }
+        ensures later { S.faults output.old ≤ S.faults output.new }
+        ensures fault { result ≡ Err Ended.WriteFault
+            → Rose (S.faults output.old) (S.faults output.new) }
+        ensures no_read { result ≡ Err Ended.ReadFault → ⊥ }
+    {
+        let answered = self.answer_some(world);
+        if self.outgoing.put_out(rt, output) {
+            return answered;
+        }
+        match answered {
+            Ok(_) => Err(Ended::WriteFault),
+            Err(ended) => Err(end_by_fault(ended)),
+        }
+    }
+
+    // Answers the calls of what it holds, and writes what they make due.
     fn serve_held<R: Net<Listener = TcpListener, Stream = TcpStream>, S: Sink>(
         &mut self,
         rt: &R,
@@ -196,15 +216,17 @@ impl Session {
     ) -> Result<(), Ended>
         requires ready { IsReady (state_of self.old world.old) }
         requires fits { self.old.stream.start + length self.old.stream.held < 2 ^ 63 }
+        requires nothing_waits { bytes_waiting self.old ≡ [] }
         ensures serves { Serves ⊥ result self.old.stream.held (state_of self.old world.old)
             (state_of self.new world.new) (S.taken output.old) (S.taken output.new) }
+        ensures nothing_waits { bytes_waiting self.new ≡ [] }
         ensures begins { start_of world.new ≡ start_of world.old }
         ensures later { S.faults output.old ≤ S.faults output.new }
         ensures fault { result ≡ Err Ended.WriteFault
             → Rose (S.faults output.old) (S.faults output.new) }
         ensures no_read { result ≡ Err Ended.ReadFault → ⊥ }
     {
-        while self.step(rt, world, output)? {}
+        while self.serve_some(rt, world, output)? {}
         Ok(())
     }
 
@@ -224,6 +246,7 @@ impl Session {
             × ((world : WorldRecord) → IsReady (state_of self.old world)
             → TakesPiece (IsAtEnd (I.left input.new)) result piece (state_of self.old world)
             (state_of self.new world)) }
+        ensures waiting { bytes_waiting self.new ≡ bytes_waiting self.old }
         ensures later { I.faults input.old ≤ I.faults input.new }
         ensures fault { result ≡ Err Ended.ReadFault
             → Rose (I.faults input.old) (I.faults input.new) }
@@ -239,7 +262,8 @@ impl Session {
         }
     }
 
-    // Takes a piece and answers the calls that are whole by it.
+    // Takes a piece and answers the calls that are whole by it. Before it ends, all that they made
+    // due was written.
     fn turn<R: Net<Listener = TcpListener, Stream = TcpStream>, I: Source, S: Sink>(
         &mut self,
         rt: &R,
@@ -252,11 +276,13 @@ impl Session {
         requires waits { NeedsMore self.old.stream }
         requires fits { self.old.stream.start + length self.old.stream.held < 2 ^ 62 }
         requires room { length buffer.old ≡ 65536 }
+        requires nothing_waits { bytes_waiting self.old ≡ [] }
         ensures turns { (piece : List ℕ)
             × Gave (I.taken input.old) (I.taken input.new) (I.left input.old)
             (I.left input.new) piece
             × Turns (IsAtEnd (I.left input.new)) result piece (state_of self.old world.old)
             (state_of self.new world.new) (S.taken output.old) (S.taken output.new) }
+        ensures nothing_waits { bytes_waiting self.new ≡ [] }
         ensures begins { start_of world.new ≡ start_of world.old }
         ensures read_later { I.faults input.old ≤ I.faults input.new }
         ensures read_fault { result ≡ Err Ended.ReadFault
@@ -281,6 +307,7 @@ impl Session {
         requires new { IsNew (state_of self.old world.old) }
         requires ready { IsReady (state_of self.old world.old) }
         requires room { length buffer.old ≡ 65536 }
+        requires nothing_waits { bytes_waiting self.old ≡ [] }
         ensures leaves { (bytes : List ℕ)
             × Gave (I.taken input.old) (I.taken input.new) (I.left input.old)
             (I.left input.new) bytes
@@ -342,6 +369,16 @@ impl Session {
     }
 }
 
+// How a session ends whose writing failed, where it was to end so.
+fn end_by_fault(ended: Ended) -> Ended
+    ensures { result ≡ end_by_fault ended }
+{
+    match ended {
+        Ended::NoMemory => Ended::NoMemory,
+        _ => Ended::WriteFault,
+    }
+}
+
 // Whether a session that ends so is still to be closed: no entry has closed it, and memory wasn't
 // wanting.
 fn leaves_open(ended: Ended) -> bool
@@ -366,7 +403,8 @@ fn close_for(world: &mut World, ended: Ended) -> Ended
 }
 
 /// Serves one session alone, whose number is 1, in a world without entries: answers the calls of
-/// `input` on `output`, one after another. Every entry has caller 0.
+/// `input` on `output`, one after another. What the calls of one read make due goes out together,
+/// before the next read. Every entry has caller 0.
 pub fn alone<R: Net<Listener = TcpListener, Stream = TcpStream>, I: Source, S: Sink>(
     rt: &R,
     alloc: Global,

@@ -1,5 +1,6 @@
 //! What a session is sent on its way out.
-ghost use Rattle.std.specs.Prelude.{◌≡◌, ◌≤◌, ◌++◌, map, All, IfOk, OnOk, IfErr, Err};
+ghost use Rattle.std.specs.Prelude.{◌≡◌, ◌≤◌, ◌++◌, [], nat_le, length, map, All, IfOk, OnOk, OnErr};
+ghost use Rattle.std.specs.Bool.{OnTrue, OnFalse};
 ghost use Rattle.std.specs.Io.KnownBytes.{append_known};
 ghost use Rattle.nv_io.specs.Faults.{Rose};
 ghost use Rattle.nv_rpc.specs.Messages.{IsSendable};
@@ -8,14 +9,27 @@ ghost use Rattle.nv_painter.specs.Spoken.{IsSoundIfThere};
 ghost use Rattle.nv_history.specs.Spoken.{told_with};
 ghost use Rattle.nv_world.specs.Contents.{sent_of_shared};
 ghost use Rattle.nv_session.specs.inside.Alone.{bytes_of_batch};
-ghost use Rattle.nv_session.specs.inside.Serving.{WroteSome, IsCutShort};
+ghost use Rattle.nv_session.specs.inside.Serving.{WroteSome};
 
-use nv_io::{Ended, Sink, put_all};
+use nv_io::{Sink, put_all};
 use nv_painter::{Batch as SpokenBatch, Painter};
 use nv_rpc::Message;
 use nv_world::{Batch, SharedMessage};
 use std::alloc::{AllocError, Global};
+use std::mem;
 use std::net::{Net, TcpListener, TcpStream};
+
+/// Where so many bytes wait they go out, before more calls are answered.
+const FULL: usize = 65_536;
+
+/// What goes out of a session: the bytes of its batches, one behind another, wait to be written as
+/// one piece.
+#[derive(Drop)]
+pub struct Outgoing {
+    waiting: Vec<u8>,
+    // Memory for the bytes of a batch, that is used again from one to the next.
+    room: Vec<u8>,
+}
 
 // Each message by itself.
 fn own_messages(alloc: Global, shared: Vec<SharedMessage>) -> Result<Vec<Message>, AllocError>
@@ -49,35 +63,66 @@ fn spell(
     painter.speak(alloc, SpokenBatch { messages, scene }, room)
 }
 
-/// Writes a batch to `output`, as one piece: its messages in order, each in its shortest spelling,
-/// and then the redraw notification that shows its scene to the client, where it has one. `room` is
-/// memory that is used again from batch to batch.
-pub fn speak<R: Net<Listener = TcpListener, Stream = TcpStream>, S: Sink>(
-    rt: &R,
-    alloc: Global,
-    batch: Batch,
-    painter: &mut Painter,
-    room: &mut Vec<u8>,
-    output: &mut S,
-) -> Result<(), Ended>
-    requires sendable { All IsSendable (map sent_of_shared batch.messages.items) }
-    requires sound { IsSoundIfThere batch.scene }
-    ensures ok { OnOk result (S.taken output.new ≡ append_known (S.taken output.old)
-        (bytes_of_batch painter.old.told (map sent_of_shared batch.messages.items) batch.scene)) }
-    ensures told { OnOk result (painter.new.told ≡ told_with painter.old.told batch.scene) }
-    ensures err { IfErr result (λ ended. IsCutShort ended
-        × WroteSome (bytes_of_batch painter.old.told (map sent_of_shared batch.messages.items)
-        batch.scene) (S.taken output.old) (S.taken output.new)) }
-    ensures later { S.faults output.old ≤ S.faults output.new }
-    ensures fault { result ≡ Err Ended.WriteFault
-        → Rose (S.faults output.old) (S.faults output.new) }
-{
-    if spell(alloc, batch, painter, room).is_err() {
-        return Err(Ended::NoMemory);
+impl Outgoing {
+    /// Nothing waits to be written.
+    pub fn new(alloc: Global) -> Outgoing
+        ensures { result.waiting.items ≡ [] }
+    {
+        Outgoing {
+            waiting: Vec::new(alloc),
+            room: Vec::new(alloc),
+        }
     }
-    if put_all(rt, output, room) {
-        Ok(())
-    } else {
-        Err(Ended::WriteFault)
+
+    /// Whether so much waits that it is to be written before more is added.
+    pub fn is_full(&self) -> bool
+        ensures { result ≡ nat_le 65536 (length self.now.waiting.items) }
+    {
+        self.waiting.len() >= FULL
+    }
+
+    /// Puts the bytes of a batch behind what waits: its messages in order, each in its shortest
+    /// spelling, and then the redraw notification that shows its scene to the client, where it has
+    /// one. Without memory what waits stays, and the painter is spent.
+    pub fn add(
+        &mut self,
+        alloc: Global,
+        batch: Batch,
+        painter: &mut Painter,
+    ) -> Result<(), AllocError>
+        requires sendable { All IsSendable (map sent_of_shared batch.messages.items) }
+        requires sound { IsSoundIfThere batch.scene }
+        ensures ok { OnOk result (self.new.waiting.items ≡ self.old.waiting.items
+            ++ bytes_of_batch painter.old.told (map sent_of_shared batch.messages.items)
+            batch.scene) }
+        ensures told { OnOk result (painter.new.told ≡ told_with painter.old.told batch.scene) }
+        ensures err { OnErr result (self.new.waiting.items ≡ self.old.waiting.items) }
+    {
+        spell(alloc, batch, painter, &mut self.room)?;
+        if self.waiting.is_empty() {
+            mem::swap(&mut self.waiting, &mut self.room);
+            return Ok(());
+        }
+        self.waiting.extend_from_slice(&self.room)
+    }
+
+    /// Writes what waits to `output`, as one piece, after which nothing waits. `false` says that a
+    /// write failed: then a part of it from the front went out, maybe none.
+    pub fn put_out<R: Net<Listener = TcpListener, Stream = TcpStream>, S: Sink>(
+        &mut self,
+        rt: &R,
+        output: &mut S,
+    ) -> bool
+        ensures all { OnTrue result
+            (S.taken output.new ≡ append_known (S.taken output.old) self.old.waiting.items) }
+        ensures prefix { WroteSome self.old.waiting.items (S.taken output.old)
+            (S.taken output.new) }
+        ensures nothing_waits { self.new.waiting.items ≡ [] }
+        ensures later { S.faults output.old ≤ S.faults output.new }
+        ensures failed { OnFalse result (Rose (S.faults output.old) (S.faults output.new)) }
+    {
+        let all = put_all(rt, output, &self.waiting);
+        self.waiting.clear();
+        all
     }
 }

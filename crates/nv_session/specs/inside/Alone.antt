@@ -93,8 +93,8 @@ pub record WentOn (start : Start) (calls : List Call) (old new : List Entry) (to
       → IsSent start new later (bytes ++ gave)
   pub written : after ≡ append_known before gave
 
--- A history went on by calls that were answered, and by one more at most whose answer was cut: it
--- is, so far as `Is` says, that of all calls.
+-- A history went on by calls whose answers went out whole, and by the next ones, of whose answers
+-- together a prefix went out: it is, so far as `Is` says, that of all calls.
 pub record WentPart (start : Start) (Is : Start → List Call → List Entry → Type 0)
     (calls next : List Call) (old new : List Entry) (told : Told)
     (before after : Option (List ℕ)) : Type 0 where
@@ -114,5 +114,6 @@ pub record WentUpTo (start : Start) (cause : Cause) (calls : List Call) (old new
     (told : Told) (before after : Option (List ℕ)) : Type 0 where
   pub later : Told
   pub went : WentOn start calls old new told later before after
+  pub nothing_due : HasNothingDue start new
   pub whatever : (more : List Call) → new ≡ history_of start (calls_of 1 new ++ more)
   pub cause_is : cause_after start new ≡ Some cause

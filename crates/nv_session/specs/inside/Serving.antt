@@ -22,11 +22,16 @@ use Rattle.nv_session.specs.inside.Worlds.{entries_in}
 use Rattle.nv_session.specs.inside.Alone.{IsAlone, IsClosing, WentOn, WentPart, WentUpTo}
 use Rattle.nv_session.specs.declared.session.Session.{Session}
 
+-- the bytes of a session that wait to be written
+abbrev pub bytes_waiting : Session → List ℕ
+bytes_waiting s = s.outgoing.waiting.items
+
 -- a session to which nothing came
 pub record IsUnusedSession (s : Session) : Type 0 where
   pub stream : s.stream ≡ empty_state most_depth most_bytes
   pub none : s.number ≡ 0
   pub untold : s.painter.told ≡ nothing_told
+  pub nothing_waits : bytes_waiting s ≡ []
 
 -- a session on its way: its stream, how many calls were answered, its world, and what its painter
 -- keeps
@@ -86,18 +91,9 @@ pub record AnswersCall (call : Call) (old new : SessionState)
   pub went : WentOn (begun_with old) (call ∷ []) (session_entries old) (session_entries new)
       (client_told old) (client_told new) before after
 
--- an end on the way out: writing failed, or memory was wanting
-abbrev pub IsCutShort : Ended → Type 0
-IsCutShort WriteFault = Unit {0}
-IsCutShort NoMemory = Unit {0}
-IsCutShort _ = ⊥
-
--- how a session ends by a call: its answer was cut short, or the call ended the session
+-- how a session ends by a call: memory was wanting for its answer, or the call ended the session
 abbrev pub StopsAtCall : Ended → Call → WorldRecord → WorldRecord → Told → Option (List ℕ)
     → Option (List ℕ) → Type 0
-StopsAtCall WriteFault call old new told before after =
-    WentPart (start_of old) IsClosing [] (call ∷ []) (entries_in old) (entries_in new) told before
-    after
 StopsAtCall NoMemory call old new told before after =
     WentPart (start_of old) IsFront [] (call ∷ []) (entries_in old) (entries_in new) told before
     after
@@ -143,13 +139,12 @@ pub record FinishesCalls (flaw : Option Flaw) (bytes : List ℕ) (old new : Sess
       (client_told old) later before after
   pub alone : IsAlone (begun_with old) (session_entries new)
 
--- the bytes that begin where a session stood begin with calls that were answered whole, and a part
--- of the answer to the next one went out, if there is one
+-- the bytes that begin where a session stood begin with calls whose answers went out whole, and a
+-- prefix of the answers to the next ones went out
 pub record StopsShort (Is : Start → List Call → List Entry → Type 0) (bytes : List ℕ)
     (old new : SessionState) (before after : Option (List ℕ)) : Type 0 where
   pub calls : List Call
   pub next : List Call
-  pub at_most_one : length next ≤ 1
   pub whole : List ℕ
   pub rest : List ℕ
   pub parts : bytes ≡ whole ++ rest
@@ -192,14 +187,20 @@ abbrev pub end_by_flaw : Option Flaw → Ended
 end_by_flaw None = Closed
 end_by_flaw (Some flaw) = Malformed flaw
 
--- what a step over what a session holds did: a call was answered, or more bytes are needed, or the
--- session ended
+-- the end of a session whose writing failed, where it was to end so
+abbrev pub end_by_fault : Ended → Ended
+end_by_fault NoMemory = NoMemory
+end_by_fault _ = WriteFault
+
+-- what a step over what a session holds did: calls were answered, or all of them were and more
+-- bytes are needed, or the session ended
 abbrev pub StepsOn : Result Bool Ended → SessionState → SessionState → Option (List ℕ)
     → Option (List ℕ) → Type 0
 StepsOn (Ok true) old new before after =
     ServesCalls old.stream.held old new before after × IsReady new
     × (length new.stream.held < length old.stream.held)
-StepsOn (Ok false) old new before after = (new ≡ old) × NeedsMore old.stream × (after ≡ before)
+StepsOn (Ok false) old new before after =
+    ServesCalls old.stream.held old new before after × IsReady new × NeedsMore new.stream
 StepsOn (Err ended) old new before after = EndsIn ⊥ ended old.stream.held old new before after
 
 -- what a session did with these bytes: it answered the calls and needs more bytes, or it ended

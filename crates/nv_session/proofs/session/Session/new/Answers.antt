@@ -9,4 +9,5 @@ returns c = record {
   stream = c.in_ok-new.ensures;
   none = refl;
   untold = ap (λ (q : Painting). q.told) c.in_ok-new-2.ensures;
+  nothing_waits = c.new-3.ensures;
 }

@@ -21,6 +21,7 @@ loop-self-init g c =
       begins = refl;
       waits = inl n.nothing;
       fits = omega (arith, n.place, ap (length {A = ℕ}) n.nothing);
+      nothing_waits = c.requires.nothing_waits;
       sized = c.requires.room;
       read_later = omega arith;
       write_later = omega arith;
@@ -71,6 +72,7 @@ loop-self-preserved g c =
       begins = c.in_default.ensures.begins ∙ i.begins;
       waits = t.2.2;
       fits = omega (arith, more, t.2.4, c.taken.ensures);
+      nothing_waits = c.in_default.ensures.nothing_waits;
       sized = sized;
       read_later = omega (arith, c.in_default.ensures.read_later);
       write_later = omega (arith, c.in_default.ensures.write_later);

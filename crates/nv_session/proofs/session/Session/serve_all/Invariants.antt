@@ -1,8 +1,8 @@
-use Rattle.std.proofs.Common.{◌≡◌, ℕ, ◌+◌, ◌-◌, ◌^◌, ◌≤◌, List, length}
+use Rattle.std.proofs.Common.{◌≡◌, ℕ, ◌+◌, ◌-◌, ◌^◌, ◌≤◌, List, [], length}
 use Rattle.nv_io.specs.Streams.{Gave}
 use Rattle.nv_stream.specs.Answers.{NeedsMore}
 use Rattle.nv_halves.specs.Passes.{start_of}
-use Rattle.nv_session.specs.inside.Serving.{IsReady, ServesCalls, state_of}
+use Rattle.nv_session.specs.inside.Serving.{IsReady, ServesCalls, bytes_waiting, state_of}
 use Rattle.nv_session.proofs.session.Session.serve_all.Given as goal
 
 abbrev pub invariant-loop-self : goal.invariant-loop-self
@@ -13,6 +13,7 @@ invariant-loop-self g l = record {
   begins : start_of l.world ≡ start_of l.initial.world;
   waits : NeedsMore l.self.stream;
   fits : l.self.stream.start + length l.self.stream.held ≤ 2 ^ 62 + 65536;
+  nothing_waits : bytes_waiting l.self ≡ [];
   sized : length l.buffer ≡ 65536;
   read_later : g.I.Source.faults l.initial.input ≤ g.I.Source.faults l.input;
   write_later : g.S.Sink.faults l.initial.output ≤ g.S.Sink.faults l.output;
