@@ -1087,29 +1087,42 @@ fn a_write_that_fails_ends_it(rt: HostRuntime) -> Result<(), Fail> {
     Ok(())
 }
 
-// Whether the fault of such a write leaves this of a session.
+// Whether the fault of such a write leaves this of a session that reads so many bytes at once.
 fn is_ended<
     R: Files<File = File> + Net<Listener = TcpListener, Stream = TcpStream> + Threads + Wait + Sync,
 >(
     rt: &R,
     alloc: Global,
     input: &[u8],
+    piece: usize,
     write: u64,
     output: &[u8],
     kept: &[u8],
-) -> Result<bool, AllocError> {
+) -> Result<bool, AllocError>
+    requires { 0 < piece }
+{
     let fails: [&[u64]; 3] = [&[], &[write], &[]];
-    let left = session_left(rt, alloc, &["embed"], input, 4_096, 4_096, fails)?;
+    let left = session_left(rt, alloc, &["embed"], input, piece, 4_096, fails)?;
     Ok(left.status == 4 && left.output.as_slice() == output && left.kept.as_slice() == kept)
 }
 
-// Two requests, where the second write fails.
+// Two requests of 25 bytes.
+fn two_requests() -> &'static [u8] {
+    b"\x94\x00\x01\xb3nvim_buf_line_count\x91\x00\x94\x00\x02\xb3nvim_buf_line_count\x91\x00"
+}
+
+// Two requests, of which each read gives one, where the second write fails.
 #[test]
 fn a_reply_goes_out_before_the_next_write_fails(rt: HostRuntime) -> Result<(), Fail> {
-    let requests =
-        b"\x94\x00\x01\xb3nvim_buf_line_count\x91\x00\x94\x00\x02\xb3nvim_buf_line_count\x91\x00";
     let reply = b"\x94\x01\x01\xc0\x01";
-    assert!(rt; is_ended(&rt, rt.alloc(), requests, 1, reply, b"ORTRTC")?);
+    assert!(rt; is_ended(&rt, rt.alloc(), two_requests(), 25, 1, reply, b"ORTRTC")?);
+    Ok(())
+}
+
+// Two requests that one read gives are answered before their one write, which fails.
+#[test]
+fn one_write_has_the_replies_to_one_read(rt: HostRuntime) -> Result<(), Fail> {
+    assert!(rt; is_ended(&rt, rt.alloc(), two_requests(), 4_096, 0, b"", b"ORTRTC")?);
     Ok(())
 }
 
@@ -1117,7 +1130,7 @@ fn a_reply_goes_out_before_the_next_write_fails(rt: HostRuntime) -> Result<(), F
 #[test]
 fn a_write_fault_goes_before_the_end_of_the_server(rt: HostRuntime) -> Result<(), Fail> {
     let request = b"\x94\x00\x01\xacnvim_command\x91\xa5qall!";
-    assert!(rt; is_ended(&rt, rt.alloc(), request, 0, b"", b"ORT")?);
+    assert!(rt; is_ended(&rt, rt.alloc(), request, 4_096, 0, b"", b"ORT")?);
     Ok(())
 }
 
