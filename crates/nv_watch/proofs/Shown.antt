@@ -5,10 +5,10 @@ use Rattle.std.proofs.lemmas.Bool.Decides.{nat_tests}
 use Rattle.std.proofs.lemmas.List.{length-set}
 use Rattle.std.proofs.lemmas.Option.{slice_get_within}
 use Rattle.nv_history.proofs.Places.{set_here, set_there}
-use Rattle.nv_watch.specs.inside.Shown.{AreShown}
+use Rattle.nv_watch.specs.inside.Shown.{HaveBecome}
 
 module _ {B : Type 0} (Became : B → B → Type 0) where
-  pub none_shown : (old : List B) → AreShown old old 0 Became
+  pub none_shown : (old : List B) → HaveBecome old old 0 Became
   none_shown old = record {
     count = refl;
     shown = λ i a b below there here. absurd (omega (arith, below));
@@ -16,8 +16,8 @@ module _ {B : Type 0} (Became : B → B → Type 0) where
   }
 
   -- the one at the place too
-  pub one_shown : (old cur : List B) (place : ℕ) (w v : B) → AreShown old cur place Became
-      → slice_get cur place ≡ Some w → Became w v → AreShown old (slice_set cur place v) (place + 1) Became
+  pub one_shown : (old cur : List B) (place : ℕ) (w v : B) → HaveBecome old cur place Became
+      → slice_get cur place ≡ Some w → Became w v → HaveBecome old (slice_set cur place v) (place + 1) Became
   one_shown old cur place w v before there shows = record {
     count = length-set cur place v ∙ before.count;
     shown = λ i a b below was is. by_place i a b below was is (i == place) refl;
@@ -40,7 +40,7 @@ module _ {B : Type 0} (Became : B → B → Type 0) where
           before.shown i a b less was (sym (set_there cur place i v apart) ∙ is)
 
   -- once all are shown it, each is
-  pub all_shown : (old new : List B) (place : ℕ) → length old ≤ place → AreShown old new place Became
+  pub all_shown : (old new : List B) (place : ℕ) → length old ≤ place → HaveBecome old new place Became
       → (i : ℕ) (a b : B) → slice_get old i ≡ Some a → slice_get new i ≡ Some b → Became a b
   all_shown old new place all shown i a b was is =
       shown.shown i a b (omega (arith, all, slice_get_within old i a was)) was is

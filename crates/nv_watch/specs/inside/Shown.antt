@@ -3,7 +3,7 @@ use Rattle.std.specs.Prelude.{◌≡◌, ◌↔◌, ℕ, ◌≤◌, ◌<◌, Lis
 use Rattle.nv_watch.specs.Verdicts.{Rule, Sight}
 
 -- each of the first so many items became another, and the others are as they were
-pub record AreShown {B : Type 0} (old new : List B) (place : ℕ) (Became : B → B → Type 0)
+pub record HaveBecome {B : Type 0} (old new : List B) (place : ℕ) (Became : B → B → Type 0)
     : Type 0 where
   pub count : length new ≡ length old
   pub shown : (i : ℕ) (a b : B) → i < place → slice_get old i ≡ Some a → slice_get new i ≡ Some b
