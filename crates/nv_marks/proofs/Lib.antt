@@ -16,3 +16,5 @@ pub mod PartsLemmas
 pub mod WithinLemmas
 pub mod StoredLemmas
 pub mod IndexLemmas
+pub mod InPlaceLemmas
+pub mod GapLemmas

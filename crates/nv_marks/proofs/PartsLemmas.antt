@@ -668,6 +668,10 @@ pub list_all : (rs : List Record) (from to : Pos) (xs ys : List Record)
 list_all rs from to xs ys same =
     ap (map (mark_among rs)) (two_tests from to xs ∙ ap (filter is_start) same ∙ sym (two_tests from to ys)) ∙ sym (starts_listed rs from to ys)
 
+pub list_same : (rs : List Record) (from to : Pos) (xs ys : List Record)
+    → filter (λ r. is_within from to r.pos) xs ≡ filter (λ r. is_within from to r.pos) ys → listed_marks rs from to xs ≡ listed_marks rs from to ys
+list_same rs from to xs ys same = list_all rs from to xs ys same ∙ sym (list_all rs from to ys ys refl)
+
 pub list_limit : (held limit : ℕ) (had more : List Mark) → held ≡ length had → extended_list (held + limit) had more ≡ had ++ take limit more
 list_limit held limit had more is =
     let left : held + limit - length had ≡ limit = omega arith in

@@ -128,7 +128,7 @@ rows-moved start old new p base old_end new_end base_is old_is new_is later =
     ∙ ap (λ (e : Pos). (let q : Pos = record { row = p.row - (further start old).row + e.row; col = p.col } in q)) new_is
     ∙ sym (moved-rows start old new p later)
 
-further-row : (start : Pos) (by : Extent) → (further start by).row ≡ start.row + by.rows
+pub further-row : (start : Pos) (by : Extent) → (further start by).row ≡ start.row + by.rows
 further-row start by = grind (arith, nat_tests)
 
 -- and stays where the number of rows does

@@ -15,7 +15,7 @@ use Rattle.nv_marks.specs.Cost.{count_within}
 use Rattle.nv_marks.specs.declared.record.Record.{Record}
 use Rattle.nv_marks.specs.declared.record.Kept.{Kept}
 use Rattle.nv_marks.specs.inside.Records.{ForEach, Sort, place, precedes, moved_record, MovesInRange}
-use Rattle.nv_marks.specs.inside.Chunks.{Piece, placed_record, records_of, spread_records, base_of, IsFit, IsBased, Ample, IsLaid, starts_before, refilled_pieces, refit_pieces, carried_piece, pieces_carried_from}
+use Rattle.nv_marks.specs.inside.Chunks.{Piece, IsTouched, placed_record, records_of, spread_records, base_of, IsFit, IsBased, Ample, IsLaid, starts_before, refilled_pieces, refit_pieces, carried_piece, pieces_carried_from}
 use Rattle.nv_marks.proofs.EachLemmas.{Each-append, Each-left, Each-right, Each-weaker, Each-map, Each-permutation, Each-take, Each-drop, Rises-left, Rises-right, Rises-cross}
 use Rattle.nv_marks.proofs.PlacesLemmas.{follows, at_least, moved-before, moved-behind, record_ranks}
 use Rattle.nv_marks.proofs.SpreadLemmas.{spread-append, length-records, from_base, spread_carried, all_carried_based, behind_all, refit_parts, carried_parts, spread_refilled, refills_based, sizes, rooms, fit_same, ample_same, sizes_refilled, rooms_refilled, sizes_carried, rooms_carried, in_order_again}
@@ -399,18 +399,10 @@ cost start to_place ps from to size laid in_order within same after before =
         of_rest (x ∷ l) each = Each-take (λ p. is_before p.base start ≡ false) m l each
 
 -- ---- which chunks a splice writes
-pub record Cut (start : Pos) (old : Extent) (ps : List Piece) (from to : ℕ) : Type 0 where
-  pub in_order : from ≤ to
-  pub within : to ≤ length ps
-  pub front : ForEach (λ r. is_before r.pos start ≡ true) (spread_records (take from ps))
-  pub behind : ForEach (λ p. is_before (further start old) p.base ≡ true) (drop to ps)
-  pub after : ForEach (λ p. is_before p.base start ≡ false) (drop (from + 1) ps)
-  pub up_to : ForEach (λ p. is_before (further start old) p.base ≡ false) (take (to - from) (drop from ps))
-
 pub cut : (start : Pos) (old : Extent) (ps : List Piece) (n m from to : ℕ) → IsLaid ps → n ≤ length ps
     → ForEach (λ p. is_before p.base start ≡ true) (take n ps) → ForEach (λ p. is_before p.base start ≡ false) (drop n ps) → m ≤ length ps
     → ForEach (λ p. is_before (further start old) p.base ≡ false) (take m ps) → ForEach (λ p. is_before (further start old) p.base ≡ true) (drop m ps)
-    → from ≡ n - 1 → to ≡ max m from → Cut start old ps from to
+    → from ≡ n - 1 → to ≡ max m from → IsTouched start old ps from to
 cut start old ps n m from to laid n_fits before after m_fits up_to behind from_is to_is = record {
   in_order = omega arith;
   within = omega arith;
@@ -432,7 +424,7 @@ length-refills : (ps : List Piece) (rs : List Record) → length (refilled_piece
 length-refills [] rs = refl
 length-refills (p ∷ ps) rs = ap suc (length-refills ps (drop (length p.kept) rs))
 
-module _ (start : Pos) (old new : Extent) (ps : List Piece) (from to : ℕ) (laid : IsLaid ps) (parts : Cut start old ps from to)
+module _ (start : Pos) (old new : Extent) (ps : List Piece) (from to : ℕ) (laid : IsLaid ps) (parts : IsTouched start old ps from to)
     (moves : ForEach (MovesInRange start old new) (spread_records ps)) where
   in_parts : ps ≡ take from ps ++ (take (to - from) (drop from ps) ++ drop to ps)
   in_parts = three_parts ps from to parts.in_order
@@ -613,7 +605,7 @@ place_behind r ps m n later laid after =
 pub cut_at : (start : Pos) (old : Extent) (ps : List Piece) (n m from to : ℕ) (end : Pos) → IsLaid ps → n ≤ length ps
     → ForEach (λ p. is_before p.base start ≡ true) (take n ps) → ForEach (λ p. is_before p.base start ≡ false) (drop n ps) → m ≤ length ps
     → ForEach (λ p. is_before end p.base ≡ false) (take m ps) → ForEach (λ p. is_before end p.base ≡ true) (drop m ps)
-    → end ≡ further start old → from ≡ n - 1 → to ≡ max m from → Cut start old ps from to
+    → end ≡ further start old → from ≡ n - 1 → to ≡ max m from → IsTouched start old ps from to
 cut_at start old ps n m from to end laid n_fits before after m_fits up_to behind end_is from_is to_is =
     cut start old ps n m from to laid n_fits before after m_fits
     (subst (λ (q : Pos). ForEach (λ p. is_before q p.base ≡ false) (take m ps)) end_is up_to)

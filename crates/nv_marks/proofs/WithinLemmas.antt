@@ -13,11 +13,11 @@ use Rattle.nv_marks.proofs.EachLemmas.{Each-left, Each-right}
 use Rattle.nv_marks.proofs.SpreadLemmas.{behind_all}
 use Rattle.nv_marks.proofs.SpliceLemmas.{three_parts, spread_parts, front_before, Each-drop_later}
 
-filter_skips : {X : Type 0} (t : X → Bool) (xs : List X) → ForEach (λ x. t x ≡ false) xs → filter t xs ≡ []
+pub filter_skips : {X : Type 0} (t : X → Bool) (xs : List X) → ForEach (λ x. t x ≡ false) xs → filter t xs ≡ []
 filter_skips t [] each = refl
 filter_skips t (x ∷ xs) each = rw each.0 (filter_skips t xs each.1)
 
-not_from : (from to : Pos) (rs : List Record) → ForEach (λ r. is_before r.pos from ≡ true) rs → ForEach (λ r. is_within from to r.pos ≡ false) rs
+pub not_from : (from to : Pos) (rs : List Record) → ForEach (λ r. is_before r.pos from ≡ true) rs → ForEach (λ r. is_within from to r.pos ≡ false) rs
 not_from from to [] each = tt
 not_from from to (r ∷ rs) each = (ap (λ (b : Bool). not b && not (is_before to r.pos)) each.0, not_from from to rs each.1)
 
@@ -25,7 +25,7 @@ and_false : (b : Bool) → b && false ≡ false
 and_false true = refl
 and_false false = refl
 
-not_to : (from to : Pos) (rs : List Record) → ForEach (λ r. is_before to r.pos ≡ true) rs → ForEach (λ r. is_within from to r.pos ≡ false) rs
+pub not_to : (from to : Pos) (rs : List Record) → ForEach (λ r. is_before to r.pos ≡ true) rs → ForEach (λ r. is_within from to r.pos ≡ false) rs
 not_to from to [] each = tt
 not_to from to (r ∷ rs) each =
     (ap (λ (b : Bool). not (is_before r.pos from) && not b) each.0 ∙ and_false (not (is_before r.pos from)), not_to from to rs each.1)

@@ -46,17 +46,18 @@ drop-edited (suc n) f (p ∷ ps) =
     let next : suc n + 1 ≡ suc (n + 1) = omega arith in rw next (drop-edited n f ps)
 
 -- ---- records written_piece into one chunk
-pub write_more : (n at : ℕ) (base : Pos) (rs : List Record) (ps : List Piece) (r : Record) → at < length rs → r ≡ get_or rs at r
-    → pieces_edited_at n (piece_written_from (at + 1) base (drop (at + 1) rs)) (pieces_edited_at n (with_kept at (kept_from base r)) ps)
-    ≡ pieces_edited_at n (piece_written_from at base (drop at rs)) ps
-write_more n at base rs ps r within here =
-    edited-edited n (with_kept at (kept_from base r)) (piece_written_from (at + 1) base (drop (at + 1) rs)) ps
-    ∙ ap (λ (l : List Record). pieces_edited_at n (piece_written_from at base l) ps) (ap (λ (x : Record). x ∷ drop (at + 1) rs) here ∙ sym (drop_more rs at r within))
+pub write_more : (n first at : ℕ) (base : Pos) (rs : List Record) (ps : List Piece) (r : Record) → at < length rs → r ≡ get_or rs at r
+    → pieces_edited_at n (piece_written_from (first + at + 1) base (drop (at + 1) rs)) (pieces_edited_at n (with_kept (first + at) (kept_from base r)) ps)
+    ≡ pieces_edited_at n (piece_written_from (first + at) base (drop at rs)) ps
+write_more n first at base rs ps r within here =
+    edited-edited n (with_kept (first + at) (kept_from base r)) (piece_written_from (first + at + 1) base (drop (at + 1) rs)) ps
+    ∙ ap (λ (l : List Record). pieces_edited_at n (piece_written_from (first + at) base l) ps) (ap (λ (x : Record). x ∷ drop (at + 1) rs) here ∙ sym (drop_more rs at r within))
 
-pub write_end : (n at : ℕ) (base : Pos) (rs : List Record) (ps : List Piece) → length rs ≤ at
-    → pieces_edited_at n (piece_written_from at base (drop at rs)) ps ≡ ps
-write_end n at base rs ps past =
-    ap (λ (l : List Record). pieces_edited_at n (piece_written_from at base l) ps) (drop_all at rs past) ∙ edited-same n (piece_written_from at base []) ps (λ p. refl)
+pub write_end : (n first at : ℕ) (base : Pos) (rs : List Record) (ps : List Piece) → length rs ≤ at
+    → pieces_edited_at n (piece_written_from (first + at) base (drop at rs)) ps ≡ ps
+write_end n first at base rs ps past =
+    ap (λ (l : List Record). pieces_edited_at n (piece_written_from (first + at) base l) ps) (drop_all at rs past)
+    ∙ edited-same n (piece_written_from (first + at) base []) ps (λ p. refl)
 
 pub write_all : (n : ℕ) (base : Pos) (rs : List Record) (ps : List Piece) (first : Record) → 0 < length rs → first ≡ get_or rs 0 first
     → base ≡ first.pos
@@ -83,6 +84,20 @@ written-parts done (k ∷ old) base room at (r ∷ rs) is same =
     ∙ written-parts (done ++ kept_from base r ∷ []) old base room (at + 1) rs (omega (arith, length-append done (kept_from base r ∷ []))) (omega arith)
     ∙ ap (λ (l : List Kept). let p : Piece = record { base = base; kept = l; room = room } in p)
     (append_assoc done (kept_from base r ∷ []) (map (kept_from base) rs))
+
+-- the same where others stand behind
+pub written-midst : (done old rest : List Kept) (base : Pos) (room at : ℕ) (rs : List Record) → length done ≡ at → length old ≡ length rs
+    → piece_written_from at base rs (record { base = base; kept = done ++ (old ++ rest); room = room })
+    ≡ (let p : Piece = record { base = base; kept = done ++ (map (kept_from base) rs ++ rest); room = room } in p)
+written-midst done [] rest base room at [] is same = refl
+written-midst done [] rest base room at (r ∷ rs) is same = absurd (omega arith)
+written-midst done (k ∷ old) rest base room at [] is same = absurd (omega arith)
+written-midst done (k ∷ old) rest base room at (r ∷ rs) is same =
+    ap (λ (l : List Kept). piece_written_from (at + 1) base rs (record { base = base; kept = l; room = room }))
+    (set_at done k (old ++ rest) (kept_from base r) at is ∙ sym (append_assoc done (kept_from base r ∷ []) (old ++ rest)))
+    ∙ written-midst (done ++ kept_from base r ∷ []) old rest base room (at + 1) rs (omega (arith, length-append done (kept_from base r ∷ []))) (omega arith)
+    ∙ ap (λ (l : List Kept). let p : Piece = record { base = base; kept = l; room = room } in p)
+    (append_assoc done (kept_from base r ∷ []) (map (kept_from base) rs ++ rest))
 
 pub written_is : (rs : List Record) (p : Piece) → 0 < length rs → length p.kept ≡ length rs → written_piece rs p ≡ refilled_piece rs p
 written_is [] p some same = absurd (omega arith)
@@ -168,14 +183,16 @@ refit_last n to ps whole rs past so_far =
 pub part_fits : (rs part : List Record) (at size : ℕ) → at ≤ length rs → part ≡ take size (drop at rs) → at + length part ≤ length rs
 part_fits rs part at size within is = omega (arith, ap length is, length-take size (drop at rs), length-drop at rs)
 
-pub write_step : (n at : ℕ) (base : Pos) (rs : List Record) (ps qs whole : List Piece) (d : Record) (k : Kept) → at < length rs
-    → k ≡ kept_from base (get_or rs at d) → qs ≡ pieces_edited_at n (with_kept at k) ps
-    → pieces_edited_at n (piece_written_from at base (drop at rs)) ps ≡ whole
-    → pieces_edited_at n (piece_written_from (at + 1) base (drop (at + 1) rs)) qs ≡ whole
-write_step n at base rs ps qs whole d k within kept put so_far =
-    ap (λ (l : List Piece). pieces_edited_at n (piece_written_from (at + 1) base (drop (at + 1) rs)) l)
-    (put ∙ ap (λ (x : Kept). pieces_edited_at n (with_kept at x) ps) kept)
-    ∙ write_more n at base rs ps (get_or rs at d) within (get_or_default rs at d (get_or rs at d) within)
+pub write_step : (n first at : ℕ) (base : Pos) (rs : List Record) (ps qs whole : List Piece) (d : Record) (k : Kept) → at < length rs
+    → k ≡ kept_from base (get_or rs at d) → qs ≡ pieces_edited_at n (with_kept (first + at) k) ps
+    → pieces_edited_at n (piece_written_from (first + at) base (drop at rs)) ps ≡ whole
+    → pieces_edited_at n (piece_written_from (first + (at + 1)) base (drop (at + 1) rs)) qs ≡ whole
+write_step n first at base rs ps qs whole d k within kept put so_far =
+    let next : first + (at + 1) ≡ first + at + 1 = omega arith in
+    ap (λ (i : ℕ). pieces_edited_at n (piece_written_from i base (drop (at + 1) rs)) qs) next
+    ∙ ap (λ (l : List Piece). pieces_edited_at n (piece_written_from (first + at + 1) base (drop (at + 1) rs)) l)
+    (put ∙ ap (λ (x : Kept). pieces_edited_at n (with_kept (first + at) x) ps) kept)
+    ∙ write_more n first at base rs ps (get_or rs at d) within (get_or_default rs at d (get_or rs at d) within)
     ∙ so_far
 
 pub carry_step : (n : ℕ) (start : Pos) (old new : Extent) (ps qs whole : List Piece) (q : Piece) (to : Pos) → n < length ps → q ≡ get_or ps n q

@@ -1,9 +1,10 @@
 //! A chunk of records, with their places relative to the first of them.
 
-ghost use Rattle.nv_marks.specs.inside.Chunks.{base_of, kept_from, placed_record, records_of, refilled_piece, starts_before, with_base, with_kept};
-ghost use Rattle.nv_marks.specs.inside.Records.{ForEach, is_key};
+ghost use Rattle.nv_marks.specs.inside.Chunks.{IsGap, base_of, has_place, kept_from, placed_record, records_of, refilled_piece, starts_before, with_base, with_inserted, with_kept, with_removed};
+ghost use Rattle.nv_marks.specs.inside.Records.{ForEach, Sort, is_key, precedes};
 ghost use Rattle.nv_places.specs.Places.{IsNarrow};
-ghost use Rattle.std.specs.Prelude.{◌≡◌, ◌+◌, ◌<◌, ◌≤◌, ◌++◌, [], IfOk, length, map, position, slice_index_or, vec_capacity, vec_len};
+ghost use Rattle.std.specs.List.Sorted.{IsPartitionPoint};
+ghost use Rattle.std.specs.Prelude.{◌≡◌, ◌+◌, ◌<◌, ◌≤◌, ◌++◌, [], IfOk, IfSome, drop, false, length, map, position, slice_index_or, take, true, vec_capacity, vec_len};
 
 use crate::record::{Info, Kept, Record};
 use nv_places::Pos;
@@ -12,6 +13,13 @@ use std::marker::Model;
 
 /// The greatest number of records in a chunk.
 pub(crate) const MOST: usize = 64;
+
+/// How many records stand before a splice, and how many behind it up to the row of its end.
+#[derive(Clone, Copy)]
+pub(crate) struct Gap {
+    pub first: usize,
+    pub count: usize,
+}
 
 /// Neighbouring records in order. The base is the place of the first.
 #[derive(Drop)]
@@ -122,6 +130,29 @@ impl Chunk {
         self.kept[at].placed(self.base)
     }
 
+    /// How many records stand before `start`, and how many behind `end` in its row, where none
+    /// stands from `start` to `end` and the first one stays.
+    pub(crate) fn gap(&self, start: Pos, end: Pos) -> Option<Gap>
+        requires in_order { Sort (records_of self.now) }
+        ensures { IfSome result (λ g. IsGap start end (records_of self.now) g.first g.count) }
+    {
+        gap_among(self.base, &self.kept, start, end)
+    }
+
+    /// Puts some of the chunk's records behind what is in `into`.
+    pub(crate) fn read_part(&self, gap: Gap, into: &mut Vec<Record>)
+        requires within { gap.first + gap.count ≤ length self.now.kept }
+        requires narrow { ForEach (λ r. IsNarrow r.pos) (records_of self.now) }
+        requires room { vec_len into.old + gap.count ≤ vec_capacity into.old }
+        ensures items { into.new.items
+            ≡ into.old.items ++ take gap.count (drop gap.first (records_of self.now)) }
+        ensures room { vec_capacity into.new ≡ vec_capacity into.old }
+    {
+        let (_, rest) = self.kept.split_at(gap.first);
+        let (part, _) = rest.split_at(gap.count);
+        place_all(self.base, part, into);
+    }
+
     /// Puts another base.
     pub(crate) fn put_base(&mut self, to: Pos)
         ensures { self.new ≡ with_base to self.old }
@@ -138,6 +169,41 @@ impl Chunk {
         }
     }
 
+    /// Whether a record goes in behind the first record, and there is room for it.
+    pub(crate) fn has_place_for(&self, one: &Record) -> bool
+        ensures { result ≡ has_place one.now self.now }
+    {
+        self.kept.len() < MOST && self.starts_before(one)
+    }
+
+    /// How many records stand before `one` in order: these come first.
+    pub(crate) fn count_before(&self, one: &Record) -> usize
+        requires in_order { Sort (records_of self.now) }
+        ensures bound { result ≤ length self.now.kept }
+        ensures point { IsPartitionPoint (λ r. precedes r one.now ≡ true)
+            (λ r. precedes r one.now ≡ false) (records_of self.now) result }
+    {
+        count_below(self.base, &self.kept, one)
+    }
+
+    /// Puts a record behind the first one.
+    pub(crate) fn insert(&mut self, at: usize, one: Record)
+        requires within { at ≤ length self.old.kept }
+        requires room { length self.old.kept < self.old.room }
+        ensures { self.new ≡ with_inserted at one self.old }
+    {
+        let kept = one.kept_from(self.base);
+        let _ = self.kept.insert(at, kept);
+    }
+
+    /// Takes the record at a place out, which isn't the first one.
+    pub(crate) fn remove(&mut self, at: usize)
+        requires within { at < length self.old.kept }
+        ensures { self.new ≡ with_removed at self.old }
+    {
+        let _ = self.kept.remove(at);
+    }
+
     /// Fills the chunk anew.
     pub(crate) fn fill(&mut self, records: &[Record])
         requires room { length records.now ≤ self.old.room }
@@ -148,6 +214,33 @@ impl Chunk {
         self.kept.clear();
         keep_all(base, records, &mut self.kept);
     }
+}
+
+/// How many records that are kept behind a base stand before `one` in order: these come first.
+fn count_below(base: Pos, kept: &[Kept], one: &Record) -> usize
+    requires in_order { Sort (map (placed_record base) kept.now) }
+    ensures bound { result ≤ length kept.now }
+    ensures point { IsPartitionPoint (λ r. precedes r one.now ≡ true)
+        (λ r. precedes r one.now ≡ false) (map (placed_record base) kept.now) result }
+{
+    kept.partition_point(|other| other.is_before(base, one))
+}
+
+/// How many records that are kept behind a base stand before `start`, and how many behind `end` in
+/// its row, where none stands from `start` to `end` and the first one stays.
+fn gap_among(base: Pos, kept: &[Kept], start: Pos, end: Pos) -> Option<Gap>
+    requires in_order { Sort (map (placed_record base) kept.now) }
+    ensures { IfSome result
+        (λ g. IsGap start end (map (placed_record base) kept.now) g.first g.count) }
+{
+    let first = kept.partition_point(|one| one.stands_before(base, start));
+    let (_, rest) = kept.split_at(first);
+    let held = rest.partition_point(|one| !one.stands_behind(base, end));
+    if first == 0 || held > 0 {
+        return None;
+    }
+    let count = rest.partition_point(|one| one.stands_up_to(base, end.row));
+    Some(Gap { first, count })
 }
 
 /// The place of the first record.

@@ -1,12 +1,12 @@
 //! The marks that start within two places, in order.
 
-ghost use Rattle.nv_marks.specs.Order.{starts_within};
+ghost use Rattle.nv_marks.specs.Order.{is_within, starts_within};
 ghost use Rattle.nv_marks.specs.inside.Chunks.{IsLaid, placed_record, records_of, spread_records};
-ghost use Rattle.nv_marks.specs.inside.Records.{ForEach, marks_among, same_key};
+ghost use Rattle.nv_marks.specs.inside.Records.{ForEach, Sort, marks_among, same_key};
 ghost use Rattle.nv_marks.specs.inside.Stored.{IsEndKnown, extended_list, listed_marks};
 ghost use Rattle.nv_places.specs.Places.{IsNarrow};
 ghost use Rattle.std.specs.List.{IsDistinct};
-ghost use Rattle.std.specs.Prelude.{◌≡◌, ◌+◌, ◌-◌, ◌≤◌, ◌++◌, ◌∷◌, [], OnErr, OnOk, filter, length, map, take};
+ghost use Rattle.std.specs.Prelude.{◌≡◌, ◌+◌, ◌-◌, ◌≤◌, ◌++◌, ◌∷◌, List, [], OnErr, OnOk, filter, length, map, take};
 
 use crate::chunk::Chunk;
 use crate::extmark::Mark;
@@ -66,6 +66,7 @@ fn list_chunks(
 ) -> Result<(), AllocError>
     requires laid { IsLaid store.now.chunks.items }
     requires once { IsDistinct same_key (spread_records store.now.chunks.items) }
+    requires in_order { ForEach (λ p. Sort (records_of p)) chunks.now }
     requires narrow { ForEach (λ r. IsNarrow r.pos) (spread_records chunks.now) }
     requires ends { ForEach (IsEndKnown (spread_records store.now.chunks.items))
         (spread_records chunks.now) }
@@ -87,6 +88,51 @@ fn list_chunks(
 
 /// Lists the marks that start in one chunk.
 fn list_kept(
+    store: &Store,
+    index: &Index,
+    base: Pos,
+    kept: &[Kept],
+    range: Range,
+    into: &mut Vec<Mark>,
+) -> Result<(), AllocError>
+    requires laid { IsLaid store.now.chunks.items }
+    requires once { IsDistinct same_key (spread_records store.now.chunks.items) }
+    requires in_order { Sort (map (placed_record base) kept.now) }
+    requires narrow { ForEach (λ r. IsNarrow r.pos) (map (placed_record base) kept.now) }
+    requires ends { ForEach (IsEndKnown (spread_records store.now.chunks.items))
+        (map (placed_record base) kept.now) }
+    requires held { range.held ≤ length into.old.items }
+    ensures ok { OnOk result (into.new.items ≡ extended_list
+        (range.held + range.limit) into.old.items
+        (listed_marks (spread_records store.now.chunks.items) range.from range.to
+        (map (placed_record base) kept.now))) }
+    ensures begun { take range.held into.new.items ≡ take range.held into.old.items }
+    ensures more { length into.old.items ≤ length into.new.items }
+{
+    let within = kept_within(base, kept, range.from, range.to);
+    list_each(store, index, base, within, range, into)
+}
+
+/// Those records of a chunk that stand from `from` to `to`, both included.
+fn kept_within(base: Pos, kept: &[Kept], from: Pos, to: Pos) -> &[Kept]
+    requires in_order { Sort (map (placed_record base) kept.now) }
+    ensures narrow { ForEach (λ r. IsNarrow r.pos) (map (placed_record base) kept.now)
+        → ForEach (λ r. IsNarrow r.pos) (map (placed_record base) result.now) }
+    ensures ends { (all : List Record)
+        → ForEach (IsEndKnown all) (map (placed_record base) kept.now)
+        → ForEach (IsEndKnown all) (map (placed_record base) result.now) }
+    ensures within { filter (λ r. is_within from to r.pos) (map (placed_record base) result.now)
+        ≡ filter (λ r. is_within from to r.pos) (map (placed_record base) kept.now) }
+{
+    let first = kept.partition_point(|one| one.stands_before(base, from));
+    let (_, rest) = kept.split_at(first);
+    let count = rest.partition_point(|one| !one.stands_behind(base, to));
+    let (within, _) = rest.split_at(count);
+    within
+}
+
+/// Lists the marks that start among records of one chunk.
+fn list_each(
     store: &Store,
     index: &Index,
     base: Pos,

@@ -2,8 +2,8 @@
 
 ghost use Rattle.nv_marks.specs.inside.Chunks.{kept_from, placed_record, reach};
 ghost use Rattle.nv_marks.specs.inside.Records.{MovesInRange, is_key, moved_record, precedes};
-ghost use Rattle.nv_places.specs.Places.{IsNarrow, further};
-ghost use Rattle.std.specs.Prelude.{◌≡◌};
+ghost use Rattle.nv_places.specs.Places.{IsNarrow, further, is_before};
+ghost use Rattle.std.specs.Prelude.{◌≡◌, nat_le};
 
 use crate::extmark::{Far, Mark, Paint};
 use nv_places::{Extent, Pos};
@@ -109,6 +109,73 @@ impl Kept {
             pos: base.further(self.by),
             info: self.info,
         }
+    }
+
+    /// Row and column of this record, kept by a chunk that begins at `base`, as numbers that have
+    /// room for each sum.
+    fn wide_place(&self, base: Pos) -> (u64, u64)
+        ensures row { result.0 ≡ (further base self.now.by).row }
+        ensures col { result.1 ≡ (further base self.now.by).col }
+    {
+        let Extent { rows, cols } = self.by;
+        let row = u64::from(base.row) + u64::from(rows);
+        if rows == 0 {
+            (row, u64::from(base.col) + u64::from(cols))
+        } else {
+            (row, u64::from(cols))
+        }
+    }
+
+    /// Whether this record, kept by a chunk that begins at `base`, stands before a place.
+    pub(crate) fn stands_before(&self, base: Pos, at: Pos) -> bool
+        ensures { result ≡ is_before (further base self.now.by) at }
+    {
+        let (row, col) = self.wide_place(base);
+        let (at_row, at_col) = (u64::from(at.row), u64::from(at.col));
+        row < at_row || row == at_row && col < at_col
+    }
+
+    /// Whether this record, kept by a chunk that begins at `base`, stands in a row or above it.
+    pub(crate) fn stands_up_to(&self, base: Pos, row: u32) -> bool
+        ensures { result ≡ nat_le (further base self.now.by).row row }
+    {
+        let (own, _) = self.wide_place(base);
+        own <= u64::from(row)
+    }
+
+    /// Whether this record, kept by a chunk that begins at `base`, stands before `other` in order.
+    pub(crate) fn is_before(&self, base: Pos, other: &Record) -> bool
+        ensures { result ≡ precedes (placed_record base self.now) other.now }
+    {
+        let (row, col) = self.wide_place(base);
+        let Info {
+            ns,
+            id,
+            right,
+            is_end,
+            ..
+        } = self.info;
+        let (other_row, other_col) = (u64::from(other.pos.row), u64::from(other.pos.col));
+        let rest = &other.info;
+        (row, col, right, ns, id, is_end)
+            .cmp(&(
+                other_row,
+                other_col,
+                rest.right,
+                rest.ns,
+                rest.id,
+                rest.is_end,
+            ))
+            .is_lt()
+    }
+
+    /// Whether this record, kept by a chunk that begins at `base`, stands behind a place.
+    pub(crate) fn stands_behind(&self, base: Pos, at: Pos) -> bool
+        ensures { result ≡ is_before at (further base self.now.by) }
+    {
+        let (row, col) = self.wide_place(base);
+        let (at_row, at_col) = (u64::from(at.row), u64::from(at.col));
+        at_row < row || at_row == row && at_col < col
     }
 }
 

@@ -1,12 +1,12 @@
 -- inside: records in chunks, with places relative to the first of each chunk.
-use Rattle.std.specs.Prelude.{◌≡◌, ℕ, zero, suc, ◌+◌, ◌-◌, ◌<◌, ◌≤◌, ◌==◌, if◌then◌else◌, Bool, true, false, List, [], ◌∷◌, ◌++◌, length, map, take, drop, slice_set, slice_index_or, find, Some}
+use Rattle.std.specs.Prelude.{◌≡◌, ℕ, zero, suc, ◌+◌, ◌-◌, ◌<◌, ◌≤◌, ◌==◌, if◌then◌else◌, Bool, true, false, List, [], ◌∷◌, ◌++◌, length, map, take, drop, slice_set, slice_index_or, find, Some, insert, remove, nat_lt, ◌&&◌, IsPermutation}
 use Rattle.nv_places.specs.declared.place.Pos.{Pos}
 use Rattle.nv_places.specs.declared.place.Extent.{Extent}
-use Rattle.nv_places.specs.Places.{IsNarrow, further}
+use Rattle.nv_places.specs.Places.{IsNarrow, further, is_before}
 use Rattle.nv_places.specs.Moves.{moved_place}
 use Rattle.nv_marks.specs.declared.record.Record.{Record}
 use Rattle.nv_marks.specs.declared.record.Kept.{Kept}
-use Rattle.nv_marks.specs.inside.Records.{ForEach, Sort, precedes}
+use Rattle.nv_marks.specs.inside.Records.{ForEach, Sort, moved_record, precedes}
 
 -- a chunk as its clauses see it: where its first record stands, its records, and for how many it
 -- has room
@@ -95,6 +95,17 @@ with_base base p = record p { base = base }
 abbrev pub with_kept : ℕ → Kept → Piece → Piece
 with_kept at k p = record p { kept = slice_set p.kept at k }
 
+-- a chunk with one more record at a place, or with one less, and its base as it was
+abbrev pub with_inserted : ℕ → Record → Piece → Piece
+with_inserted at r p = record p { kept = insert p.kept at (kept_from p.base r) }
+
+abbrev pub with_removed : ℕ → Piece → Piece
+with_removed at p = record p { kept = remove p.kept at }
+
+-- a record goes into a chunk behind its first record, and there is room for it
+abbrev pub has_place : Record → Piece → Bool
+has_place r p = nat_lt (length p.kept) 64 && starts_before r p
+
 -- the n-th chunk changed
 abbrev pub pieces_edited_at : ℕ → (Piece → Piece) → List Piece → List Piece
 pieces_edited_at n f [] = []
@@ -154,3 +165,33 @@ pub record IsFoundAt (t : Record → Bool) (ps : List Piece) (n i : ℕ) : Type 
   pub place : i < length (held_records n 1 ps)
   pub found : (d : Record) → find t (spread_records ps)
       ≡ Some (slice_index_or (held_records n 1 ps) i d)
+
+-- ---- which chunks a splice writes
+
+-- the chunks from one place to before another are those whose records may change their order
+pub record IsTouched (start : Pos) (old : Extent) (ps : List Piece) (from to : ℕ) : Type 0 where
+  pub in_order : from ≤ to
+  pub within : to ≤ length ps
+  pub front : ForEach (λ r. is_before r.pos start ≡ true) (spread_records (take from ps))
+  pub behind : ForEach (λ p. is_before (further start old) p.base ≡ true) (drop to ps)
+  pub after : ForEach (λ p. is_before p.base start ≡ false) (drop (from + 1) ps)
+  pub up_to : ForEach (λ p. is_before (further start old) p.base ≡ false)
+      (take (to - from) (drop from ps))
+
+-- the chunks from one place to before another hold their records moved and in order
+pub record IsMovedPart (start : Pos) (old new : Extent) (from to : ℕ)
+    (ps qs : List Piece) : Type 0 where
+  pub records : List Record
+  pub same : IsPermutation
+      (map (moved_record start old new) (spread_records (take (to - from) (drop from ps)))) records
+  pub in_order : Sort records
+  pub put : qs ≡ refit_pieces from (to - from) ps records
+
+-- no record stands from `start` to `end`: n stand before, one at least, and m behind, up to the row
+-- of `end`
+pub record IsGap (start end : Pos) (rs : List Record) (n m : ℕ) : Type 0 where
+  pub some : 0 < n
+  pub within : n + m ≤ length rs
+  pub front : ForEach (λ r. is_before r.pos start ≡ true) (take n rs)
+  pub behind : ForEach (λ r. is_before end r.pos ≡ true) (drop n rs)
+  pub later : ForEach (λ r. end.row < r.pos.row) (drop m (drop n rs))

@@ -4,9 +4,10 @@ use Rattle.nv_places.specs.declared.place.Pos.{Pos}
 use Rattle.nv_places.specs.Places.{IsNarrow}
 use Rattle.nv_marks.specs.declared.record.Kept.{Kept}
 use Rattle.nv_marks.specs.declared.record.Record.{Record}
-use Rattle.nv_marks.specs.inside.Records.{ForEach}
+use Rattle.nv_marks.specs.inside.Records.{ForEach, Sort}
 use Rattle.nv_marks.specs.inside.Chunks.{Piece, placed_record, records_of, spread_records}
 use Rattle.nv_marks.specs.inside.Stored.{IsEndKnown}
+use Rattle.nv_marks.proofs.EachLemmas.{Each-get_or}
 use Rattle.nv_marks.proofs.SpreadLemmas.{spread_at, spread_more, spread-append}
 use Rattle.nv_marks.proofs.PartsLemmas.{list_more, list_stop}
 use Rattle.nv_marks.proofs.list.list_chunks.Goals as goal
@@ -15,6 +16,13 @@ use Rattle.nv_marks.proofs.list.list_chunks.Goals as goal
 by_parts : (p q : Piece) (base : Pos) (ks : List Kept) → p ≡ q → base ≡ p.base → ks ≡ p.kept → records_of q ≡ map (placed_record base) ks
 by_parts p q base ks is base_is ks_is =
     sym (ap (λ (b : Pos). map (placed_record b) ks) base_is ∙ ap (λ (l : List Kept). map (placed_record p.base) l) ks_is ∙ ap records_of is)
+
+pub list_kept-requires-clause-in_order : goal.list_kept-requires-clause-in_order
+list_kept-requires-clause-in_order c =
+    subst (λ (l : List Record). Sort l)
+    (by_parts c.chunk-item.result (get_or c.args.chunks.now c.loop-chunk.chunk-index c.chunk-item.result) c.base.result c.kept.result.now c.chunk-item.is c.base.ensures
+    c.kept.ensures)
+    (Each-get_or (λ p. Sort (records_of p)) c.args.chunks.now c.loop-chunk.chunk-index c.chunk-item.result c.loop-chunk-test.true c.requires.in_order)
 
 pub list_kept-requires-clause-narrow : goal.list_kept-requires-clause-narrow
 list_kept-requires-clause-narrow c =

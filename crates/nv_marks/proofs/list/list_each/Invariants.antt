@@ -1,7 +1,7 @@
 use Rattle.std.proofs.Common.{◌≡◌, ◌≤◌, ◌+◌, map, take, length}
 use Rattle.nv_marks.specs.inside.Chunks.{placed_record, spread_records}
 use Rattle.nv_marks.specs.inside.Stored.{extended_list, listed_marks}
-use Rattle.nv_marks.proofs.list.list_kept.Given as goal
+use Rattle.nv_marks.proofs.list.list_each.Given as goal
 
 abbrev pub invariant-loop-one : goal.invariant-loop-one
 invariant-loop-one l =
