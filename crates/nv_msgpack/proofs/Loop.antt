@@ -1,7 +1,8 @@
 -- Reading values one after another, as a loop does.
-use Rattle.std.proofs.Common.{◌≡◌, ℕ, ◌+◌, ◌-◌, ◌*◌, ◌<◌, ◌≤◌, zero, suc, List, [], ◌∷◌, ◌++◌, length, drop, get_or, map, refl, sym, ap, ◌∙◌, subst, arith, cond, ltb, Bool, true, false}
+use Rattle.std.proofs.Common.{◌≡◌, ℕ, pos, ◌+◌, ◌-◌, ◌*◌, ◌<◌, ◌≤◌, zero, suc, List, [], ◌∷◌, ◌++◌, length, drop, get_or, map, refl, sym, ap, ◌∙◌, subst, arith, cond, ltb, Bool, true, false}
+use Rattle.std.proofs.lemmas.Bool.Decides.{nat_tests}
 use Rattle.std.proofs.lemmas.List.{drop-drop, drop_more, drop_all, length-drop, map-append}
-use Rattle.nv_value.specs.Content.{Tree, Trees, no_more, one, trees_of, in_turn}
+use Rattle.nv_value.specs.Content.{Tree, Trees, no_more, one, integer, trees_of, in_turn}
 use Rattle.nv_value.specs.View.{content, contents, pair_content, pair_contents}
 use Rattle.nv_value.specs.declared.value.Value.{Value}
 use Rattle.nv_value.specs.declared.value.Pair.{Pair}
@@ -327,15 +328,29 @@ plain_by i (alone t) room rest h = refl
 plain_by i (raw r s) room rest h = refl
 plain_by i (many m s) room rest h = absurd h
 
-pub value_plain : (depth room at : ℕ) (bytes : List ℕ) (f : Form) → IsPlain f → at < length bytes → f ≡ form (get_or bytes at 0) → value_at depth room (drop at bytes) ≡ read_by none f room (drop (at + 1) bytes)
-value_plain depth room at bytes f h l e = value_first depth room at bytes f l e ∙ plain_by (inside_of depth) f room (drop (at + 1) bytes) h
-
 -- a list or map, one less deep inside
 pub value_many : (depth room at : ℕ) (bytes : List ℕ) (m : Many) (s : Size) → 0 < depth → at < length bytes → many m s ≡ form (get_or bytes at 0)
     → value_at depth room (drop at bytes) ≡ many_at (items_at (value_at (depth - 1))) m s room (drop (at + 1) bytes)
 value_many depth room at bytes m s h l e =
     let d : depth ≡ suc (depth - 1) = omega arith in
     ap (λ (x : ℕ). value_at x room (drop at bytes)) d ∙ value_first (suc (depth - 1)) room at bytes (many m s) l e
+
+-- what is no list or map, or lies at depth 0
+plain_at : (depth : ℕ) (f : Form) (room : ℕ) (rest : List ℕ) → (0 < depth → IsPlain f) → read_by (inside_of depth) f room rest ≡ read_by none f room rest
+plain_at zero f room rest h = refl
+plain_at (suc depth) f room rest h = plain_by (inside_of (suc depth)) f room rest (h (omega arith))
+
+pub value_plain : (depth room at : ℕ) (bytes : List ℕ) (f : Form) → (0 < depth → IsPlain f) → at < length bytes → f ≡ form (get_or bytes at 0) → value_at depth room (drop at bytes) ≡ read_by none f room (drop (at + 1) bytes)
+value_plain depth room at bytes f h l e = value_first depth room at bytes f l e ∙ plain_at depth f room (drop (at + 1) bytes) h
+
+small_form : (b : ℕ) → b < 0x80 → form b ≡ alone (integer (pos b))
+unfolding form
+small_form b h = grind (arith, nat_tests)
+
+-- a number of at least 0 in its first byte
+pub value_small : (depth limit at : ℕ) (bytes : List ℕ) (b : ℕ) → at < length bytes → b ≡ get_or bytes at 0 → b < 0x80 → after at (value_at depth (limit - at) (drop at bytes)) ≡ whole (integer (pos b)) (at + 1)
+value_small depth limit at bytes b l e h =
+    ap (λ (r : Reading Tree). after at r) (value_first depth (limit - at) at bytes (alone (integer (pos b))) l (sym (small_form b h) ∙ ap form e))
 
 -- past the end nothing has come
 pub nothing_yet : (depth room at : ℕ) (bytes : List ℕ) → length bytes ≤ at → after at (value_at depth room (drop at bytes)) ≡ more

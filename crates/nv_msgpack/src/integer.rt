@@ -26,12 +26,16 @@ fn put_negative(number: i64, into: &mut Vec<u8>) -> Result<(), AllocError>
 }
 
 /// Any integer.
+#[inline(always)]
+#[tactic(auto, unfolding(crate::specs::Shortest::unsigned_spelling))]
 pub fn put_integer(number: i64, into: &mut Vec<u8>) -> Result<(), AllocError>
     ensures ok { OnOk result (into.new.items ≡ into.old.items ++ integer_spelling number) }
     ensures err { OnErr result (into.new.items ≡ into.old.items) }
 {
     if number < 0 {
         put_negative(number, into)
+    } else if number < 0x80 {
+        into.extend_from_slice(&[number as u8])
     } else {
         put_unsigned(number as u64, into)
     }

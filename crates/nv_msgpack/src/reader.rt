@@ -6,7 +6,7 @@ ghost use Rattle.nv_msgpack.specs.Spelling.{number_in, width, raw_value, of_ext,
 ghost use Rattle.nv_msgpack.specs.FirstByte.{size_of, form_seen};
 ghost use Rattle.nv_msgpack.specs.Decoded.{decoded_seen, HasSpellingIfWhole, IsRight, ReadsEach, AsksForMore};
 ghost use Rattle.nv_msgpack.specs.Reading.{after, none, flawed, read_by, many_at, items_at, value_at};
-ghost use Rattle.nv_msgpack.specs.inside.Steps.{Gives, flaw_of, payload_at, head_at};
+ghost use Rattle.nv_msgpack.specs.inside.Steps.{Gives, Adds, flaw_of, payload_at, head_at};
 
 use crate::decoded::{Bounds, Decoded};
 use crate::first_bytes::{FirstByte, Length, first_byte};
@@ -19,6 +19,7 @@ use std::alloc::{AllocError, Global};
 const FEW: u64 = 8;
 
 /// The bytes behind a length, and `extra` more. The value begins at `at` and ends before `limit`.
+#[inline(always)]
 fn payload_of(
     bytes: &[u8],
     at: usize,
@@ -46,6 +47,7 @@ fn payload_of(
 }
 
 /// The length of a list or map, whose every entry is `each` values, and where the values begin.
+#[inline(always)]
 fn head_of(
     bytes: &[u8],
     at: usize,
@@ -93,6 +95,7 @@ fn ext_of(alloc: Global, payload: &[u8]) -> Result<Value, AllocError>
 }
 
 /// The value at `at`, which may not be a list or map.
+#[inline(always)]
 fn plain_of(
     alloc: Global,
     first: FirstByte,
@@ -149,6 +152,7 @@ fn first_room(count: u64, left: usize) -> usize
 /// The value at `at`, which ends before `limit`, with at most `depth` lists and maps one in
 /// another.
 #[cycle(decode)]
+#[inline(always)]
 fn value_of(
     alloc: Global,
     bytes: &[u8],
@@ -164,12 +168,9 @@ fn value_of(
         return Err(Stop::NeedsMore);
     }
     let first = first_byte(bytes[at]);
-    if depth == 0 {
-        return plain_of(alloc, first, bytes, at, limit);
-    }
     match first {
-        FirstByte::List(size) => list_of(alloc, size, bytes, at, limit, depth - 1),
-        FirstByte::Map(size) => map_of(alloc, size, bytes, at, limit, depth - 1),
+        FirstByte::List(size) if depth > 0 => list_of(alloc, size, bytes, at, limit, depth - 1),
+        FirstByte::Map(size) if depth > 0 => map_of(alloc, size, bytes, at, limit, depth - 1),
         _ => plain_of(alloc, first, bytes, at, limit),
     }
 }
@@ -236,11 +237,33 @@ fn items_of(
     let mut owed = count;
     while owed > 0 {
         owed -= 1;
-        let (item, end) = value_of(alloc, bytes, at, limit - owed, depth)?;
-        items.push(item)?;
-        at = end;
+        at = put_item(alloc, bytes, at, limit - owed, depth, &mut items)?;
     }
     Ok((items, at))
+}
+
+/// Adds the value at `at` at the end of `items`, and gives the place behind it.
+#[cycle(decode)]
+fn put_item(
+    alloc: Global,
+    bytes: &[u8],
+    at: usize,
+    limit: u64,
+    depth: u32,
+    items: &mut Vec<Value>,
+) -> Result<usize, Stop>
+    requires within { at ≤ length bytes.now }
+    requires fits { at < limit }
+    ensures { Adds items.old.items items.new.items result
+        (after at (value_at depth (limit - at) (drop at bytes.now))) }
+{
+    if at < bytes.len() && bytes[at] < 0x80 {
+        items.push(Value::Int(i64::from(bytes[at])))?;
+        return Ok(at + 1);
+    }
+    let (item, end) = value_of(alloc, bytes, at, limit, depth)?;
+    items.push(item)?;
+    Ok(end)
 }
 
 /// So many pairs from `start` on.

@@ -127,9 +127,23 @@ fn put_items(items: &Vec<Value>, into: &mut Vec<u8>) -> Result<(), AllocError>
     ensures in_range { OnOk result (AreInRange (contents items.now.items)) }
 {
     for item in items {
-        put_value(item, into)?;
+        put_item(item, into)?;
     }
     Ok(())
+}
+
+/// A value of a list. Most are integers.
+#[cycle(encode)]
+fn put_item(item: &Value, into: &mut Vec<u8>) -> Result<(), AllocError>
+    requires { HasSpelling (content item.now) }
+    ensures ok { OnOk result (into.new.items ≡ into.old.items ++ shortest (content item.now)) }
+    ensures err { OnErr result (BeginsAs into.old.items into.new.items) }
+    ensures in_range { OnOk result (IsInRange (content item.now)) }
+{
+    match item {
+        Value::Int(number) => put_integer(*number, into),
+        _ => put_value(item, into),
+    }
 }
 
 #[cycle(encode)]

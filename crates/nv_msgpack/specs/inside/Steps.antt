@@ -1,6 +1,9 @@
 -- inside: what the steps of the decoder give: the parts of a reading, at places counted from the
 -- first byte of the text.
-use Rattle.std.specs.Prelude.{ℕ, ◌+◌, ◌*◌, ◌≡◌, nat_lt, if◌then◌else◌, List, length, take, drop, Result, Ok, Err}
+use Rattle.std.specs.Prelude.{ℕ, ◌+◌, ◌*◌, ◌≡◌, nat_lt, if◌then◌else◌, List, [], ◌∷◌, ◌++◌, length, take, drop, Result, Ok, Err}
+use Rattle.nv_value.specs.Content.{Tree}
+use Rattle.nv_value.specs.View.{content}
+use Rattle.nv_value.specs.declared.value.Value.{Value}
 use Rattle.nv_msgpack.specs.declared.stop.Fault.{Fault}
 use Rattle.nv_msgpack.specs.declared.stop.Fault.TheVariants as faults
 use Rattle.nv_msgpack.specs.declared.stop.Stop.{Stop}
@@ -23,6 +26,12 @@ Stops (stops.Flawed fault place) reading = reading ≡ flawed (flaw_of fault) pl
 abbrev pub Gives : {X A : Type 0} → (X → A) → Result (X × ℕ) Stop → Reading A → Type 0
 Gives view (Ok found) reading = reading ≡ whole (view found.0) found.1
 Gives view (Err stop) reading = Stops stop reading
+
+-- A step added what the reading gives at the end of the values, and gave the place behind it.
+abbrev pub Adds : List Value → List Value → Result ℕ Stop → Reading Tree → Type 0
+Adds old new (Ok end) reading =
+    (value : Value) × (new ≡ old ++ value ∷ []) × (reading ≡ whole (content value) end)
+Adds old new (Err stop) reading = Stops stop reading
 
 -- The bytes behind a length, and so many more.
 abbrev pub payload_at : Size → ℕ → ℕ → List ℕ → Reading (List ℕ)

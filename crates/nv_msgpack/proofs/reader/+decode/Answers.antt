@@ -1,14 +1,16 @@
-use Rattle.std.proofs.Common.{◌≡◌, ◌+◌, ◌-◌, ◌*◌, ◌<◌, ◌≤◌, length, sym, ap, ◌∙◌, subst, arith}
+use Rattle.std.proofs.Common.{◌≡◌, ◌+◌, ◌-◌, ◌*◌, ◌<◌, ◌≤◌, length, drop, get_or, refl, sym, ap, ◌∙◌, subst, arith, rules}
 use Rattle.std.proofs.lemmas.Result.{err_from_is_err_and}
-use Rattle.nv_value.specs.Content.{Tree, no_more, one}
+use Rattle.nv_value.specs.Content.{Tree, no_more, one, integer}
 use Rattle.nv_value.specs.View.{content, contents, pair_content, pair_contents}
 use Rattle.nv_value.specs.declared.value.Pair.{roll-Pair}
-use Rattle.nv_value.proofs.Contents.{pair_content_is}
+use Rattle.nv_value.proofs.Contents.{content-Int, pair_content_is}
 use Rattle.nv_msgpack.specs.Spelling.{of_list, of_map}
+use Rattle.nv_msgpack.specs.declared.first_bytes.FirstByte.{FirstByte}
 use Rattle.nv_msgpack.specs.FirstByte.{size_of, form_seen}
-use Rattle.nv_msgpack.specs.Reading.{Reading, whole, after}
+use Rattle.nv_msgpack.specs.Reading.{Reading, whole, after, none, read_by}
 use Rattle.nv_msgpack.specs.inside.Steps.{Gives}
-use Rattle.nv_msgpack.proofs.Loop.{joined, owed_at, contents-push, pair_contents-push, none_read, all_read, ends_within, items_end_within, item_more, item_stop, field_more, field_stop, key_stops, value_stops, pair_read, value_flat, value_plain, value_many, nothing_yet, plain_seen}
+use Rattle.nv_msgpack.proofs.Loop.{joined, owed_at, contents-push, pair_contents-push, none_read, all_read, ends_within, items_end_within, item_more, item_stop, field_more, field_stop, key_stops, value_stops, pair_read, value_plain, value_many, value_small, nothing_yet, IsPlain, plain_seen}
+use Rattle.nv_msgpack.proofs.reader.+decode.Goals.{value_of-in_default-via-in-List+else-depth-gt0, value_of-in_default-via-in-Map+else-depth-gt0-2, value_of-in_default-via-in_default}
 use Rattle.nv_msgpack.proofs.reader.+decode.Goals as goal
 
 pub fields_of-loop-owed-init : goal.fields_of-loop-owed-init
@@ -68,31 +70,31 @@ items_of-loop-owed-init t c = record {
 pub items_of-overflow_sub-limit : goal.items_of-overflow_sub-limit
 items_of-overflow_sub-limit t c = let h = c.loop-owed.invariant.fits in omega arith
 
-pub items_of-value_of-requires : goal.items_of-value_of-requires
-items_of-value_of-requires t c = let h = c.loop-owed.invariant.fits in (omega arith, (c.loop-owed.invariant.within, omega arith))
+pub items_of-put_item-requires : goal.items_of-put_item-requires
+items_of-put_item-requires t c = let h = c.loop-owed.invariant.fits in (omega arith, (c.loop-owed.invariant.within, omega arith))
 
-pub items_of-returns-in_err-item : goal.items_of-returns-in_err-item
-items_of-returns-in_err-item t c =
-    let p = err_from_is_err_and c.from_residual-in_err-item.result c.from_residual-in_err-item.ensures.1 in
-    rw (p.1, p.2) (item_stop c.in_err-item.field-0.0 c.args.depth c.args.limit c.args.bytes.now c.loop-owed.owed c.loop-owed.at (contents c.loop-owed.items.items)
-    (owed_at c.args.depth c.args.limit c.args.bytes.now c.args.count c.args.start) c.loop-owed-test.true c.loop-owed.invariant.fits c.in_err-item.ensures c.loop-owed.invariant.so_far)
+pub items_of-returns-in_err-at : goal.items_of-returns-in_err-at
+items_of-returns-in_err-at t c =
+    let p = err_from_is_err_and c.from_residual-in_err-at.result c.from_residual-in_err-at.ensures.1 in
+    rw (p.1, p.2) (item_stop c.in_err-at.field-0.0 c.args.depth c.args.limit c.args.bytes.now c.loop-owed.owed c.loop-owed.at (contents c.loop-owed.items.items)
+    (owed_at c.args.depth c.args.limit c.args.bytes.now c.args.count c.args.start) c.loop-owed-test.true c.loop-owed.invariant.fits c.in_err-at.ensures c.loop-owed.invariant.so_far)
 
 pub items_of-loop-owed-preserved : goal.items_of-loop-owed-preserved
 items_of-loop-owed-preserved t c =
-    let v = c.in_ok-item.item in
+    let v = c.in_ok-at.ensures.0 in
     let h = c.loop-owed.invariant.fits in
     let test = c.loop-owed-test.true in
     let limit = c.args.limit - (c.loop-owed.owed - 1) in
     let room : c.loop-owed.at < limit = omega arith in
-    let w = ends_within c.args.depth limit c.loop-owed.at c.args.bytes.now (content v) c.in_ok-item.end room c.loop-owed.invariant.within c.in_ok-item.ensures in
+    let w = ends_within c.args.depth limit c.loop-owed.at c.args.bytes.now (content v) c.in_ok-at.at room c.loop-owed.invariant.within c.in_ok-at.ensures.2 in
     let w1 = w.1 in
-    let e : contents c.push.new.self.items ≡ joined (contents c.loop-owed.items.items) (one (content v) no_more) =
-    rw c.in_ok-push.ensures.items (contents-push c.loop-owed.items.items v) in
+    let e : contents c.put_item.new.items.items ≡ joined (contents c.loop-owed.items.items) (one (content v) no_more) =
+    rw c.in_ok-at.ensures.1 (contents-push c.loop-owed.items.items v) in
     record {
       within = w.0;
       fits = omega arith;
-      so_far = rw e (item_more c.args.depth c.args.limit c.args.bytes.now c.loop-owed.owed c.loop-owed.at (contents c.loop-owed.items.items) (content v) c.in_ok-item.end
-          (owed_at c.args.depth c.args.limit c.args.bytes.now c.args.count c.args.start) c.loop-owed-test.true c.loop-owed.invariant.fits c.in_ok-item.ensures c.loop-owed.invariant.so_far);
+      so_far = rw e (item_more c.args.depth c.args.limit c.args.bytes.now c.loop-owed.owed c.loop-owed.at (contents c.loop-owed.items.items) (content v) c.in_ok-at.at
+          (owed_at c.args.depth c.args.limit c.args.bytes.now c.args.count c.args.start) c.loop-owed-test.true c.loop-owed.invariant.fits c.in_ok-at.ensures.2 c.loop-owed.invariant.so_far);
     }
 
 pub items_of-returns : goal.items_of-returns
@@ -154,35 +156,47 @@ pair_of-returns t c =
 pub value_of-returns-then-at-bytes : goal.value_of-returns-then-at-bytes
 value_of-returns-then-at-bytes t c = nothing_yet c.args.depth (c.args.limit - c.args.at) c.args.at c.args.bytes.now c.if-at-bytes.true
 
-pub value_of-returns-then-depth-eq0 : goal.value_of-returns-then-depth-eq0
-value_of-returns-then-depth-eq0 t c =
-    let inside : c.args.at < length c.args.bytes.now = omega arith in
-    let e = value_flat c.args.depth (c.args.limit - c.args.at) c.args.at c.args.bytes.now (form_seen c.first_byte-first.result) c.if-depth-eq0.true inside c.first_byte-first.ensures in
-    subst (λ (r : Reading Tree). Gives content c.plain_of.result (after c.args.at r)) (sym e) c.plain_of.ensures
+pub put_item-returns-then-bytes-at-lt128 : goal.put_item-returns-then-bytes-at-lt128
+put_item-returns-then-bytes-at-lt128 t c =
+    let b = get_or c.args.bytes.now c.args.at 0 in
+    let e = value_small c.args.depth c.args.limit c.args.at c.args.bytes.now b c.if-at-bytes.true refl c.if-bytes-at-lt128.true in
+    (_, c.in_ok-push.ensures.items, e ∙ ap (λ (u : Tree). whole u (c.args.at + 1)) (sym (content-Int _ ∙ ap integer (search (rules, c.from.ensures)))))
+
+pub put_item-value_of-requires : goal.put_item-value_of-requires
+put_item-value_of-requires t c = (omega arith, (c.requires.within, c.requires.fits))
 
 pub value_of-list_of-requires : goal.value_of-list_of-requires
-value_of-list_of-requires t c = let h = c.if-depth-eq0.false in (omega arith, (omega arith, omega arith))
+value_of-list_of-requires t c = let h = c.if-depth-gt0.true in (omega arith, (omega arith, c.requires.fits))
 
 pub value_of-map_of-requires : goal.value_of-map_of-requires
-value_of-map_of-requires t c = let h = c.if-depth-eq0.false in (omega arith, (omega arith, omega arith))
+value_of-map_of-requires t c = let h = c.if-depth-gt0-2.true in (omega arith, (omega arith, c.requires.fits))
 
 pub value_of-returns-in-List : goal.value_of-returns-in-List
 value_of-returns-in-List t c =
     let inside : c.args.at < length c.args.bytes.now = omega arith in
-    let deep : 0 < c.args.depth = let h = c.if-depth-eq0.false in omega arith in
-    let e = value_many c.args.depth (c.args.limit - c.args.at) c.args.at c.args.bytes.now of_list (size_of c.in-List.size) deep inside c.in-List.ensures in
+    let e = value_many c.args.depth (c.args.limit - c.args.at) c.args.at c.args.bytes.now of_list (size_of c.in-List.size) c.if-depth-gt0.true inside c.in-List.ensures in
     subst (λ (r : Reading Tree). Gives content c.list_of.result (after c.args.at r)) (sym e) c.list_of.ensures
 
 pub value_of-returns-in-Map : goal.value_of-returns-in-Map
 value_of-returns-in-Map t c =
     let inside : c.args.at < length c.args.bytes.now = omega arith in
-    let deep : 0 < c.args.depth = let h = c.if-depth-eq0.false in omega arith in
-    let e = value_many c.args.depth (c.args.limit - c.args.at) c.args.at c.args.bytes.now of_map (size_of c.in-Map.size) deep inside c.in-Map.ensures in
+    let e = value_many c.args.depth (c.args.limit - c.args.at) c.args.at c.args.bytes.now of_map (size_of c.in-Map.size) c.if-depth-gt0-2.true inside c.in-Map.ensures in
     subst (λ (r : Reading Tree). Gives content c.map_of.result (after c.args.at r)) (sym e) c.map_of.ensures
 
 pub value_of-returns-in_default : goal.value_of-returns-in_default
 value_of-returns-in_default t c =
     let inside : c.args.at < length c.args.bytes.now = omega arith in
     let first = c.first_byte-first.result in
-    let e = value_plain c.args.depth (c.args.limit - c.args.at) c.args.at c.args.bytes.now (form_seen first) (plain_seen first c.in_default.not-List c.in_default.not-Map) inside c.first_byte-first.ensures in
-    subst (λ (r : Reading Tree). Gives content c.plain_of-in_default.result (after c.args.at r)) (sym e) c.plain_of-in_default.ensures
+    let plain : 0 < c.args.depth → IsPlain (form_seen first) = elim c.in_default.branch [
+      | value_of-in_default-via-in-List+else-depth-gt0 w ↦ λ d. let h = w.if-depth-gt0.false in absurd (omega arith)
+      | value_of-in_default-via-in-Map+else-depth-gt0-2 w ↦ λ d. let h = w.if-depth-gt0-2.false in absurd (omega arith)
+      | value_of-in_default-via-in_default w ↦ λ d. plain_seen first w.in_default.not-List w.in_default.not-Map
+    ] in
+    let same : c.in_default.first ≡ first = elim c.in_default.branch [
+      | value_of-in_default-via-in-List+else-depth-gt0 w ↦ w.first-is ∙ sym w.in-List.is
+      | value_of-in_default-via-in-Map+else-depth-gt0-2 w ↦ w.first-is ∙ sym w.in-Map.is
+      | value_of-in_default-via-in_default w ↦ w.first-is
+    ] in
+    let e = value_plain c.args.depth (c.args.limit - c.args.at) c.args.at c.args.bytes.now (form_seen first) plain inside c.first_byte-first.ensures in
+    subst (λ (r : Reading Tree). Gives content c.plain_of.result (after c.args.at r)) (sym e)
+    (subst (λ (f : FirstByte). Gives content c.plain_of.result (after c.args.at (read_by none (form_seen f) (c.args.limit - c.args.at) (drop (c.args.at + 1) c.args.bytes.now)))) same c.plain_of.ensures)

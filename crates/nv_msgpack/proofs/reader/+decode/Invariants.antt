@@ -16,6 +16,9 @@ decreases-map_of l = 4 * l.depth + 6
 abbrev pub decreases-items_of : goal.decreases-items_of
 decreases-items_of l = 4 * l.depth + 5
 
+abbrev pub decreases-put_item : goal.decreases-put_item
+decreases-put_item l = 4 * l.depth + 4
+
 abbrev pub decreases-fields_of : goal.decreases-fields_of
 decreases-fields_of l = 4 * l.depth + 5
 

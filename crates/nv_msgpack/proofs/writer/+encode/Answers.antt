@@ -31,17 +31,17 @@ put_fields-loop-pair-preserved t c =
       in_range = pair_in_range ps i c.pair-item.result lt c.pair-item.is c.loop-pair.invariant.in_range c.in_ok-put_pair.ensures.key_in_range c.in_ok-put_pair.ensures.value_in_range;
     }
 
-pub put_items-put_value-requires : goal.put_items-put_value-requires
-put_items-put_value-requires t c =
+pub put_items-put_item-requires : goal.put_items-put_item-requires
+put_items-put_item-requires t c =
     let vs = c.deref-item-items.result.now in
     let i = c.loop-item.item-index in
     let lt : i < length vs = omega arith in
     let has : HaveSpellings (contents vs) = subst (λ l. HaveSpellings (contents l)) (sym c.deref-item-items.ensures.value) c.requires in
     (omega (arith, no_larger the_size c.args.items.now.items vs i c.item-item.result c.deref-item-items.ensures.value lt c.item-item.is), item_spelling vs i c.item-item.result lt c.item-item.is has)
 
-pub put_items-returns-in_err-put_value-clause-err : goal.put_items-returns-in_err-put_value-clause-err
-put_items-returns-in_err-put_value-clause-err t c =
-    on_err c.from_residual.result (begins_as c.args.into.now.items c.loop-item.into.items c.put_value.new.into.items _ c.loop-item.invariant.written c.in_err-put_value.ensures.err)
+pub put_items-returns-in_err-put_item-clause-err : goal.put_items-returns-in_err-put_item-clause-err
+put_items-returns-in_err-put_item-clause-err t c =
+    on_err c.from_residual.result (begins_as c.args.into.now.items c.loop-item.into.items c.put_item.new.into.items _ c.loop-item.invariant.written c.in_err-put_item.ensures.err)
 
 pub put_items-loop-item-preserved : goal.put_items-loop-item-preserved
 put_items-loop-item-preserved t c =
@@ -49,8 +49,8 @@ put_items-loop-item-preserved t c =
     let i = c.loop-item.item-index in
     let lt : i < length vs = omega arith in
     record {
-      written = item_written c.args.into.now.items c.loop-item.into.items c.put_value.new.into.items vs i c.item-item.result lt c.item-item.is c.loop-item.invariant.written c.in_ok-put_value.ensures.ok;
-      in_range = item_in_range vs i c.item-item.result lt c.item-item.is c.loop-item.invariant.in_range c.in_ok-put_value.ensures.in_range;
+      written = item_written c.args.into.now.items c.loop-item.into.items c.put_item.new.into.items vs i c.item-item.result lt c.item-item.is c.loop-item.invariant.written c.in_ok-put_item.ensures.ok;
+      in_range = item_in_range vs i c.item-item.result lt c.item-item.is c.loop-item.invariant.in_range c.in_ok-put_item.ensures.in_range;
     }
 
 pub put_value-overflow_cast-len : goal.put_value-overflow_cast-len
