@@ -15,7 +15,7 @@ use Rattle.nv_marks.specs.declared.record.Record.{Record}
 use Rattle.nv_marks.specs.declared.record.Kept.{Kept}
 use Rattle.nv_marks.specs.inside.Records.{ForEach, Sort, precedes}
 use Rattle.nv_marks.specs.inside.Chunks.{Piece, placed_record, kept_from, reach, records_of, spread_records, base_of, refilled_piece, IsBased, IsLaid, held_records, pieces_edited_at, starts_before, with_inserted, with_removed, has_place}
-use Rattle.nv_marks.proofs.EachLemmas.{Each-get_or, Each-take, Each-drop, Each-unmap, Each-map, Rises-left, Rises-right, lower_parts, sorted_from_rises, Rises-from_sorted, point_front, point_rest}
+use Rattle.nv_marks.proofs.EachLemmas.{Each-get_or, Each-weaker, Each-take, Each-drop, Each-unmap, Each-map, Rises-left, Rises-right, lower_parts, sorted_from_rises, Rises-from_sorted, point_front, point_rest}
 use Rattle.nv_marks.proofs.OrderLemmas.{IsSortedBy-insert}
 use Rattle.nv_marks.proofs.PlacesLemmas.{record_ranks, follows}
 use Rattle.nv_marks.proofs.SpreadLemmas.{length-records}
@@ -68,49 +68,61 @@ Sort-rest base ks rest n is up =
     (Rises-right precedes (map (placed_record base) (take n ks)) (map (placed_record base) (drop n ks))
     (subst (λ (l : List Record). Sort l) (sym (ap (map (placed_record base)) (take-append-drop n ks)) ∙ map-append (placed_record base) (take n ks) (drop n ks)) up))
 
-not_true : (b : Bool) → not b ≡ false → b ≡ true
-not_true true is = refl
-not_true false is = absurd (cc)
+-- the records of a chunk that don't stand before a place
+module _ (from base : Pos) (ks rest : List Kept) (n : ℕ) (rest_is : rest ≡ drop n ks)
+    (front : IsPartitionPoint (λ k. is_before (further base k.by) from ≡ true) (λ k. is_before (further base k.by) from ≡ false) ks n) where
+  pub rest_not_before : ForEach (λ r. is_before r.pos from ≡ false) (map (placed_record base) rest)
+  rest_not_before =
+      subst (λ (l : List Kept). ForEach (λ r. is_before r.pos from ≡ false) (map (placed_record base) l)) (sym rest_is)
+      (Each-map (λ r. is_before r.pos from ≡ false) (placed_record base) (drop n ks) (point_rest (λ k. is_before (further base k.by) from) ks n front))
 
-behind_each : (base to : Pos) (ks : List Kept) → ForEach (λ k. not (is_before to (further base k.by)) ≡ false) ks
-    → ForEach (λ r. is_before to r.pos ≡ true) (map (placed_record base) ks)
-behind_each base to [] each = tt
-behind_each base to (k ∷ ks) each = (not_true (is_before to (further base k.by)) each.0, behind_each base to ks each.1)
-
-module _ (from to base : Pos) (ks : List Kept) (n m : ℕ)
-    (front : IsPartitionPoint (λ k. is_before (further base k.by) from ≡ true) (λ k. is_before (further base k.by) from ≡ false) ks n)
-    (back : IsPartitionPoint (λ k. not (is_before to (further base k.by)) ≡ true) (λ k. not (is_before to (further base k.by)) ≡ false) (drop n ks) m) where
-  part_is : map (placed_record base) ks
-      ≡ map (placed_record base) (take n ks) ++ (map (placed_record base) (take m (drop n ks)) ++ map (placed_record base) (drop m (drop n ks)))
-  part_is =
-      sym (ap (map (placed_record base)) (take-append-drop n ks)) ∙ map-append (placed_record base) (take n ks) (drop n ks)
-      ∙ ap (λ (l : List Record). map (placed_record base) (take n ks) ++ l)
-      (sym (ap (map (placed_record base)) (take-append-drop m (drop n ks))) ∙ map-append (placed_record base) (take m (drop n ks)) (drop m (drop n ks)))
-
-  part_within : filter (λ r. is_within from to r.pos) (map (placed_record base) (take m (drop n ks)))
-      ≡ filter (λ r. is_within from to r.pos) (map (placed_record base) ks)
-  part_within =
+  pub rest_within : (to : Pos) → filter (λ r. is_within from to r.pos) (map (placed_record base) rest) ≡ filter (λ r. is_within from to r.pos) (map (placed_record base) ks)
+  rest_within to =
       let t : Record → Bool = λ r. is_within from to r.pos in
       let fs : List Record = map (placed_record base) (take n ks) in
-      let ms : List Record = map (placed_record base) (take m (drop n ks)) in
-      let bs : List Record = map (placed_record base) (drop m (drop n ks)) in
-      sym (ap (filter t) part_is ∙ filter-append t fs (ms ++ bs)
-      ∙ ap (λ (l : List Record). l ++ filter t (ms ++ bs))
+      let bs : List Record = map (placed_record base) (drop n ks) in
+      ap (λ (l : List Kept). filter (λ (r : Record). is_within from to r.pos) (map (placed_record base) l)) rest_is
+      ∙ sym (ap (filter t) (sym (ap (map (placed_record base)) (take-append-drop n ks)) ∙ map-append (placed_record base) (take n ks) (drop n ks))
+      ∙ filter-append t fs bs
+      ∙ ap (λ (l : List Record). l ++ filter t bs)
       (filter_skips t fs (not_from from to fs (Each-map (λ r. is_before r.pos from ≡ true) (placed_record base) (take n ks)
-      (point_front (λ k. is_before (further base k.by) from) ks n front))))
-      ∙ filter-append t ms bs
-      ∙ ap (λ (l : List Record). filter t ms ++ l)
-      (filter_skips t bs (not_to from to bs (behind_each base to (drop m (drop n ks)) (point_rest (λ k. not (is_before to (further base k.by))) (drop n ks) m back))))
-      ∙ append-nil (filter t ms))
+      (point_front (λ k. is_before (further base k.by) from) ks n front)))))
 
-pub part_lent : (from to base : Pos) (ks rest lent : List Kept) (n m : ℕ) → rest ≡ drop n ks → lent ≡ take m rest
-    → IsPartitionPoint (λ k. is_before (further base k.by) from ≡ true) (λ k. is_before (further base k.by) from ≡ false) ks n
-    → IsPartitionPoint (λ k. not (is_before to (further base k.by)) ≡ true) (λ k. not (is_before to (further base k.by)) ≡ false) rest m
-    → filter (λ r. is_within from to r.pos) (map (placed_record base) lent) ≡ filter (λ r. is_within from to r.pos) (map (placed_record base) ks)
-part_lent from to base ks rest lent n m rest_is lent_is front back =
-    ap (λ (l : List Kept). filter (λ (r : Record). is_within from to r.pos) (map (placed_record base) l)) (lent_is ∙ ap (take m) rest_is)
-    ∙ part_within from to base ks n m front
-    (subst (λ (l : List Kept). IsPartitionPoint (λ k. not (is_before to (further base k.by)) ≡ true) (λ k. not (is_before to (further base k.by)) ≡ false) l m) rest_is back)
+  pub rest_each : (P : Record → Type 0) → ForEach P (map (placed_record base) ks) → ForEach P (map (placed_record base) rest)
+  rest_each P each =
+      subst (λ (l : List Kept). ForEach P (map (placed_record base) l)) (sym rest_is)
+      (Each-map P (placed_record base) (drop n ks) (Each-drop (λ k. P (placed_record base k)) n ks (Each-unmap P (placed_record base) ks each)))
+
+pub is_inside : (from to p : Pos) → is_before p from ≡ false → is_before to p ≡ false → is_within from to p ≡ true
+is_inside from to p after before = grind (arith, nat_tests)
+
+-- behind a record that stands behind a place none is within
+later_too : (to p q : Pos) → is_before q p ≡ false → is_before to p ≡ true → is_before to q ≡ true
+later_too to p q later before = grind (arith, nat_tests)
+
+pub behind_too : (to base : Pos) (ks : List Kept) (i : ℕ) (d : Kept) → i < length ks → Sort (map (placed_record base) ks)
+    → is_before to (further base (get_or ks i d).by) ≡ true → ForEach (λ r. is_before to r.pos ≡ true) (map (placed_record base) (drop i ks))
+behind_too to base ks i d within up behind =
+    let k : Kept = get_or ks i d in
+    let next : drop i ks ≡ k ∷ drop (i + 1) ks = drop_more ks i d within in
+    let rises : Sort (placed_record base k ∷ map (placed_record base) (drop (i + 1) ks)) =
+    subst (λ (l : List Kept). Sort (map (placed_record base) l)) next (Sort-rest base ks (drop i ks) i refl up) in
+    subst (λ (l : List Kept). ForEach (λ r. is_before to r.pos ≡ true) (map (placed_record base) l)) (sym next) (
+      behind,
+      Each-weaker (λ r. precedes r (placed_record base k) ≡ false) (λ r. is_before to r.pos ≡ true)
+          (λ r later. later_too to (further base k.by) r.pos (follows r (placed_record base k) later) behind) (map (placed_record base) (drop (i + 1) ks)) rises.0,
+    )
+
+pub none_within_behind : (from to base : Pos) (ks : List Kept) (i : ℕ) → ForEach (λ r. is_before to r.pos ≡ true) (map (placed_record base) (drop i ks))
+    → filter (λ r. is_within from to r.pos) (map (placed_record base) ks) ≡ filter (λ r. is_within from to r.pos) (map (placed_record base) (take i ks))
+none_within_behind from to base ks i behind =
+    let t : Record → Bool = λ r. is_within from to r.pos in
+    let fs : List Record = map (placed_record base) (take i ks) in
+    let bs : List Record = map (placed_record base) (drop i ks) in
+    ap (filter t) (sym (ap (map (placed_record base)) (take-append-drop i ks)) ∙ map-append (placed_record base) (take i ks) (drop i ks))
+    ∙ filter-append t fs bs
+    ∙ ap (λ (l : List Record). filter t fs ++ l) (filter_skips t bs (not_to from to bs behind))
+    ∙ append-nil (filter t fs)
 
 pub part_each : (P : Record → Type 0) (base : Pos) (ks rest lent : List Kept) (n m : ℕ) → rest ≡ drop n ks → lent ≡ take m rest
     → ForEach P (map (placed_record base) ks) → ForEach P (map (placed_record base) lent)

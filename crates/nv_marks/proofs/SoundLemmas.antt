@@ -1,5 +1,5 @@
 -- Sets of marks stay sound.
-use Rattle.std.proofs.Common.{◌≡◌, ◌≤◌, List, [], ◌∷◌, ℕ, refl, ◌∙◌, map, arith, All, Bool, not, cond, eqb, max, Some}
+use Rattle.std.proofs.Common.{◌≡◌, ◌≤◌, ◌<◌, List, [], ◌∷◌, ℕ, refl, ap, ◌∙◌, map, arith, All, Bool, true, false, not, cond, eqb, max, Some, None}
 use Rattle.std.specs.Prelude.{filter, option_map}
 use Rattle.std.specs.List.{IsDistinct}
 use Rattle.std.specs.Ordering.{is_lt}
@@ -16,7 +16,7 @@ use Rattle.nv_marks.specs.Moves.{moved_mark}
 use Rattle.nv_marks.specs.Sound.{same_name, IsSound}
 use Rattle.nv_marks.specs.declared.extmark.Mark.{Mark}
 use Rattle.nv_marks.proofs.OrderLemmas.{mark_order_ranks}
-use Rattle.nv_marks.proofs.NameLemmas.{named_once, same_name-flips, find-permutation, find-map, IsDistinct-without, IsDistinct-map, IsDistinct-with, mark_at-with}
+use Rattle.nv_marks.proofs.NameLemmas.{find-none, named_once, same_name-flips, find-permutation, find-map, IsDistinct-without, IsDistinct-map, IsDistinct-with, mark_at-with}
 
 pub sound_none : (greatest : List (ℕ × ℕ)) → IsSound [] greatest
 sound_none greatest = record {
@@ -85,3 +85,18 @@ pub mark_at-set : (mark : Mark) (marks sorted : List Mark) → IsDistinct same_n
 mark_at-set mark marks sorted apart ordered ns id =
     mark_at-in_order (mark ∷ without mark.ns mark.id marks) sorted (IsDistinct-with mark marks apart) ordered ns id
     ∙ mark_at-with mark marks ns id
+
+-- no mark has an id above the greatest of its namespace
+pub none_counted : (greatest : List (ℕ × ℕ)) (marks : List Mark) (ns id : ℕ) → greatest_id greatest ns < id
+    → All (λ m. m.id ≤ greatest_id greatest m.ns) marks → mark_at marks ns id ≡ None
+none_counted greatest marks ns id above counted =
+    find-none (is_named ns id) marks
+    (All-weaker (λ m. m.id ≤ greatest_id greatest m.ns) (λ m. is_named ns id m ≡ false) (λ m few. other m few (is_named ns id m) refl) marks counted)
+  where
+    other : (m : Mark) → m.id ≤ greatest_id greatest m.ns → (b : Bool) → is_named ns id m ≡ b → is_named ns id m ≡ false
+    other m few true is =
+        let ns_is : m.ns ≡ ns = grind (arith, nat_tests) in
+        let id_is : m.id ≡ id = grind (arith, nat_tests) in
+        let most_is = ap (greatest_id greatest) ns_is in
+        absurd (omega arith)
+    other m few false is = is

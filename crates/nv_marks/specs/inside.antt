@@ -1,5 +1,4 @@
 pub mod Records
 pub mod Chunks
 pub mod Stored
-pub mod Puts
 pub mod Names

@@ -4,9 +4,9 @@ ghost use Rattle.nv_marks.specs.Order.{is_within, starts_within};
 ghost use Rattle.nv_marks.specs.inside.Chunks.{IsLaid, placed_record, records_of, spread_records};
 ghost use Rattle.nv_marks.specs.inside.Records.{ForEach, Sort, marks_among, same_key};
 ghost use Rattle.nv_marks.specs.inside.Stored.{IsEndKnown, extended_list, listed_marks};
-ghost use Rattle.nv_places.specs.Places.{IsNarrow};
+ghost use Rattle.nv_places.specs.Places.{IsNarrow, is_before};
 ghost use Rattle.std.specs.List.{IsDistinct};
-ghost use Rattle.std.specs.Prelude.{◌≡◌, ◌+◌, ◌-◌, ◌≤◌, ◌++◌, ◌∷◌, List, [], OnErr, OnOk, filter, length, map, take};
+ghost use Rattle.std.specs.Prelude.{◌≡◌, ◌+◌, ◌-◌, ◌<◌, ◌≤◌, ◌++◌, ◌∷◌, List, [], OnErr, OnOk, false, filter, length, map, take, true};
 
 use crate::chunk::Chunk;
 use crate::extmark::Mark;
@@ -109,29 +109,31 @@ fn list_kept(
     ensures begun { take range.held into.new.items ≡ take range.held into.old.items }
     ensures more { length into.old.items ≤ length into.new.items }
 {
-    let within = kept_within(base, kept, range.from, range.to);
-    list_each(store, index, base, within, range, into)
+    let rest = rest_from(base, kept, range.from);
+    list_each(store, index, base, rest, range, into)
 }
 
-/// Those records of a chunk that stand from `from` to `to`, both included.
-fn kept_within(base: Pos, kept: &[Kept], from: Pos, to: Pos) -> &[Kept]
+/// Those records of a chunk that don't stand before a place.
+fn rest_from(base: Pos, kept: &[Kept], from: Pos) -> &[Kept]
     requires in_order { Sort (map (placed_record base) kept.now) }
+    ensures in_order { Sort (map (placed_record base) result.now) }
     ensures narrow { ForEach (λ r. IsNarrow r.pos) (map (placed_record base) kept.now)
         → ForEach (λ r. IsNarrow r.pos) (map (placed_record base) result.now) }
     ensures ends { (all : List Record)
         → ForEach (IsEndKnown all) (map (placed_record base) kept.now)
         → ForEach (IsEndKnown all) (map (placed_record base) result.now) }
-    ensures within { filter (λ r. is_within from to r.pos) (map (placed_record base) result.now)
+    ensures from { ForEach (λ r. is_before r.pos from ≡ false)
+        (map (placed_record base) result.now) }
+    ensures within { (to : Pos)
+        → filter (λ r. is_within from to r.pos) (map (placed_record base) result.now)
         ≡ filter (λ r. is_within from to r.pos) (map (placed_record base) kept.now) }
 {
     let first = kept.partition_point(|one| one.stands_before(base, from));
     let (_, rest) = kept.split_at(first);
-    let count = rest.partition_point(|one| !one.stands_behind(base, to));
-    let (within, _) = rest.split_at(count);
-    within
+    rest
 }
 
-/// Lists the marks that start among records of one chunk.
+/// Lists the marks that start among records of one chunk that don't stand before the range.
 fn list_each(
     store: &Store,
     index: &Index,
@@ -142,6 +144,9 @@ fn list_each(
 ) -> Result<(), AllocError>
     requires laid { IsLaid store.now.chunks.items }
     requires once { IsDistinct same_key (spread_records store.now.chunks.items) }
+    requires in_order { Sort (map (placed_record base) kept.now) }
+    requires from { ForEach (λ r. is_before r.pos range.from ≡ false)
+        (map (placed_record base) kept.now) }
     requires narrow { ForEach (λ r. IsNarrow r.pos) (map (placed_record base) kept.now) }
     requires ends { ForEach (IsEndKnown (spread_records store.now.chunks.items))
         (map (placed_record base) kept.now) }
@@ -154,12 +159,18 @@ fn list_each(
     ensures more { length into.old.items ≤ length into.new.items }
 {
     for one in kept {
+        if range.limit <= into.len() - range.held {
+            return Ok(());
+        }
+        if one.stands_behind(base, range.to) {
+            return Ok(());
+        }
         list_one(store, index, one.placed(base), range, into)?;
     }
     Ok(())
 }
 
-/// Lists the mark of a record, where it is a start within the range.
+/// Lists the mark of a record within the range, where it is a start.
 fn list_one(
     store: &Store,
     index: &Index,
@@ -171,15 +182,14 @@ fn list_one(
     requires once { IsDistinct same_key (spread_records store.now.chunks.items) }
     requires ends { IsEndKnown (spread_records store.now.chunks.items) one }
     requires held { range.held ≤ length into.old.items }
+    requires within { is_within range.from range.to one.pos ≡ true }
+    requires more { length into.old.items < range.held + range.limit }
     ensures ok { OnOk result (into.new.items ≡ extended_list
         (range.held + range.limit) into.old.items
         (listed_marks (spread_records store.now.chunks.items) range.from range.to (one ∷ []))) }
     ensures err { OnErr result (into.new.items ≡ into.old.items) }
 {
-    if one.info.is_end || one.pos.is_before(range.from) || range.to.is_before(one.pos) {
-        return Ok(());
-    }
-    if into.len() - range.held >= range.limit {
+    if one.info.is_end {
         return Ok(());
     }
     into.push(mark_of(store, one, end_place(index, &one.info)))?;

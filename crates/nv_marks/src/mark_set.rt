@@ -15,7 +15,7 @@ use crate::chunk::Chunk;
 use crate::extmark::Mark;
 use crate::index::Index;
 use crate::list::list;
-use crate::parts::{find_mark, put_mark, take_found};
+use crate::parts::{find_counted, find_mark, put_mark, take_found};
 use crate::record::Record;
 use crate::steps::Steps;
 use crate::store::Store;
@@ -93,7 +93,7 @@ impl MarkSet {
     pub fn find(&self, ns: u32, id: u32) -> Option<Mark>
         ensures { result ≡ mark_at self.now.marks ns id }
     {
-        find_mark(&self.store, &self.index, ns, id)
+        find_counted(&self.store, &self.index, &self.greatest, ns, id)
     }
 
     /// Sets a mark, in place of the one of the same namespace and id if there is one.
@@ -109,7 +109,7 @@ impl MarkSet {
         ensures err { OnErr result (self.new ≡ self.old) }
     {
         let Mark { ns, id, .. } = mark;
-        let found = find_mark(&self.store, &self.index, ns, id);
+        let found = find_counted(&self.store, &self.index, &self.greatest, ns, id);
         let room = scratch_room(self.count).ok_or(AllocError)?;
         self.scratch.reserve(room)?;
         self.store.reserve()?;
@@ -291,12 +291,27 @@ fn enter(
     ensures err_greatest { OnErr result (greatest.new.entries ≡ greatest.old.entries) }
 {
     enter_name(index, ns, id, is_new)?;
-    let most = greatest.get(&ns).copied().unwrap_or(0);
-    if greatest.insert(ns, most.max(id)).is_err() {
+    if count_id(greatest, ns, id).is_err() {
         leave_name(index, ns, id, is_new);
         return Err(AllocError);
     }
     Ok(())
+}
+
+/// Counts an id among those that were ever set in a namespace.
+fn count_id(greatest: &mut BTreeMap<u32, u32>, ns: u32, id: u32) -> Result<(), AllocError>
+    ensures ok { OnOk result ((n : ℕ) → greatest_id greatest.new.entries n
+        ≡ (if n == ns then max (greatest_id greatest.old.entries n) id
+        else greatest_id greatest.old.entries n)) }
+    ensures err { OnErr result (greatest.new.entries ≡ greatest.old.entries) }
+{
+    match greatest.get(&ns).copied() {
+        Some(most) if id <= most => Ok(()),
+        _ => {
+            greatest.insert(ns, id)?;
+            Ok(())
+        }
+    }
 }
 
 /// Enters a name where it is a new one.

@@ -1,19 +1,20 @@
 //! Marks in a store of records: found, taken out, put in and listed.
 
-ghost use Rattle.nv_marks.specs.Marks.{mark_at};
+ghost use Rattle.nv_marks.specs.Marks.{greatest_id, mark_at};
 ghost use Rattle.nv_marks.specs.inside.Chunks.{IsLaid, IsSpare, spread_records};
 ghost use Rattle.nv_marks.specs.inside.Names.{IsIndexOf};
 ghost use Rattle.nv_marks.specs.inside.Records.{ForEach, belongs_to, end_among, has_key, mark_among, marks_among, records_of_mark, records_of_marks, same_key, start_record, end_record};
 ghost use Rattle.nv_marks.specs.inside.Stored.{IsEndKnown};
 ghost use Rattle.nv_places.specs.Places.{IsNarrow};
 ghost use Rattle.std.specs.List.{IsDistinct};
-ghost use Rattle.std.specs.Prelude.{◌≡◌, ◌+◌, ◌≤◌, ◌<◌, ◌++◌, ◌∷◌, [], IsPermutation, None, false, filter, is_some, not, vec_capacity, vec_len};
+ghost use Rattle.std.specs.Prelude.{◌≡◌, ◌+◌, ◌≤◌, ◌<◌, ◌++◌, ◌∷◌, [], All, IsPermutation, None, false, filter, is_some, not, vec_capacity, vec_len};
 
 use crate::chunk::Chunk;
 use crate::extmark::{Far, Mark};
 use crate::index::Index;
 use crate::record::{Info, Record};
 use crate::store::Store;
+use std::collections::BTreeMap;
 
 /// The mark of a namespace and id.
 pub(crate) fn find_mark(store: &Store, index: &Index, ns: u32, id: u32) -> Option<Mark>
@@ -27,6 +28,31 @@ pub(crate) fn find_mark(store: &Store, index: &Index, ns: u32, id: u32) -> Optio
     let home = index.home(ns, id)?;
     let start = store.find(index.place(home.start), ns, id, false)?;
     Some(mark_of(store, start, index.place(home.end)))
+}
+
+/// The mark of a namespace and id, where no mark has an id above the greatest of its namespace: so
+/// a greater one isn't looked for.
+pub(crate) fn find_counted(
+    store: &Store,
+    index: &Index,
+    greatest: &BTreeMap<u32, u32>,
+    ns: u32,
+    id: u32,
+) -> Option<Mark>
+    requires laid { IsLaid store.now.chunks.items }
+    requires once { IsDistinct same_key (spread_records store.now.chunks.items) }
+    requires ends { ForEach (IsEndKnown (spread_records store.now.chunks.items))
+        (spread_records store.now.chunks.items) }
+    requires index { IsIndexOf index.now (marks_among (spread_records store.now.chunks.items)) }
+    requires counted { All (λ m. m.id ≤ greatest_id greatest.now.entries m.ns)
+        (marks_among (spread_records store.now.chunks.items)) }
+    ensures { result ≡ mark_at (marks_among (spread_records store.now.chunks.items)) ns id }
+{
+    let most = greatest.get(&ns).copied().unwrap_or(0);
+    if id > most {
+        return None;
+    }
+    find_mark(store, index, ns, id)
 }
 
 /// The mark of a start, with its end from the chunk at `near`, if it is there.

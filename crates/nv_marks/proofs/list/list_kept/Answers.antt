@@ -10,9 +10,9 @@ returns-clause-ok c =
     on_ok_weaker c.list_each.result
     (λ is. is
     ∙ ap (extended_list (c.args.range.held + c.args.range.limit) c.args.into.now.items)
-    (list_same (spread_records c.args.store.now.chunks.items) c.args.range.from c.args.range.to (map (placed_record c.args.base) c.kept_within-within.result.now)
-    (map (placed_record c.args.base) c.args.kept.now) c.kept_within-within.ensures.within))
+    (list_same (spread_records c.args.store.now.chunks.items) c.args.range.from c.args.range.to (map (placed_record c.args.base) c.rest_from-rest.result.now)
+    (map (placed_record c.args.base) c.args.kept.now) (c.rest_from-rest.ensures.within c.args.range.to)))
     c.list_each.ensures.ok
 
 pub list_each-requires-clause-ends : goal.list_each-requires-clause-ends
-list_each-requires-clause-ends c = c.kept_within-within.ensures.ends (spread_records c.args.store.now.chunks.items) c.requires.ends
+list_each-requires-clause-ends c = c.rest_from-rest.ensures.ends (spread_records c.args.store.now.chunks.items) c.requires.ends

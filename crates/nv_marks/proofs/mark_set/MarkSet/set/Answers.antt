@@ -10,8 +10,8 @@ use Rattle.nv_marks.proofs.IndexLemmas.{index_with}
 use Rattle.nv_marks.proofs.StoredLemmas.{ends_of_stored, stored_with, ordered_with, found_with, count_with_one, room_with}
 use Rattle.nv_marks.proofs.mark_set.MarkSet.set.Goals as goal
 
-pub find_mark-found-requires-clause-ends : goal.find_mark-found-requires-clause-ends
-find_mark-found-requires-clause-ends c =
+pub find_counted-found-requires-clause-ends : goal.find_counted-found-requires-clause-ends
+find_counted-found-requires-clause-ends c =
     ends_of_stored c.self.inside.store.chunks.items c.self.inside.greatest.entries c.self.invariant.0
 
 pub invariant_of-self-2 : goal.invariant_of-self-2
@@ -24,13 +24,13 @@ invariant_of-self-2 c =
       stored_with c.args.mark c.self.inside.store.chunks.items c.take_found.new.store.chunks.items c.put_mark.new.store.chunks.items c.self.inside.greatest.entries
           c.enter.new.greatest.entries c.self.invariant.0 c.take_found.ensures.laid c.put_mark.ensures.laid rest c.put_mark.ensures.same_records counts,
       record {
-        count = c.count_with-self-inside.ensures ∙ ap (λ (n : ℕ). cond (is_some c.find_mark-found.result) n (n + 1)) c.self.invariant.1.count
+        count = c.count_with-self-inside.ensures ∙ ap (λ (n : ℕ). cond (is_some c.find_counted-found.result) n (n + 1)) c.self.invariant.1.count
             ∙ sym (count_with_one c.args.mark c.self.inside.store.chunks.items c.take_found.new.store.chunks.items c.put_mark.new.store.chunks.items
             c.self.inside.greatest.entries c.enter.new.greatest.entries c.self.invariant.0 c.take_found.ensures.laid c.put_mark.ensures.laid rest
-            c.put_mark.ensures.same_records counts c.find_mark-found.result c.find_mark-found.ensures);
+            c.put_mark.ensures.same_records counts c.find_counted-found.result c.find_counted-found.ensures);
         none = c.put_mark.ensures.none;
         empty = c.put_mark.ensures.empty;
-        room = room_with (is_some c.find_mark-found.result) c.self.inside.count c.count_with-self-inside.result (vec_capacity c.put_mark.new.scratch)
+        room = room_with (is_some c.find_counted-found.result) c.self.inside.count c.count_with-self-inside.result (vec_capacity c.put_mark.new.scratch)
             c.count_with-self-inside.ensures (omega (arith, room, c.in_ok-reserve.ensures.ok, c.take_found.ensures.room, c.put_mark.ensures.room, c.self.invariant.1.empty));
         spares = c.put_mark.ensures.spares;
       },
