@@ -4,3 +4,4 @@ pub mod HandleRead
 pub mod Inverse
 pub mod OtherLengths
 pub mod Sendable
+pub mod Spelled

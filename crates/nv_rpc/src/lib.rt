@@ -8,9 +8,11 @@ mod parts;
 mod receiving;
 mod sending;
 mod shortest;
+mod spelling;
 
 pub use frame::{Frame, call_of};
 pub use laws::{read_is_told, told_is_read};
 pub use message::Message;
 pub use receiving::message_of;
 pub use sending::{into_value, value_of};
+pub use spelling::put_message;

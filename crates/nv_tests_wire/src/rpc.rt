@@ -5,7 +5,7 @@ ghost use Rattle.nv_rpc.specs.MessageView.{sent_of};
 
 use crate::spelling::spelled;
 use nv_msgpack::{Bounds, Decoded, decode};
-use nv_rpc::{Frame, Message, call_of, into_value, message_of, value_of};
+use nv_rpc::{Frame, Message, call_of, message_of, put_message, value_of};
 use nv_value::{ApiFault, Bytes, Value};
 use std::alloc::{AllocError, Global};
 use std::process::Abort;
@@ -26,13 +26,14 @@ const DETACH: &[u8] = b"\x93\x02\xb5nvim_buf_detach_event\x91\xd4\x00\x01";
 
 const FAULT: &[u8] = b"\x93\x02\xb0nvim_error_event\x92\x00\xb9Invalid method: nvim_nope";
 
-// The bytes of the message's copy, and of the message.
+// The bytes of the message's value, and of the message.
 fn told(alloc: Global, message: Message) -> Result<(Vec<u8>, Vec<u8>), AllocError>
     requires { IsSendable (sent_of message) }
 {
     let copied = spelled(alloc, &value_of(alloc, &message)?)?;
-    let moved = spelled(alloc, &into_value(alloc, message)?)?;
-    Ok((copied, moved))
+    let mut put = Vec::new(alloc);
+    put_message(alloc, message, &mut put)?;
+    Ok((copied, put))
 }
 
 fn assert_told(
@@ -43,9 +44,9 @@ fn assert_told(
 ) -> Result<(), AllocError>
     requires { IsSendable (sent_of message) }
 {
-    let (copied, moved) = told(alloc, message)?;
+    let (copied, put) = told(alloc, message)?;
     assert_eq!(rt; copied.as_slice(), bytes, "copied");
-    assert_eq!(rt; moved.as_slice(), bytes, "moved");
+    assert_eq!(rt; put.as_slice(), bytes, "put");
     Ok(())
 }
 
