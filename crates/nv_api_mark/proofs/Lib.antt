@@ -2,7 +2,6 @@ pub mod AttrsTold
 pub mod Drafts
 pub mod GroupsNamed
 pub mod MarkLookups
-pub mod MarksTold
 pub mod Picked
 pub mod Putting
 pub mod Removed

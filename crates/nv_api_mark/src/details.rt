@@ -13,7 +13,7 @@ ghost use Rattle.nv_api_mark.specs.inside.Marking.{IsGroupTold};
 use crate::values::{natural_value, put_natural, put_text, put_truth};
 use nv_buffer::{Far, Mark, Paint};
 use nv_hl::Groups;
-use nv_value::{Fields, Items, Value};
+use nv_value::{Fields, Value};
 use std::alloc::{AllocError, Global};
 
 // Puts what is told of the end of a mark behind the rest.
@@ -67,28 +67,17 @@ fn details_value(alloc: Global, groups: &Groups, mark: Mark) -> Result<Value, Al
     Ok(Value::Pairs(fields))
 }
 
-// Puts the place of a mark behind the rest, and its details where they are wanted.
-fn push_place(
-    alloc: Global,
-    items: &mut Items,
-    groups: &Groups,
-    details: bool,
-    mark: Mark,
-) -> Result<(), AllocError>
+// The place of a mark with its details.
+fn detailed_place(alloc: Global, groups: &Groups, mark: Mark) -> Result<Value, AllocError>
     requires { IsOfGroups groups.now mark }
-    ensures told { OnOk result ((rest : List Tree)
-        → map content items.new.items ++ rest
-        ≡ map content items.old.items ++ (place_values groups.now details mark ++ rest)) }
-    ensures short { OnOk result (details ≡ true → IsGroupTold groups.now mark.paint) }
+    ensures told { IfOk result (λ value. content value
+        ≡ array_of (place_values groups.now true mark)) }
+    ensures spelled { IfOk result (λ value. HasSpelling (content value)) }
 {
-    items.push(natural_value(mark.start.row))?;
-    items.push(natural_value(mark.start.col))?;
-    if !details {
-        return Ok(());
-    }
     let told = details_value(alloc, groups, mark)?;
-    items.push(told)?;
-    Ok(())
+    let row = natural_value(mark.start.row);
+    let col = natural_value(mark.start.col);
+    Ok(Value::List(vec![in alloc; row, col, told]?))
 }
 
 /// The place of a mark, and its details where they are wanted; nothing where there is no mark.
@@ -103,12 +92,28 @@ pub fn place_value(
         ≡ array_of (place_values_if_any groups.now details found)) }
     ensures spelled { IfOk result (λ value. HasSpelling (content value)) }
 {
-    let mut items = Vec::new(alloc);
     let Some(mark) = found else {
-        return Ok(Value::List(items));
+        return Ok(Value::List(Vec::new(alloc)));
     };
-    push_place(alloc, &mut items, groups, details, mark)?;
-    Ok(Value::List(items))
+    if details {
+        return detailed_place(alloc, groups, mark);
+    }
+    let row = natural_value(mark.start.row);
+    let col = natural_value(mark.start.col);
+    Ok(Value::List(vec![in alloc; row, col]?))
+}
+
+// A mark as it is listed with its details.
+fn detailed_value(alloc: Global, groups: &Groups, mark: Mark) -> Result<Value, AllocError>
+    requires { IsOfGroups groups.now mark }
+    ensures told { IfOk result (λ value. content value ≡ listed_mark groups.now true mark) }
+    ensures spelled { IfOk result (λ value. HasSpelling (content value)) }
+{
+    let told = details_value(alloc, groups, mark)?;
+    let id = natural_value(mark.id);
+    let row = natural_value(mark.start.row);
+    let col = natural_value(mark.start.col);
+    Ok(Value::List(vec![in alloc; id, row, col, told]?))
 }
 
 /// A mark as it is listed: its id and its place, and its details where they are wanted.
@@ -122,8 +127,11 @@ pub fn listed_value(
     ensures told { IfOk result (λ value. content value ≡ listed_mark groups.now details mark) }
     ensures spelled { IfOk result (λ value. HasSpelling (content value)) }
 {
-    let mut items = Vec::new(alloc);
-    items.push(natural_value(mark.id))?;
-    push_place(alloc, &mut items, groups, details, mark)?;
-    Ok(Value::List(items))
+    if details {
+        return detailed_value(alloc, groups, mark);
+    }
+    let id = natural_value(mark.id);
+    let row = natural_value(mark.start.row);
+    let col = natural_value(mark.start.col);
+    Ok(Value::List(vec![in alloc; id, row, col]?))
 }

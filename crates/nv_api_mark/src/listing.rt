@@ -7,6 +7,8 @@ ghost use Rattle.nv_msgpack.specs.Handle.{integer_of};
 ghost use Rattle.nv_args.specs.Args.{typed_arguments};
 ghost use Rattle.nv_args.specs.Arguments.{last_pairs};
 ghost use Rattle.nv_args.specs.Reading.{object_at};
+ghost use Rattle.nv_args.specs.Maps.{map_fault};
+ghost use Rattle.nv_args.specs.Refusals.{Finds};
 ghost use Rattle.nv_args.specs.Rules.{key_of};
 ghost use Rattle.nv_model.specs.Answers.{Answer};
 ghost use Rattle.nv_model.specs.Answering.{array_of, reply_of};
@@ -75,17 +77,11 @@ fn is_picked(picks: Picks, mark: Mark) -> bool
     is_meant(picks.meant, mark) && (within || picks.overlap && reaches(picks.low, mark))
 }
 
-// Those of some marks that are picked.
-fn picked_among(alloc: Global, marks: &[Mark], picks: Picks) -> Result<Vec<Mark>, AllocError>
-    ensures { IfOk result (λ found. found.items ≡ filter (is_picked picks) marks.now) }
+// Keeps those of some marks that are picked.
+fn keep_picked(marks: &mut Vec<Mark>, picks: Picks)
+    ensures { marks.new.items ≡ filter (is_picked picks) marks.old.items }
 {
-    let mut found = Vec::new(alloc);
-    for mark in marks {
-        if is_picked(picks, *mark) {
-            found.push(*mark)?;
-        }
-    }
-    Ok(found)
+    marks.retain(|mark| is_picked(picks, *mark));
 }
 
 // The place from which marks are looked at.
@@ -122,8 +118,9 @@ fn all_picked(alloc: Global, buffer: &Buffer, picks: Picks) -> Result<Vec<Mark>,
     ensures { IfOk result
         (λ found. found.items ≡ filter (is_picked picks) buffer.now.marks.marks) }
 {
-    let held = looked_at(alloc, buffer, picks, buffer.marks().len())?;
-    picked_among(alloc, held.as_slice(), picks)
+    let mut found = looked_at(alloc, buffer, picks, buffer.marks().len())?;
+    keep_picked(&mut found, picks);
+    Ok(found)
 }
 
 // The first marks that are picked, as many as are wanted. The first look is at as many marks, and
@@ -140,13 +137,14 @@ fn first_picked(
 {
     let mut looks = wanted;
     loop {
-        let held = looked_at(alloc, buffer, picks, looks)?;
-        let mut found = picked_among(alloc, held.as_slice(), picks)?;
+        let mut found = looked_at(alloc, buffer, picks, looks)?;
+        let held = found.len();
+        keep_picked(&mut found, picks);
         if wanted <= found.len() {
             found.truncate(wanted);
             return Ok(found);
         }
-        if held.len() < looks {
+        if held < looks {
             return Ok(found);
         }
         let Some(more) = looks.checked_mul(2) else {
@@ -336,6 +334,16 @@ fn listing_rules() -> [Rule; 3]
     ]
 }
 
+// Refuses keys that a listing doesn't take.
+fn listing_fault(alloc: Global, pairs: &[Pair]) -> Result<(), Fail>
+    ensures { Finds result (map_fault listing_keys (last_pairs (map pair_content pairs.now))) }
+{
+    match pairs {
+        [] => Ok(()),
+        _ => map_fault(alloc, &listing_rules(), pairs),
+    }
+}
+
 // The marks of a span as they are listed.
 fn span_value(
     editor: &Editor,
@@ -364,7 +372,7 @@ fn marks_told(editor: &Editor, buffer: &Buffer, args: &Args, pairs: &[Pair]) -> 
         (typed_arguments args.now) (last_pairs (map pair_content pairs.now))) result }
     ensures spelled { IfOk result (λ value. HasSpelling (content value)) }
 {
-    map_fault(editor.alloc(), &listing_rules(), pairs)?;
+    listing_fault(editor.alloc(), pairs)?;
     let span = span_given(editor, buffer, args)?;
     Ok(span_value(editor, buffer, span, pairs)?)
 }

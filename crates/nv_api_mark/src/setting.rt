@@ -13,12 +13,13 @@ ghost use Rattle.nv_args.specs.Rules.{key_of};
 ghost use Rattle.nv_args.specs.Dicts.{optional_key};
 ghost use Rattle.nv_args.specs.Faults.{unknown_name};
 ghost use Rattle.nv_args.specs.KeyValues.{takes_flag};
-ghost use Rattle.nv_args.specs.Refusals.{Refuses};
+ghost use Rattle.nv_args.specs.Naming.{naming_fault};
+ghost use Rattle.nv_args.specs.Refusals.{Finds, Refuses};
 ghost use Rattle.nv_model.specs.Answers.{Answer};
 ghost use Rattle.nv_model.specs.Seen.{Seen};
 ghost use Rattle.nv_model.specs.Standing.{seen_now, seen_buffer_now};
 ghost use Rattle.nv_api_mark.specs.MarkRows.{given_id, group_words, is_no_group, mark_answer, mark_passes_limit, next_mark_id, no_mark_left, wanted_group_operations};
-ghost use Rattle.nv_api_mark.specs.Setting.{group_name, group_number, has_end};
+ghost use Rattle.nv_api_mark.specs.Setting.{group_name, group_number, has_end, mark_keys, naming_keys};
 ghost use Rattle.nv_api_mark.specs.inside.Steps.{Decides};
 ghost use Rattle.nv_api_mark.specs.inside.Marking.{HasNumbered, IsDraftIn, draft_answer, keyed_answer, keys_with, unkeyed_answer, with_end};
 
@@ -263,6 +264,18 @@ fn draft_by(editor: &Editor, buffer: &Buffer, args: &Args, pairs: &[Pair]) -> Re
     draft_at(editor, buffer, ns, start, stop, pairs)
 }
 
+// Refuses keys that the options of a mark don't take.
+fn option_fault(alloc: Global, pairs: &[Pair]) -> Result<(), Fail>
+    ensures { Finds result (naming_fault naming_keys
+        (mark_keys (last_pairs (map pair_content pairs.now)))
+        (last_pairs (map pair_content pairs.now))) }
+{
+    match pairs {
+        [] => Ok(()),
+        _ => naming_fault(alloc, &["hl_group"], &mark_rules(has_end(pairs)), pairs),
+    }
+}
+
 /// The mark that a call sets.
 pub fn draft_given(
     editor: &Editor,
@@ -281,7 +294,6 @@ pub fn draft_given(
         + length (wanted_group_operations editor.now.stage.groups
         (group_name (last_pairs (map pair_content pairs.now)))) < 2 ^ 32) }
 {
-    let rules = mark_rules(has_end(pairs));
-    naming_fault(editor.alloc(), &["hl_group"], &rules, pairs)?;
+    option_fault(editor.alloc(), pairs)?;
     draft_by(editor, buffer, args, pairs)
 }

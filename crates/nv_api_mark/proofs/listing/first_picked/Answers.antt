@@ -8,32 +8,32 @@ use Rattle.nv_api_mark.proofs.listing.first_picked.Goals as goal
 pub returns-then-wanted-len : goal.returns-then-wanted-len
 returns-then-wanted-len c =
     let picks = c.args.picks in
-    let held = c.in_ok-held.held.items in
-    let found : c.in_ok-found.found.items ≡ filter (is_picked picks) held = search rules in
-    let enough : c.args.wanted ≤ length c.in_ok-found.found.items = search rules in
+    let held = c.in_ok-found.found.items in
+    let found = c.keep_picked.ensures in
+    let enough : c.args.wanted ≤ length c.keep_picked.new.marks.items = search rules in
     c.truncate.ensures.items
     ∙ ap (take c.args.wanted) found
-    ∙ first_of_enough picks c.requires.order c.args.wanted c.loop-held.looks c.args.buffer.now.marks.marks held c.in_ok-held.ensures
+    ∙ first_of_enough picks c.requires.order c.args.wanted c.loop-found.looks c.args.buffer.now.marks.marks held c.in_ok-found.ensures
     (subst (λ (l : List Mark). c.args.wanted ≤ length l) found enough)
 
-pub returns-then-len-looks : goal.returns-then-len-looks
-returns-then-len-looks c =
+pub returns-then-held-looks : goal.returns-then-held-looks
+returns-then-held-looks c =
     let picks = c.args.picks in
-    let held = c.in_ok-held.held.items in
-    let found : c.in_ok-found.found.items ≡ filter (is_picked picks) held = search rules in
-    let few : length held < c.loop-held.looks = search rules in
-    let below : length c.in_ok-found.found.items < c.args.wanted = search rules in
+    let held = c.in_ok-found.found.items in
+    let found = c.keep_picked.ensures in
+    let few : length held < c.loop-found.looks = search rules in
+    let below : length c.keep_picked.new.marks.items < c.args.wanted = search rules in
     let short : length (filter (is_picked picks) held) ≤ c.args.wanted = omega (arith, below, ap length found) in
-    found ∙ all_of_few picks c.requires.order c.args.wanted c.loop-held.looks c.args.buffer.now.marks.marks held c.in_ok-held.ensures few short
+    found ∙ all_of_few picks c.requires.order c.args.wanted c.loop-found.looks c.args.buffer.now.marks.marks held c.in_ok-found.ensures few short
 
-pub loop-held-smaller : goal.loop-held-smaller
-loop-held-smaller c =
-    let looks = c.loop-held.looks in
+pub loop-found-smaller : goal.loop-found-smaller
+loop-found-smaller c =
+    let looks = c.loop-found.looks in
     let ms = c.args.buffer.now.marks.marks in
     let more : c.in-Some.more ≡ looks * 2 = search rules in
-    let all : looks ≤ length c.in_ok-held.held.items = search rules in
-    let many : looks ≤ length ms = looks_few c.args.picks looks ms c.in_ok-held.held.items c.in_ok-held.ensures all in
-    let below : length c.in_ok-found.found.items < c.args.wanted = search rules in
-    let least : c.args.wanted ≤ looks = c.loop-held.invariant in
+    let all : looks ≤ length c.in_ok-found.found.items = search rules in
+    let many : looks ≤ length ms = looks_few c.args.picks looks ms c.in_ok-found.found.items c.in_ok-found.ensures all in
+    let below : length c.keep_picked.new.marks.items < c.args.wanted = search rules in
+    let least : c.args.wanted ≤ looks = c.loop-found.invariant in
     let less : length ms + 1 - c.in-Some.more < length ms + 1 - looks = omega (arith, more, many, below, least) in
     less

@@ -1,9 +1,9 @@
-use Rattle.std.proofs.Common.{◌≡◌, ◌∙◌, None, List, Option, map, ap, sym}
+use Rattle.std.proofs.Common.{◌≡◌, None, Option, map, ap}
 use Rattle.nv_value.specs.View.{pair_content}
 use Rattle.nv_value.specs.declared.fault.ApiFault.{ApiFault}
 use Rattle.nv_args.specs.Args.{typed_arguments}
 use Rattle.nv_args.specs.Arguments.{last_pairs}
-use Rattle.nv_args.specs.Maps.{Key, map_fault}
+use Rattle.nv_args.specs.Maps.{map_fault}
 use Rattle.nv_model.specs.Answering.{fault_or}
 use Rattle.nv_model.specs.Standing.{seen_now, seen_buffer_now}
 use Rattle.nv_api_mark.specs.Listing.{listing_keys}
@@ -17,7 +17,7 @@ returns-in_err-span-clause-row c =
     let b = seen_buffer_now c.args.buffer.now in
     let args = typed_arguments c.args.args.now in
     let pairs = last_pairs (map pair_content c.args.pairs.now) in
-    let none : map_fault listing_keys pairs ≡ None = ap (λ (ks : List Key). map_fault ks pairs) (sym c.listing_rules.ensures) ∙ c.in_ok-map_fault.ensures in
+    let none : map_fault listing_keys pairs ≡ None = c.in_ok-listing_fault.ensures in
     reads_stop _ _ (spanned_answer s b pairs) c.in_err-span.field-0.0 c.from_residual-in_err-span.result
     (ap (λ (w : Option ApiFault). fault_or w (span_answer s b args (spanned_answer s b pairs))) none)
     (c.in_err-span.ensures.row (spanned_answer s b pairs)) c.from_residual-in_err-span.ensures.1
