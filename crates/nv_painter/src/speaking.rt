@@ -11,7 +11,7 @@ use crate::painter::Painter;
 use nv_msgpack::encode;
 use nv_redraw::write_batch;
 use nv_rpc::{Message, into_value};
-use nv_screen::Scene;
+use nv_screen::HeldScene;
 use std::alloc::{AllocError, Global};
 
 /// What is due to a session: messages in order, and the scene that its UI is to show, where there
@@ -19,7 +19,7 @@ use std::alloc::{AllocError, Global};
 #[derive(Drop)]
 pub struct Batch {
     pub messages: Vec<Message>,
-    pub scene: Option<Scene>,
+    pub scene: Option<HeldScene>,
 }
 
 fn speak_message(alloc: Global, message: Message, into: &mut Vec<u8>) -> Result<(), AllocError>
@@ -48,7 +48,7 @@ fn speak_messages(
 fn speak_scene(
     painter: &mut Painter,
     alloc: Global,
-    scene: Scene,
+    scene: HeldScene,
     into: &mut Vec<u8>,
 ) -> Result<(), AllocError>
     requires { IsSoundScene scene }
@@ -56,7 +56,7 @@ fn speak_scene(
         ≡ into.old.items ++ spoken_scene painter.old.told (Some scene)) }
     ensures after { OnOk result (painter.new ≡ painting_after painter.old (Some scene)) }
 {
-    let events = painter.paint(alloc, scene)?;
+    let events = painter.paint(alloc, scene.into_scene())?;
     write_batch(events.as_slice(), into)
 }
 

@@ -1,5 +1,5 @@
 -- The first row of a window, looked for from the cursor upwards.
-use Rattle.std.proofs.Common.{◌≡◌, ℕ, zero, suc, ◌+◌, ◌-◌, ◌<◌, ◌≤◌, Bool, false, cond, min, nat_lt, List, [], ◌∷◌, length, map, get_or, refl, sym, ap, ◌∙◌, arith}
+use Rattle.std.proofs.Common.{◌≡◌, ℕ, zero, suc, ◌+◌, ◌-◌, ◌<◌, ◌≤◌, Bool, true, false, cond, min, nat_lt, List, [], ◌∷◌, length, map, get_or, refl, sym, ap, ◌∙◌, arith}
 use Rattle.std.proofs.lemmas.Bool.Decides.{nat_tests}
 use Rattle.std.proofs.lemmas.List.{length-map}
 use Rattle.nv_places.specs.Flat.{line_at}
@@ -16,6 +16,17 @@ not_before cursor top h = grind (arith, nat_tests)
 
 as_fitting : (rows : ℕ) (hs : List ℕ) (cursor top : ℕ) → top ≤ cursor → settled_top rows hs cursor top ≡ first_fitting rows hs cursor (cursor - top)
 as_fitting rows hs cursor top h = ap (λ (t : Bool). cond t cursor (first_fitting rows hs cursor (cursor - top))) (not_before cursor top h)
+
+-- a cursor in the first row, or before it
+pub top_front : (rows : ℕ) (hs : List ℕ) (cursor top : ℕ) → cursor ≤ top → cursor ≡ settled_top rows hs cursor top
+top_front rows hs cursor top h = by (nat_lt cursor top)
+  where
+    none : cursor - top ≡ 0
+    none = omega (arith, h)
+
+    by : (t : Bool) → cursor ≡ cond t cursor (first_fitting rows hs cursor (cursor - top))
+    by true = refl
+    by false = sym (ap (first_fitting rows hs cursor) none)
 
 over_most : (left rows h : ℕ) → rows ≡ min (left + 1) h → left < rows → left < h
 over_most left rows h e over = grind (arith, nat_tests)

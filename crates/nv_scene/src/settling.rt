@@ -39,7 +39,7 @@ fn rows_at(
 }
 
 // The first row of a window over a text, once it is settled. No more lines are looked at than the
-// window has rows, and of each no more than fits.
+// window has rows, and of each no more than fits; none where the cursor is in the first row.
 fn settled_top(
     alloc: Global,
     text: &Lines,
@@ -56,7 +56,7 @@ fn settled_top(
     ensures { IfOk result (λ row. row ≡ settled_top area.height
         (map (rows_of_line area.width tabstop) text.now) cursor top) }
 {
-    if cursor < top {
+    if cursor <= top {
         return Ok(cursor);
     }
     let mut left = area.height;

@@ -4,6 +4,7 @@
 mod canvas;
 mod cursor;
 mod drawing;
+mod held;
 mod known;
 mod laws;
 mod laying;
@@ -17,6 +18,7 @@ mod wide;
 
 pub use cursor::cursor_cell;
 pub use drawing::{draw, draw_from, pane_grid};
+pub use held::HeldScene;
 pub use known::{KnownLines, NoLines, line_cells};
 pub use laws::{drawing_laws, sound_scene_laws, worked_lines, worked_patches, worked_screens};
 pub use scene::{Bars, Pane, Patch, Scene, SceneLine, Spot};

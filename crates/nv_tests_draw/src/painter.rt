@@ -12,7 +12,7 @@ use nv_linedraw::Looks;
 use nv_linegrid::{Redraw, Run};
 use nv_painter::{Batch, Painter};
 use nv_rpc::Message;
-use nv_screen::{Bars, Pane, Scene, SceneLine, Spot};
+use nv_screen::{Bars, HeldScene, Pane, Scene, SceneLine, Spot};
 use std::alloc::{AllocError, Global};
 use std::test::Fail;
 
@@ -404,9 +404,10 @@ fn spoken_batch(alloc: Global) -> Result<Vec<u8>, AllocError> {
     let mut painter = Painter::new(alloc)?;
     let messages = one_message(alloc)?;
     let scene = empty_scene(alloc, (12, 4))?;
+    let held = HeldScene::new(alloc, scene)?;
     let batch = Batch {
         messages,
-        scene: Some(scene),
+        scene: Some(held),
     };
     let mut bytes = Vec::new(alloc);
     painter.speak(alloc, batch, &mut bytes)?;

@@ -292,7 +292,7 @@ fn a_close_is_an_entry(rt: HostRuntime) -> Result<(), Fail> {
 // The size of the scene of a batch; nothing where it has none.
 fn size_of(batch: &Batch) -> (u32, u32) {
     match &batch.scene {
-        Some(scene) => (scene.width, scene.height),
+        Some(held) => (held.scene().width, held.scene().height),
         None => (0, 0),
     }
 }

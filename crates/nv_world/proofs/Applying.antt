@@ -1,22 +1,35 @@
 -- A world before an event and after it.
 use Rattle.std.proofs.Common.{◌≡◌, ℕ, ◌+◌, ◌-◌, ◌^◌, ◌<◌, Bool, true, false, List, [], ◌∷◌, ◌++◌, length, refl, sym, ap, ◌∙◌, subst, Option, Some, option_map, arith}
 use Rattle.nv_model.specs.declared.parts.Limits.{Limits}
-use Rattle.nv_history.specs.Events.{Event}
-use Rattle.nv_history.specs.Worlds.{World, Outcome, fresh_world, step}
+use Rattle.nv_dispatch.specs.Calls.{editor_after}
+use Rattle.nv_history.specs.Events.{Event, Entry as PlainEntry}
+use Rattle.nv_history.specs.Worlds.{World, Outcome, fresh_world, outcome_of_frame, step}
 use Rattle.nv_history.specs.Runs.{run}
+use Rattle.nv_history.proofs.CalmCalls.{frame_calm}
 use Rattle.nv_history.proofs.LiveUis.{run_live}
+use Rattle.nv_history.proofs.LooksOn.{settled_stays}
+use Rattle.nv_history.proofs.SafeRows.{standing_of}
+use Rattle.nv_history.proofs.SameScenes.{run_placed}
+use Rattle.nv_history.proofs.SettledRuns.{run_kept}
 use Rattle.nv_world.specs.Contents.{plain_entries}
 use Rattle.nv_world.specs.Worlds.{WorldRecord, model_of, outcome_of_event, with_entry}
 use Rattle.nv_world.specs.declared.entry.Entry.{Entry}
 use Rattle.nv_world.specs.declared.state.State.{State}
 use Rattle.nv_world.specs.declared.state.Numbers.{Numbers}
-use Rattle.nv_world.specs.inside.States.{IsAt, StandsNumbered, with_next}
+use Rattle.nv_world.specs.inside.States.{IsAt, StandsNumbered, StaysSettledUnseen, with_next}
 
 -- the number of the next entry is that of the entries so far
 pub numbered : (state : State) (capacity last at len : ℕ) (w : World) → len ≡ at → StandsNumbered state (record { capacity = capacity; last = last; at = at }) w
     → StandsNumbered state (record { capacity = capacity; last = last; at = len }) w
 numbered state capacity last at len w e stands =
     subst (λ (k : ℕ). StandsNumbered state (record { capacity = capacity; last = last; at = k }) w) (sym e) stands
+
+-- a call that isn't seen leaves an editor that looks the same, and so its windows settled
+stays_settled : (capacity : ℕ) (limits : Limits) (history : List PlainEntry) (w : World) → run capacity limits history ≡ Some w → StaysSettledUnseen w.editor
+stays_settled capacity limits history w runs = λ s call unseen.
+    let order = (run_kept capacity limits history w runs).order in
+    settled_stays w.editor (editor_after w.editor (outcome_of_frame w.editor s call))
+    (frame_calm w.editor (standing_of w.editor.stage order.safe.1) s call unseen) (run_placed capacity limits history w runs).1 order.settled
 
 -- a state is at an entry of its world
 pub at_entry : (state : State) (capacity : ℕ) (limits : Limits) (entries : List Entry) (last len : ℕ) (w : World) → len ≡ length entries → len < 2 ^ 63
@@ -25,6 +38,7 @@ pub at_entry : (state : State) (capacity : ℕ) (limits : Limits) (entries : Lis
 at_entry state capacity limits entries last len w e few runs stands = record {
   stands = numbered state capacity last (length entries) len w e stands;
   live = run_live (fresh_world capacity limits) w (plain_entries entries) tt runs;
+  calm = stays_settled capacity limits (plain_entries entries) w runs;
   few = few;
 }
 

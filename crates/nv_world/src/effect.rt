@@ -5,7 +5,7 @@ ghost use Rattle.nv_world.specs.Contents.{plain_cause};
 ghost use Rattle.nv_world.specs.declared.effect.Stop.TheVariants.{NoMemory};
 
 use crate::shared::SharedMessage;
-use nv_screen::Scene;
+use nv_screen::HeldScene;
 use std::alloc::AllocError;
 
 /// Why a session is closed, each with the number of the entry that closed it, from 0.
@@ -24,7 +24,7 @@ pub enum Cause {
 #[derive(Drop)]
 pub struct Batch {
     pub messages: Vec<SharedMessage>,
-    pub scene: Option<Scene>,
+    pub scene: Option<HeldScene>,
 }
 
 /// What an event does. It enters the history where it is one of `Opened`, `Done`, `Items` and

@@ -89,24 +89,22 @@ pub fn finish(alloc: Global, state: &mut State, numbers: Numbers) -> Result<(), 
 }
 
 /// The same for an entry behind which views settle: a request, which may be seen, or a close. Views
-/// are looked at where they may be unsettled, by the entry or by UIs that go. Where they can't be,
-/// memory is taken only where UIs go.
+/// are looked at where they may be unsettled: where the entry is seen, or UIs go by it. Where it
+/// isn't seen, memory is taken only where UIs go.
 pub fn finish_settled(
     alloc: Global,
     state: &mut State,
     numbers: Numbers,
     is_seen: bool,
-    is_unsettled: bool,
 ) -> Result<(), AllocError>
-    requires settled { is_unsettled ≡ false → IsSettled (seen_now state.old.editor) }
     ensures world { OnOk result ((w : World) → StandsForWorld state.old w → AreNumbers numbers w
-        → numbers.at < 2 ^ 63
+        → numbers.at < 2 ^ 63 → (is_seen ≡ false → IsSettled (seen_now state.old.editor))
         → StandsNumbered state.new (with_next numbers) (after_settled_entry is_seen w)) }
-    ensures memory { IfErr result (λ e. is_unsettled ≡ false
+    ensures memory { IfErr result (λ e. is_seen ≡ false
         → (numbers.at == numbers.last) ≡ false → has_any (losing_sessions
         state.old.sessions.items state.old.editor.stage.uis) ≡ true) }
 {
     end_if(alloc, state, numbers.at, numbers.at == numbers.last);
     let any = drop_uis_of_closed(alloc, state, is_seen)?;
-    settle_if(&mut state.editor, is_unsettled, any)
+    settle_if(&mut state.editor, is_seen, any)
 }

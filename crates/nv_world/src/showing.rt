@@ -15,7 +15,7 @@ use crate::telling::place_of;
 use nv_editor::Editor;
 use nv_model::Ui;
 use nv_scene::{scene_of, settle};
-use nv_screen::Scene;
+use nv_screen::HeldScene;
 use std::alloc::{AllocError, Global};
 
 // Whether the session of a number is there and isn't closed.
@@ -47,17 +47,18 @@ pub fn losing_sessions(
     Ok(losing)
 }
 
-/// Settles the views of an editor, where they may be unsettled by what was done, or by UIs that
-/// went.
-pub fn settle_if(editor: &mut Editor, is_unsettled: bool, any: bool) -> Result<(), AllocError>
-    requires settled { is_unsettled ≡ false → any ≡ false → IsSettled (seen_now editor.old) }
+/// Settles the views of an editor, where they may be unsettled by what was seen, or by UIs that
+/// went. Else they are settled still, if they are.
+pub fn settle_if(editor: &mut Editor, is_seen: bool, any: bool) -> Result<(), AllocError>
     ensures stands { OnOk result ((m : ModelEditor) → StandsSealed editor.old m
+        → (is_seen ≡ false → any ≡ false → IsSettled (seen_now editor.old))
         → StandsSealed editor.new (settled_editor m)) }
     ensures settled { OnOk result ((m : ModelEditor) → StandsSealed editor.old m
+        → (is_seen ≡ false → any ≡ false → IsSettled (seen_now editor.old))
         → IsSettled (seen_now editor.new)) }
-    ensures memory { IfErr result (λ e. is_unsettled ≡ false → any ≡ true) }
+    ensures memory { IfErr result (λ e. is_seen ≡ false → any ≡ true) }
 {
-    if !is_unsettled && !any {
+    if !is_seen && !any {
         return Ok(());
     }
     editor.known();
@@ -124,7 +125,7 @@ pub fn shown_after(is_due: bool, stamp: u64, before: u64) -> u64
 
 /// The scene of an editor, where it is due. No UI can ask for a screen of more than 2000 columns by
 /// 1000 rows; a larger one would be more than memory holds.
-pub fn scene_if(editor: &Editor, is_due: bool) -> Result<Option<Scene>, AllocError>
+pub fn scene_if(editor: &Editor, is_due: bool) -> Result<Option<HeldScene>, AllocError>
     requires settled { IsSettled (seen_now editor.now) }
     ensures shows { IfOk result (λ scene. (m : ModelEditor) → Stands editor.now m
         → ShowsIfGiven (editor_due is_due m) scene) }
@@ -138,5 +139,6 @@ pub fn scene_if(editor: &Editor, is_due: bool) -> Result<Option<Scene>, AllocErr
         return Err(AllocError);
     }
     let scene = scene_of(editor)?;
-    Ok(Some(scene))
+    let held = HeldScene::new(editor.alloc(), scene)?;
+    Ok(Some(held))
 }

@@ -215,7 +215,7 @@ fn request(
     let Ok(is_seen) = make_call(alloc, state, numbers.at, session, frame, splices) else {
         return Err(Stop::NoMemory);
     };
-    let Ok(()) = finish_settled(alloc, state, numbers, is_seen, true) else {
+    let Ok(()) = finish_settled(alloc, state, numbers, is_seen) else {
         return Err(Stop::NoMemory);
     };
     Ok(Effect::Done)
@@ -342,7 +342,7 @@ fn close_session(
         return Err(Stop::Gone(cause.entry()));
     }
     close_at(state, numbers.at, place);
-    let Ok(()) = finish_settled(alloc, state, numbers, false, false) else {
+    let Ok(()) = finish_settled(alloc, state, numbers, false) else {
         return Err(Stop::NoMemory);
     };
     Ok(Effect::Closed)

@@ -2,10 +2,13 @@
 use Rattle.std.specs.Prelude.{◌≡◌, ℕ, ◌+◌, ◌≤◌, ◌<◌, ◌^◌, ◌==◌, ⊤, false, true, Option, Some, None, Result, Ok, Err}
 use Rattle.std.specs.List.{AllByRecursion}
 use Rattle.nv_rpc.specs.Calls.{Call}
+use Rattle.nv_model.specs.Editors.{ModelEditor}
+use Rattle.nv_model.specs.Seen.{seen_of}
 use Rattle.nv_model.specs.Standing.{Stands, seen_now}
 use Rattle.nv_editor.specs.Sound.{AllSealed}
 use Rattle.nv_editor.specs.Uis.{has_ui}
 use Rattle.nv_scene.specs.Settling.{IsSettled}
+use Rattle.nv_dispatch.specs.Calls.{editor_after}
 use Rattle.nv_history.specs.Events.{Event, open_session, request_of, take_of, close_of, Stop as PlainStop}
 use Rattle.nv_history.specs.Worlds.{World, Outcome, refuses, idles, becomes, is_live, session_of, outcome_of_frame, outcome_after_call}
 use Rattle.nv_world.specs.Contents.{IsEffect, plain_stop}
@@ -37,14 +40,23 @@ pub record StandsNumbered (s : State) (n : Numbers) (w : World) : Type 0 where
   pub numbers : AreNumbers n w
   pub settled : IsSettled (seen_now s.editor)
 
--- so it is at an entry: then no session that is closed has a UI
+-- no session that is closed has a UI
 abbrev pub OnlyLiveHaveUis : World → Type 0
 OnlyLiveHaveUis w =
     AllByRecursion (λ ui. is_live (session_of w ui.session) ≡ true) w.editor.stage.uis
 
+-- a call that isn't seen leaves windows settled
+abbrev pub StaysSettledUnseen : ModelEditor → Type 0
+StaysSettledUnseen m =
+    (s : ℕ) (call : Call) → (outcome_of_frame m s call).is_seen ≡ false
+    → IsSettled (seen_of (editor_after m (outcome_of_frame m s call)))
+
+-- so it is at an entry: then only live sessions have UIs, and windows stay settled behind a call
+-- that isn't seen
 pub record IsAt (state : State) (n : Numbers) (w : World) : Type 0 where
   pub stands : StandsNumbered state n w
   pub live : OnlyLiveHaveUis w
+  pub calm : StaysSettledUnseen w.editor
   pub few : n.at < 2 ^ 63
 
 -- the numbers once an entry has entered

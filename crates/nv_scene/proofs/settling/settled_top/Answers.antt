@@ -1,7 +1,11 @@
-use Rattle.std.proofs.Common.{◌∙◌, arith}
+use Rattle.std.proofs.Common.{◌∙◌, arith, map}
 use Rattle.nv_linedraw.specs.LineCells.{rows_of_line}
-use Rattle.nv_scene.proofs.SettledTop.{top_end, top_start, top_step, top_stop}
+use Rattle.nv_scene.proofs.SettledTop.{top_end, top_front, top_start, top_step, top_stop}
 use Rattle.nv_scene.proofs.settling.settled_top.Goals as goal
+
+pub returns-then-cursor-top : goal.returns-then-cursor-top
+returns-then-cursor-top c =
+    top_front c.args.area.height (map (rows_of_line c.args.area.width c.args.tabstop) c.args.text.now) c.args.cursor c.args.top (omega (arith, c.if-cursor-top.true))
 
 pub loop-n-init : goal.loop-n-init
 loop-n-init c = top_start (rows_of_line c.args.area.width c.args.tabstop) c.args.text.now c.args.cursor c.args.top c.args.area.height c.requires.within

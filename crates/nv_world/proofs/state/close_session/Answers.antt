@@ -1,4 +1,6 @@
 use Rattle.std.proofs.Common.{◌≡◌, false, ℕ, suc, ◌<◌, List, length, Option, Some, None, option_map, sym, ap, ◌∙◌, subst, refl, arith}
+use Rattle.nv_model.specs.Standing.{PresentEditor, seen_now}
+use Rattle.nv_scene.specs.Settling.{IsSettled}
 use Rattle.nv_history.specs.Events.{Cause, gone_by, closed_at, closes, stranger}
 use Rattle.nv_history.specs.Sessions.{Session, session_closed_by}
 use Rattle.nv_history.specs.Worlds.{refuses, close_outcome, live_close_outcome, with_session_at, after_settled_entry}
@@ -47,7 +49,8 @@ returns-clause-steps c = λ w at.
     (subst (λ (s : ℕ). StandsNumbered c.finish_settled.new.state (with_next c.args.numbers) (after_settled_entry false (with_session_at w s (session_closed_by (closed_at w.entries) f.y)))) number
     (c.in-Ok.ensures.world (with_session_at w (suc c.in-Some.place) (session_closed_by (closed_at w.entries) f.y))
     (c.close_at.ensures.world w f.y stands at.stands.numbers.entries_are f.there)
-    (record { capacity_is = at.stands.numbers.capacity_is; last_is = at.stands.numbers.last_is; entries_are = at.stands.numbers.entries_are; stamps = at.stands.numbers.stamps }) at.few))
+    (record { capacity_is = at.stands.numbers.capacity_is; last_is = at.stands.numbers.last_is; entries_are = at.stands.numbers.entries_are; stamps = at.stands.numbers.stamps }) at.few
+    (λ unseen. subst (λ (e : PresentEditor). IsSettled (seen_now e)) (sym c.close_at.ensures.editor) at.stands.settled)))
 
 pub returns-in_default-finish_settled-clause-memory : goal.returns-in_default-finish_settled-clause-memory
 returns-in_default-finish_settled-clause-memory c = λ w at keeps.

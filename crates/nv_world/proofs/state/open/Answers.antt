@@ -43,5 +43,6 @@ returns-clause-steps c = λ w at.
         settled = at.stands.settled;
       };
       live = opened_live w at.live;
+      calm = at.calm;
       few = at.few;
     }))

@@ -1,14 +1,15 @@
-use Rattle.std.proofs.Common.{ℕ, Bool, List, sym, subst, refl}
+use Rattle.std.proofs.Common.{ℕ, Bool, List, sym, ◌∙◌, subst, refl}
 use Rattle.std.specs.List.{AllZip}
 use Rattle.nv_rpc.specs.Calls.{Call}
 use Rattle.nv_rpc.specs.Frames.{call_of_frame}
-use Rattle.nv_dispatch.specs.Calls.{CallOutcome}
+use Rattle.nv_dispatch.specs.Calls.{CallOutcome, editor_after}
 use Rattle.nv_history.specs.Events.{done}
 use Rattle.nv_history.specs.Worlds.{after_settled_entry, outcome_of_frame, world_after_call}
 use Rattle.nv_world.specs.declared.effect.Effect.TheVariants.{Done}
 use Rattle.nv_world.specs.declared.session.Session.{Session as Kept}
 use Rattle.nv_world.specs.inside.Sessions.{IsSession}
 use Rattle.nv_world.specs.inside.States.{StandsNumbered, with_next}
+use Rattle.nv_world.proofs.Standings.{settled_kept}
 use Rattle.nv_world.proofs.Steppings.{ok_becomes, plain_is}
 use Rattle.nv_world.proofs.state.request.Goals as goal
 
@@ -24,4 +25,6 @@ returns-clause-steps c = λ w at.
     (subst (λ (b : Bool). StandsNumbered c.finish_settled.new.state (with_next c.args.numbers) (after_settled_entry b (world_after_call w c.args.session call o)))
     (c.in-Ok.ensures.seen w at.stands.state)
     (c.in-Ok-finish_settled.ensures.world (world_after_call w c.args.session call o) (c.in-Ok.ensures.stands w at.stands.state at.stands.numbers.entries_are)
-    (record { capacity_is = at.stands.numbers.capacity_is; last_is = at.stands.numbers.last_is; entries_are = at.stands.numbers.entries_are; stamps = at.stands.numbers.stamps }) at.few))
+    (record { capacity_is = at.stands.numbers.capacity_is; last_is = at.stands.numbers.last_is; entries_are = at.stands.numbers.entries_are; stamps = at.stands.numbers.stamps }) at.few
+    (λ unseen. settled_kept c.make_call.new.state.editor (editor_after w.editor o) (c.in-Ok.ensures.stands w at.stands.state at.stands.numbers.entries_are).editor
+    (at.calm c.args.session call (sym (c.in-Ok.ensures.seen w at.stands.state) ∙ unseen)))))

@@ -23,6 +23,7 @@ returns-clause-steps c = λ w y at there.
           settled = subst (λ (e : PresentEditor). IsSettled (seen_now e)) (sym c.batch_of.ensures.editor) at.stands.settled;
         };
         live = taken_live w c.args.place y z there refl at.live;
+        calm = at.calm;
         few = at.few;
       }),
     )
