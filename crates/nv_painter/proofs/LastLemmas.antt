@@ -1,5 +1,5 @@
 -- The scene that was painted last.
-use Rattle.std.proofs.Common.{◌≡◌, ◌+◌, ◌<◌, ◌≤◌, ℕ, zero, suc, pos, List, [], ◌∷◌, ◌++◌, length, map, drop, get_or, Bool, true, false, not, Some, refl, ap, sym, subst, ◌∙◌, append-nil, arith, ⊎_elim}
+use Rattle.std.proofs.Common.{◌≡◌, ◌+◌, ◌<◌, ◌≤◌, ℕ, zero, suc, pos, List, [], ◌∷◌, ◌++◌, length, map, drop, get_or, Bool, true, false, not, Option, Some, refl, ap, sym, subst, ◌∙◌, append-nil, arith, ⊎_elim}
 use Rattle.std.proofs.lemmas.Bool.{cases_lt}
 use Rattle.std.proofs.lemmas.List.{get_or_append_left, get_or_past, get_or_push}
 use Rattle.std.specs.List.{AllByRecursion}
@@ -9,10 +9,13 @@ use Rattle.nv_linegrid.specs.declared.event.Redraw.{Redraw}
 use Rattle.nv_linegrid.specs.declared.event.Redraw.TheVariants.{DefaultColors, Goto, Flush}
 use Rattle.nv_linegrid.specs.Batch.{attrs_after, attrs_defined, batch, event_if, is_place, is_resized, is_size, same_colours, told_after}
 use Rattle.nv_linegrid.specs.Rows.{lines_of_rows}
-use Rattle.nv_linegrid.specs.Scrolls.{rows_after_shifts, scroll_of, shifts_between}
+use Rattle.nv_linegrid.specs.Client.{Shown}
+use Rattle.nv_linegrid.specs.Scrolls.{Shift, rows_after_shifts, scroll_of, shifts_between}
 use Rattle.nv_linegrid.specs.Told.{Told, Wanted, known_rows, shown_cell, shown_rows, with_attrs_of_rows}
 use Rattle.nv_linegrid.proofs.TableLemmas.{rows_have}
+use Rattle.nv_painter.specs.inside.Moving.{StaysIn}
 use Rattle.nv_painter.specs.inside.Sketch.{AreDrawn, AreShown, HaveIds, ShowsCells}
+use Rattle.nv_painter.proofs.MoveLemmas.{stays}
 use Rattle.nv_painter.proofs.SketchLemmas.{adds_none}
 use Rattle.nv_painter.proofs.ToldLemmas.{batch_made}
 
@@ -64,38 +67,19 @@ last_shows t w k same =
           ∙ ap (λ l. map Some (map (shown_cell l) (get_or rows k []))) (sym attrs_are);
     }
 
--- rows that stay the same are shown
-pub steady_are_shown : (t : Told) (w : Wanted) (flags : List Bool) (screen : List (List Cell)) → t ≡ told_after t w
-    → ((k : ℕ) → get_or flags k false ≡ true → get_or w.screen.rows k [] ≡ get_or screen k [])
-    → AreShown flags t.attrs screen t.rows
-steady_are_shown t w flags screen same steady k e =
-    subst (λ l. ShowsCells t.attrs l (get_or t.rows k [])) (steady k e) (last_shows t w k same)
+-- rows that stay the same, and that no shift moves, are shown
+pub steady_are_shown : (t : Told) (w : Wanted) (shifts : List Shift) (flags : List Bool) (screen : List (List Cell)) → t ≡ told_after t w
+    → ((k : ℕ) → get_or flags k false ≡ true → (get_or w.screen.rows k [] ≡ get_or screen k []) × StaysIn shifts k)
+    → AreShown flags t.attrs screen (rows_after_shifts shifts t.rows)
+steady_are_shown t w shifts flags screen same steady k e =
+    subst (λ (q : List Cell × List (Option Shown)). ShowsCells t.attrs q.0 q.1) (λ i. ((steady k e).0 i, sym (stays shifts t.rows k (steady k e).1) i))
+    (last_shows t w k same)
 
 pub last_size : (t : Told) (w : Wanted) → t ≡ told_after t w → t.size ≡ Some (w.screen.width, w.screen.height)
 unfolding told_after
 last_size t w same = ap (λ (x : Told). x.size) same
 
 -- ---- rows that are drawn
-
-pub row_at_most : (width : ℕ) (rows : List (List Cell)) (k : ℕ) → AllByRecursion (λ r. length r ≡ width) rows → length (get_or rows k []) ≤ width
-row_at_most width [] k h = omega arith
-row_at_most width (r ∷ rows) zero h = omega (arith, h.0)
-row_at_most width (r ∷ rows) (suc k) h = row_at_most width rows k h.1
-
--- one row more
-pub drawn_more : (flags : List Bool) (drawn after screen : List (List Cell)) (cells : List Cell) (row : ℕ) → after ≡ drawn ++ cells ∷ []
-    → length drawn ≡ row → (get_or flags row false ≡ false → cells ≡ get_or screen row [])
-    → ((k : ℕ) → k < row → get_or flags k false ≡ false → get_or drawn k [] ≡ get_or screen k [])
-    → (k : ℕ) → k < row + 1 → get_or flags k false ≡ false → get_or after k [] ≡ get_or screen k []
-drawn_more flags drawn after screen cells row is count here below k lt e =
-    ap (λ l. get_or l k []) is
-    ∙ ⊎_elim
-    (λ (front : k < row). get_or_append_left drawn (cells ∷ []) [] k (omega (arith, front, count)) ∙ below k front e)
-    (λ (last : row ≤ k).
-    let same : row ≡ k = omega (arith, last, lt) in
-    get_or_push drawn cells [] k (count ∙ same)
-    ∙ here (ap (λ j. get_or flags j false) same ∙ e) ∙ ap (λ j. get_or screen j []) same)
-    (cases_lt k row)
 
 -- each row below the height is drawn, and the others are none
 pub all_drawn : (flags : List Bool) (drawn screen : List (List Cell)) → length drawn ≡ length screen
@@ -107,21 +91,22 @@ all_drawn flags drawn screen same below k e =
     (λ (le : length drawn ≤ k). get_or_past drawn k [] le ∙ sym (get_or_past screen k [] (omega (arith, same, le))))
     (cases_lt k (length drawn))
 
--- ---- the batch of a scene in which nothing moved
+-- ---- the batch of a scene of the size that was told
 
 pub not_resized : (t : Told) (w : Wanted) → is_size t.size w.screen.width w.screen.height ≡ true → is_resized t w ≡ false
 not_resized t w e = ap not e
 
-pub steady_batch : (t : Told) (w : Wanted) (count : ℕ) (attrs : List Attr) (e2 e3 e6 e7 e8 : List Redraw)
-    → is_size t.size w.screen.width w.screen.height ≡ true → shifts_between t.views w.views ≡ []
+pub steady_batch : (t : Told) (w : Wanted) (shifts : List Shift) (count : ℕ) (attrs : List Attr) (e2 e3 e5 e6 e7 e8 : List Redraw)
+    → is_size t.size w.screen.width w.screen.height ≡ true → shifts ≡ shifts_between t.views w.views
     → count ≡ length t.attrs → attrs ≡ attrs_after t w
     → e2 ≡ event_if (not (same_colours t.colours w.colours)) (DefaultColors w.colours)
     → e3 ≡ e2 ++ attrs_defined (suc count) (drop count attrs)
-    → e6 ≡ e3 ++ lines_of_rows 0 t.rows (shown_rows attrs w.screen.rows)
+    → e5 ≡ e3 ++ map scroll_of shifts
+    → e6 ≡ e5 ++ lines_of_rows 0 (rows_after_shifts shifts t.rows) (shown_rows attrs w.screen.rows)
     → e7 ≡ e6 ++ event_if (not (is_place t.cursor w.cursor)) (Goto (pos 1) w.cursor.0 w.cursor.1)
     → e8 ≡ e7 ++ Flush ∷ []
     → e8 ≡ batch t w
-steady_batch t w count attrs e2 e3 e6 e7 e8 size still count_is attrs_is s2 s3 s6 s7 s8 =
-    batch_made t w false count attrs t.rows t.cursor [] e2 e3 e3 e3 e6 e7 e8 (sym (not_resized t w size)) count_is attrs_is refl
-    (ap (λ s. rows_after_shifts s t.rows) (sym still)) refl s2 s3 (sym (append-nil e3))
-    (sym (append-nil e3) ∙ ap (λ s. e3 ++ map scroll_of s) (sym still)) s6 s7 s8
+steady_batch t w shifts count attrs e2 e3 e5 e6 e7 e8 size moved count_is attrs_is s2 s3 s5 s6 s7 s8 =
+    batch_made t w false count attrs (rows_after_shifts shifts t.rows) t.cursor [] e2 e3 e3 e5 e6 e7 e8 (sym (not_resized t w size)) count_is attrs_is refl
+    (ap (λ s. rows_after_shifts s t.rows) moved) refl s2 s3 (sym (append-nil e3))
+    (s5 ∙ ap (λ s. e3 ++ map scroll_of s) moved) s6 s7 s8

@@ -1,6 +1,8 @@
 pub mod KeptLemmas
+pub mod DueLemmas
 pub mod IdLemmas
 pub mod LastLemmas
+pub mod LentLemmas
 pub mod LineLemmas
 pub mod LoneLemmas
 pub mod MoveLemmas

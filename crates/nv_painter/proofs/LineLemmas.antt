@@ -15,7 +15,7 @@ use Rattle.nv_linegrid.proofs.LawLemmas.{no_due_no_line}
 
 -- ---- a row that is shown already
 
-same_shown_itself : (c : Shown) → same_shown c c ≡ true
+pub same_shown_itself : (c : Shown) → same_shown c c ≡ true
 same_shown_itself c = both_true (same_number c.id) ((bytes_eq-Decides c.text c.text).1 refl)
   where
     same_number : (n : ℕ) → eqb n n ≡ true

@@ -1,14 +1,15 @@
 -- Windows whose text moved.
-use Rattle.std.proofs.Common.{◌≡◌, ℕ, zero, suc, pos, neg_ℤ, ◌+◌, ◌-◌, ◌<◌, ◌≤◌, ltb, leb, List, [], ◌∷◌, ◌++◌, length, map, take, drop, get_or, min, sum, Bool, true, false, cond, ◌&&◌, Option, Some, None, refl, ap, sym, ◌∙◌, append_assoc, arith, ⊎_elim}
-use Rattle.std.proofs.lemmas.Bool.{cases_lt}
+use Rattle.std.proofs.Common.{◌≡◌, ◌≢◌, ℕ, zero, suc, pos, neg_ℤ, ◌+◌, ◌-◌, ◌<◌, ◌≤◌, ltb, leb, List, [], ◌∷◌, ◌++◌, length, map, take, drop, get_or, set, min, sum, Bool, true, false, cond, ◌&&◌, Option, Some, None, refl, ap, sym, ◌∙◌, append_assoc, arith, ⊎_elim}
+use Rattle.std.proofs.lemmas.Bool.{cases_eq, cases_lt, false≢true}
 use Rattle.std.proofs.lemmas.Bool.Decides.{nat_tests}
+use Rattle.std.proofs.lemmas.List.{get_or-set_other}
 use Rattle.std.proofs.lemmas.List.Sums.{sum_by-cons}
 use Rattle.nv_linedraw.proofs.LayLemmas.{drop_at}
 use Rattle.nv_linegrid.specs.Client.{Shown, ShownRows, cells_from, row_between, row_from, scrolled_from}
-use Rattle.nv_linegrid.specs.Scrolls.{Shift, rows_of_lines, scroll_of, shift_between, shift_by, shift_in, shifts_between}
+use Rattle.nv_linegrid.specs.Scrolls.{Shift, rows_after_shift, rows_after_shifts, rows_of_lines, scroll_of, shift_between, shift_by, shift_in, shifts_between}
 use Rattle.nv_linegrid.specs.Told.{View}
 use Rattle.nv_painter.specs.Laws.{CutHeightsMoveAlike}
-use Rattle.nv_painter.specs.inside.Moving.{row_after_shift, rows_up}
+use Rattle.nv_painter.specs.inside.Moving.{StaysIn, row_after_shift, rows_up}
 
 -- ---- how far
 
@@ -182,3 +183,61 @@ cut_heights_move_alike v heights = (alike false, alike true)
     alike down =
         sym (moved_at_most v down cut) ∙ ap (λ k. shift_by v (rows_up k down) k) (cut_alike v.height heights)
         ∙ moved_at_most v down (sum heights)
+
+-- ---- rows that stay
+
+stays_from : (s : Shift) (all : ShownRows) (i : ℕ) (rows : ShownRows) (k : ℕ) → (leb s.top (i + k) && ltb (i + k) s.bot) ≡ false
+    → get_or (scrolled_from s.top s.bot s.left s.right s.rows all i rows) k [] ≡ get_or rows k []
+stays_from s all i [] k e = refl
+stays_from s all i (r ∷ rows) zero e =
+    let here : i + 0 ≡ i = omega arith in
+    ap (λ b. cond b (row_between s.left s.right (cells_from all (row_from s.top s.bot s.rows i)) 0 r) r)
+    (ap (λ j. leb s.top j && ltb j s.bot) (sym here) ∙ e)
+stays_from s all i (r ∷ rows) (suc k) e =
+    let next : i + 1 + k ≡ i + suc k = omega arith in
+    stays_from s all (i + 1) rows k (ap (λ j. leb s.top j && ltb j s.bot) next ∙ e)
+
+-- a row that no shift moves is as it was
+pub stays : (ss : List Shift) (rows : ShownRows) (k : ℕ) → StaysIn ss k → get_or (rows_after_shifts ss rows) k [] ≡ get_or rows k []
+stays [] rows k all = refl
+stays (s ∷ ss) rows k all =
+    let at : 0 + k ≡ k = omega arith in
+    stays ss (rows_after_shift s rows) k all.1 ∙ stays_from s rows 0 rows k (ap (λ j. leb s.top j && ltb j s.bot) at ∙ all.0)
+
+pub stays_push : (ss : List Shift) (s : Shift) (k : ℕ) → StaysIn ss k → (leb s.top k && ltb k s.bot) ≡ false → StaysIn (ss ++ s ∷ []) k
+stays_push [] s k all one = (one, tt)
+stays_push (x ∷ ss) s k all one = (all.0, stays_push ss s k all.1 one)
+
+-- one row more is cleared
+pub cleared_step : (flags first : List Bool) (from k : ℕ)
+    → ((j : ℕ) → get_or flags j false ≡ true → (get_or first j false ≡ true) × ((leb from j && ltb j k) ≡ false))
+    → (j : ℕ) → get_or (set flags k false) j false ≡ true → (get_or first j false ≡ true) × ((leb from j && ltb j (k + 1)) ≡ false)
+cleared_step flags first from k all j e =
+    ⊎_elim
+    (λ (same : k ≡ j). absurd (false≢true (sym (cleared flags k) ∙ ap (λ i. get_or (set flags k false) i false) same ∙ e)))
+    (λ (other : k ≢ j).
+    let was = all j (sym (get_or-set_other flags k j false false (λ (e : j ≡ k). other (sym e))) ∙ e) in
+    (was.0, later other was.1))
+    (cases_eq k j)
+  where
+    cleared : (fs : List Bool) (i : ℕ) → get_or (set fs i false) i false ≡ false
+    cleared [] i = refl
+    cleared (f ∷ fs) zero = refl
+    cleared (f ∷ fs) (suc i) = cleared fs i
+
+    no : k + 1 ≤ j → ltb j (k + 1) ≡ false
+    no le = grind (arith, nat_tests)
+
+    none : (b : Bool) → (b && false) ≡ false
+    none true = refl
+    none false = refl
+
+    apart : k ≢ j → k ≤ j → k + 1 ≤ j
+    apart other le = ⊎_elim (λ (lt : k < j). omega (arith, lt)) (λ (ge : j ≤ k). absurd (other (omega (arith, ge, le)))) (cases_lt k j)
+
+    later : k ≢ j → (leb from j && ltb j k) ≡ false → (leb from j && ltb j (k + 1)) ≡ false
+    later other before =
+        ⊎_elim
+        (λ (lt : j < k). ap (λ b. leb from j && b) (less_is j (k + 1) (omega (arith, lt)) ∙ sym (less_is j k lt)) ∙ before)
+        (λ (le : k ≤ j). let behind : k + 1 ≤ j = apart other le in ap (λ b. leb from j && b) (no behind) ∙ none (leb from j))
+        (cases_lt j k)

@@ -78,7 +78,7 @@ id_more xs ys a h = by (same_attr a empty_attr) h
     by true h = refl
     by false h = id_from_more 1 xs ys a h
 
-have_more : (xs ys : List Attr) (cells : List Cell) → HaveIds xs cells → HaveIds (xs ++ ys) cells
+pub have_more : (xs ys : List Attr) (cells : List Cell) → HaveIds xs cells → HaveIds (xs ++ ys) cells
 have_more xs ys [] h = tt
 have_more xs ys (c ∷ cells) h = (has_more xs ys c.attr h.0, have_more xs ys cells h.1)
 
@@ -89,7 +89,7 @@ cells_stay xs ys (c ∷ cells) h =
     let rest = cells_stay xs ys cells h.1 in
     λ i. shown_of c.text (one i) ∷ rest i
 
-shows_more : (xs ys : List Attr) (cells : List Cell) (row : List (Option Shown)) → ShowsCells xs cells row → ShowsCells (xs ++ ys) cells row
+pub shows_more : (xs ys : List Attr) (cells : List Cell) (row : List (Option Shown)) → ShowsCells xs cells row → ShowsCells (xs ++ ys) cells row
 shows_more xs ys cells row s = record {
   ids = have_more xs ys cells s.ids;
   row_is = s.row_is ∙ ap (map Some) (sym (cells_stay xs ys cells s.ids));
@@ -127,121 +127,12 @@ shows_all attrs row cells k same le s =
     subst (λ (q : List Cell × List (Option Shown)). ShowsCells attrs q.0 q.1)
     (λ i. (take_all k cells le i, take_all k row (omega (arith, same, le)) i)) s
 
--- ---- flags
-
--- one flag more
-pub flags_more : (flags after : List Bool) (flag : Bool) (attrs : List Attr) (screen : List (List Cell)) (rows : ShownRows)
-    → after ≡ flags ++ flag ∷ []
-    → (flag ≡ true → ShowsCells attrs (get_or screen (length flags) []) (get_or rows (length flags) []))
-    → AreShown flags attrs screen rows → AreShown after attrs screen rows
-flags_more flags after flag attrs screen rows is here all k e =
-    let put : get_or (flags ++ flag ∷ []) k false ≡ true = ap (λ l. get_or l k false) (sym is) ∙ e in
-    ⊎_elim
-    (λ (lt : k < length flags). all k (sym (get_or_append_left flags (flag ∷ []) false k lt) ∙ put))
-    (λ (le : length flags ≤ k).
-    last (k - length flags) refl le (sym (get_or-append_right flags (flag ∷ []) (length flags) k false refl le) ∙ put))
-    (cases_lt k (length flags))
-  where
-    last : (n : ℕ) → k - length flags ≡ n → length flags ≤ k → get_or (flag ∷ []) n false ≡ true
-        → ShowsCells attrs (get_or screen k []) (get_or rows k [])
-    last zero n_is le t =
-        let same : length flags ≡ k = omega (arith, n_is, le) in
-        subst (λ j. ShowsCells attrs (get_or screen j []) (get_or rows j [])) same (here t)
-    last (suc n) n_is le t = absurd (false≢true t)
-
--- more attributes leave a sketch
-pub sketch_more : (flags : List Bool) (drawn : List (List Cell)) (attrs after : List Attr) (rows : ShownRows) (screen : List (List Cell))
-    → Grows attrs after → IsSketch flags drawn attrs rows screen → IsSketch flags drawn after rows screen
-sketch_more flags drawn attrs after rows screen g s =
-    subst (λ l. IsSketch flags drawn l rows screen) (sym g.1)
-    (record { high = s.high; drawn_is = s.drawn_is; shown = λ k e. shows_more attrs g.0 (get_or screen k []) (get_or rows k []) (s.shown k e) })
-
--- a screen that is drawn whole, before its attributes have ids and after
-pub whole_sketch : (flags given : List Bool) (seen attrs : List Attr) (screen : List (List Cell)) (rows : ShownRows)
-    → given ≡ flags → seen ≡ attrs → AreShown flags seen screen rows → IsSketch given screen attrs rows screen
-whole_sketch flags given seen attrs screen rows given_is seen_is shown = record {
-  high = refl;
-  drawn_is = λ k e. refl;
-  shown = subst (λ (q : List Bool × List Attr). AreShown q.0 q.1 screen rows) (λ i. (sym given_is i, seen_is i)) shown;
-}
-
-pub sketch_after : (flags given : List Bool) (seen attrs after later : List Attr) (screen : List (List Cell)) (rows moved : ShownRows)
-    → given ≡ flags → seen ≡ attrs → later ≡ after → rows ≡ moved → AreShown flags seen screen rows
-    → after ≡ with_attrs_of_rows attrs screen → IsSketch given screen later moved screen
-sketch_after flags given seen attrs after later screen rows moved given_is seen_is later_is moved_is shown after_is =
-    let grows : Grows attrs later = subst (Grows attrs) (sym (later_is ∙ after_is)) (rows_grow attrs screen) in
-    subst (λ l. IsSketch given screen later l screen) moved_is
-    (sketch_more given screen attrs later rows screen grows (whole_sketch flags given seen attrs screen rows given_is seen_is shown))
-
 -- ---- one row after another
-
-pub attrs_step : (k : ℕ) (flag : Bool) (flags : List Bool) (drawn screen : List (List Cell)) (attrs after all : List Attr) (cells : List Cell)
-    (rows : ShownRows) → k < length drawn → flag ≡ get_or flags k false → cells ≡ get_or drawn k []
-    → after ≡ cond flag attrs (with_attrs_of attrs cells)
-    → IsSketch flags drawn attrs rows screen → with_attrs_of_rows attrs (drop k screen) ≡ all
-    → (with_attrs_of_rows after (drop (k + 1) screen) ≡ all) × IsSketch flags drawn after rows screen
-attrs_step k flag flags drawn screen attrs after all cells rows lt flag_is cells_are is s e =
-    let row = get_or screen k [] in
-    let below : k < length screen = omega (arith, s.high, lt) in
-    let here : drop k screen ≡ row ∷ drop (k + 1) screen = drop_at screen k [] below in
-    let more : after ≡ with_attrs_of attrs row = by flag refl is in
-    let grows : Grows attrs after = subst (Grows attrs) (sym more) (rows_grow attrs (row ∷ [])) in (
-      ap (λ l. with_attrs_of_rows l (drop (k + 1) screen)) more ∙ sym (ap (with_attrs_of_rows attrs) here) ∙ e,
-      sketch_more flags drawn attrs after rows screen grows s,
-    )
-  where
-    by : (b : Bool) → flag ≡ b → after ≡ cond b attrs (with_attrs_of attrs cells) → after ≡ with_attrs_of attrs (get_or screen k [])
-    by true t put = put ∙ sym (adds_none attrs (get_or screen k []) (s.shown k (sym flag_is ∙ t)).ids)
-    by false t put = put ∙ ap (with_attrs_of attrs) (cells_are ∙ s.drawn_is k (sym flag_is ∙ t))
-
-pub attrs_end : (k : ℕ) (flags : List Bool) (drawn screen : List (List Cell)) (attrs all : List Attr) (rows : ShownRows) → length drawn ≤ k
-    → IsSketch flags drawn attrs rows screen → with_attrs_of_rows attrs (drop k screen) ≡ all → attrs ≡ all
-attrs_end k flags drawn screen attrs all rows le s e =
-    ap (with_attrs_of_rows attrs) (sym (drop_of_length-le screen (omega (arith, s.high, le)))) ∙ e
 
 -- what is told once the rows before number k are
 pub record ToldTo (k : ℕ) (attrs : List Attr) (screen : List (List Cell)) (rows : ShownRows) (events all : List Redraw) : Type 0 where
   pub events_are : events ++ lines_of_rows k (drop k rows) (shown_rows attrs (drop k screen)) ≡ all
   pub rows_are : take k rows ≡ known_rows (shown_rows attrs (take k screen))
-
-pub told_step : (k : ℕ) (flag : Bool) (flags : List Bool) (drawn screen : List (List Cell)) (attrs : List Attr) (first rows after : ShownRows)
-    (row : List (Option Shown)) (cells : List Cell) (front next all : List Redraw)
-    → k < length drawn → length rows ≡ length drawn → flag ≡ get_or flags k false → cells ≡ get_or drawn k []
-    → row ≡ cond flag (get_or rows k []) (map Some (map (shown_cell attrs) cells))
-    → next ≡ front ++ cond flag [] (line_of_row k (get_or rows k []) (map (shown_cell attrs) cells))
-    → after ≡ set rows k row → drop k rows ≡ drop k first
-    → IsSketch flags drawn attrs first screen → ToldTo k attrs screen rows front all
-    → ToldTo (k + 1) attrs screen after next all
-told_step k flag flags drawn screen attrs first rows after row cells front next all lt high flag_is cells_are row_is next_is after_is rest s e =
-    let below : k < length screen = omega (arith, s.high, lt) in
-    let long : length rows ≡ length screen = high ∙ sym s.high in record {
-      events_are = row_step k rows after screen attrs row front all next long below after_is (line flag refl next_is) e.events_are;
-      rows_are = front_step k rows after screen attrs row long below after_is (known flag refl row_is) e.rows_are;
-    }
-  where
-    old : List (Option Shown)
-    old = get_or rows k []
-
-    new : List Shown
-    new = map (shown_cell attrs) (get_or screen k [])
-
-    old_is : flag ≡ true → old ≡ map Some new
-    old_is t =
-        let here : get_or (drop k rows) 0 [] ≡ get_or (drop k first) 0 [] = ap (λ (l : ShownRows). get_or l 0 []) rest in
-        let at : k + 0 ≡ k = omega arith in
-        ap (λ j. get_or rows j []) (sym at) ∙ sym (get_or-drop k rows 0 []) ∙ here ∙ get_or-drop k first 0 []
-        ∙ ap (λ j. get_or first j []) at ∙ (s.shown k (sym flag_is ∙ t)).row_is
-
-    same : flag ≡ false → map (shown_cell attrs) cells ≡ new
-    same t = ap (map (shown_cell attrs)) (cells_are ∙ s.drawn_is k (sym flag_is ∙ t))
-
-    line : (b : Bool) → flag ≡ b → next ≡ front ++ cond b [] (line_of_row k old (map (shown_cell attrs) cells)) → next ≡ front ++ line_of_row k old new
-    line true t put = put ∙ ap (λ l. front ++ l) (sym (shown_has_no_line k old new (old_is t)))
-    line false t put = put ∙ ap (λ c. front ++ line_of_row k old c) (same t)
-
-    known : (b : Bool) → flag ≡ b → row ≡ cond b old (map Some (map (shown_cell attrs) cells)) → row ≡ map Some new
-    known true t put = put ∙ old_is t
-    known false t put = put ∙ ap (map Some) (same t)
 
 pub rest_step : (k : ℕ) (first rows after : ShownRows) (row : List (Option Shown)) → after ≡ set rows k row → drop k rows ≡ drop k first
     → drop (k + 1) after ≡ drop (k + 1) first

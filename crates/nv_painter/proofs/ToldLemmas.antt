@@ -106,7 +106,7 @@ shifts_keep (s ∷ ss) rows n is = shifts_keep ss _ n (scrolled_keeps 0 rows ∙
     scrolled_keeps k (r ∷ rs) = ap suc (scrolled_keeps (k + 1) rs)
 
 -- the size that was told is the screen's, where it isn't new
-size_is : (o : Option (ℕ × ℕ)) (width height : ℕ) → not (is_size o width height) ≡ false → o ≡ Some (width, height)
+pub size_is : (o : Option (ℕ × ℕ)) (width height : ℕ) → not (is_size o width height) ≡ false → o ≡ Some (width, height)
 size_is None width height e = absurd (false≢true (sym e))
 size_is (Some s) width height e =
     let p = and_parts (eqb s.0 width) (eqb s.1 height) (yes (is_size (Some s) width height) e) in

@@ -2,14 +2,18 @@
 
 ghost use Rattle.nv_hl.specs.Attributes.{empty_attr, same_attr};
 ghost use Rattle.nv_linegrid.specs.Batch.{attrs_defined};
-ghost use Rattle.nv_linegrid.specs.Client.{ShownRows};
+ghost use Rattle.nv_hl.specs.declared.cell.Cell.{Cell as SpecCell};
+ghost use Rattle.nv_linegrid.specs.Client.{Shown, ShownRows};
 ghost use Rattle.nv_linegrid.specs.Told.{has_id, id_from, id_of, shown_cell, with_attr, with_attrs_of, with_attrs_of_rows};
-ghost use Rattle.nv_painter.specs.inside.Sketch.{AreShown, IsIdOf, IsSketch, ShowsCells};
+ghost use Rattle.nv_painter.specs.inside.Due.{AreDue, IsDue};
+ghost use Rattle.nv_painter.specs.inside.Lent.{lent_rows};
+ghost use Rattle.nv_painter.specs.inside.Sketch.{IsIdOf, IsSketch, ShowsCells};
 ghost use Rattle.std.specs.List.{list_any};
-ghost use Rattle.std.specs.Prelude.{◌≡◌, ◌<◌, ◌≤◌, ◌++◌, List, false, suc, true, IfOk, IfSome, IsTrue, None, OnOk, Some, drop, get_or, if◌then◌else◌, length, map};
+ghost use Rattle.std.specs.Prelude.{◌≡◌, ◌<◌, ◌≤◌, ◌++◌, List, Option, false, suc, true, IfOk, IfSome, IsTrue, None, OnOk, Some, drop, get_or, length, map, take};
 
+use crate::lent::LentRow;
 use crate::shown::{ShownCell, ShownRow};
-use nv_hl::{Attr, Cell, Row, is_same_attr};
+use nv_hl::{Attr, Cell, is_same_attr};
 use nv_linegrid::Redraw;
 use std::alloc::{AllocError, Global};
 
@@ -122,15 +126,23 @@ fn add_attrs_of(attrs: &mut Vec<Attr>, cells: &[Cell]) -> Result<(), AllocError>
     Ok(())
 }
 
-// Gives the attributes of a row's cells ids, where they have none, but for a row that is shown.
-fn add_attrs_of_row(attrs: &mut Vec<Attr>, is_shown: bool, cells: &[Cell]) -> Result<(), AllocError>
-    ensures { OnOk result (attrs.new.items
-        ≡ (if is_shown then attrs.old.items else with_attrs_of attrs.old.items cells.now)) }
+// Gives the attributes of those cells of a row ids that may differ from what it shows.
+fn add_attrs_of_row(
+    attrs: &mut Vec<Attr>,
+    due: Option<(usize, usize)>,
+    cells: &[Cell],
+) -> Result<(), AllocError>
+    ensures { OnOk result ((row : List (Option Shown)) (screen : List SpecCell)
+        → IsDue due attrs.old.items cells.now screen row
+        → attrs.new.items ≡ with_attrs_of attrs.old.items screen) }
 {
-    if is_shown {
+    let Some(due) = due else {
         return Ok(());
-    }
-    add_attrs_of(attrs, cells)
+    };
+    let to = due.1.min(cells.len());
+    let from = due.0.min(to);
+    add_attrs_of(attrs, &cells[from..to])?;
+    Ok(())
 }
 
 /// Whether the row with this number has a flag.
@@ -143,19 +155,29 @@ pub fn has_flag(flags: &[bool], row: usize) -> bool
     flags[row]
 }
 
-/// Gives the attributes of all cells ids, where they have none, in order of their first cell. Rows
-/// with a flag are shown already and aren't looked at.
+/// What is due of the row with this number.
+pub fn due_at(dues: &[Option<(usize, usize)>], row: usize) -> Option<(usize, usize)>
+    ensures { result ≡ get_or dues.now row None }
+{
+    if row >= dues.len() {
+        return None;
+    }
+    dues[row]
+}
+
+/// Gives the attributes of all cells ids, where they have none, in order of their first cell. Cells
+/// that are shown already aren't looked at.
 pub fn add_attrs_of_rows(
     attrs: &mut Vec<Attr>,
-    flags: &[bool],
-    drawn: &[Row],
+    dues: &[Option<(usize, usize)>],
+    drawn: &[LentRow],
 ) -> Result<(), AllocError>
-    ensures { OnOk result ((rows : ShownRows) (screen : List (List Cell))
-        → IsSketch flags.now drawn.now attrs.old.items rows screen
+    ensures { OnOk result ((rows : ShownRows) (screen : List (List SpecCell))
+        → AreDue dues.now (lent_rows drawn.now) attrs.old.items rows screen
         → attrs.new.items ≡ with_attrs_of_rows attrs.old.items screen) }
 {
     for k in 0..drawn.len() {
-        add_attrs_of_row(attrs, has_flag(flags, k), drawn[k].cells())?;
+        add_attrs_of_row(attrs, due_at(dues, k), drawn[k].cells)?;
     }
     Ok(())
 }
@@ -177,56 +199,119 @@ pub fn push_attrs(events: &mut Vec<Redraw>, attrs: &[Attr], count: usize) -> Res
 
 // Whether a row shows a cell with an id at a place.
 fn is_shown_at(row: &[Option<ShownCell>], at: usize, cell: &Cell, id: u64) -> bool
-    requires { at < length row.now }
-    ensures { IsTrue result
+    ensures within { IsTrue result → at < length row.now }
+    ensures shown { IsTrue result
         → get_or row.now at None ≡ Some (record { text = cell.now.text; id = id }) }
 {
+    if at >= row.len() {
+        return false;
+    }
     match &row[at] {
         Some(shown) => shown.id == id && shown.text.is_same(&cell.text),
         None => false,
     }
 }
 
-// Whether a row shows these cells, whose attributes have ids. False may stand where it does.
-fn is_shown(cells: &[Cell], attrs: &[Attr], row: &[Option<ShownCell>]) -> bool
-    ensures { IsTrue result → ShowsCells attrs.now cells.now row.now }
+// How many cells from the first on a row surely shows, all of whose attributes have ids.
+fn front_shown(cells: &[Cell], attrs: &[Attr], row: &[Option<ShownCell>]) -> usize
+    ensures within { result ≤ length cells.now }
+    ensures shown { ShowsCells attrs.now (take result cells.now) (take result row.now) }
 {
-    if cells.len() != row.len() {
-        return false;
-    }
     let mut last = &Attr::EMPTY;
     let mut id = 0;
     for k in 0..cells.len() {
         let cell = &cells[k];
         let Some(next) = next_known_id(attrs, &cell.attr, last, id) else {
-            return false;
+            return k;
         };
         if !is_shown_at(row, k, cell, next) {
-            return false;
+            return k;
         }
         last = &cell.attr;
         id = next;
     }
-    true
+    cells.len()
 }
 
-/// A flag for each row that shows its cells, all of whose attributes have ids. A row may have none
-/// where it does.
-pub fn rows_shown(
+// From which cell on a row surely shows its last cells, all of whose attributes have ids; none in
+// front of `from` is looked at.
+fn back_shown(cells: &[Cell], attrs: &[Attr], row: &[Option<ShownCell>], from: usize) -> usize
+    requires from { from ≤ length cells.now }
+    requires count { length row.now ≡ length cells.now }
+    ensures order { from ≤ result }
+    ensures within { result ≤ length cells.now }
+    ensures shown { ShowsCells attrs.now (drop result cells.now) (drop result row.now) }
+{
+    let mut last = &Attr::EMPTY;
+    let mut id = 0;
+    for k in (from..cells.len()).rev() {
+        let cell = &cells[k];
+        let Some(next) = next_known_id(attrs, &cell.attr, last, id) else {
+            return k + 1;
+        };
+        if !is_shown_at(row, k, cell, next) {
+            return k + 1;
+        }
+        last = &cell.attr;
+        id = next;
+    }
+    from
+}
+
+// The cells of a row that may differ from what it shows, from one to before another; `None` where
+// it shows all of them.
+fn due_in(cells: &[Cell], attrs: &[Attr], row: &[Option<ShownCell>]) -> Option<(usize, usize)>
+    ensures { length row.now ≡ length cells.now
+        → IsDue result attrs.now cells.now cells.now row.now }
+{
+    if row.len() != cells.len() {
+        return None;
+    }
+    let from = front_shown(cells, attrs, row);
+    if from == cells.len() {
+        return None;
+    }
+    Some((from, back_shown(cells, attrs, row, from)))
+}
+
+// The same of a row of a sketch: one with a flag shows its cells.
+fn due_of(
+    is_shown: bool,
+    cells: &[Cell],
+    attrs: &[Attr],
+    row: &[Option<ShownCell>],
+) -> Option<(usize, usize)>
+    ensures { (screen : List SpecCell) → (is_shown ≡ false → cells.now ≡ screen)
+        → (is_shown ≡ true → ShowsCells attrs.now screen row.now)
+        → length row.now ≡ length screen
+        → IsDue result attrs.now cells.now screen row.now }
+{
+    if is_shown {
+        return None;
+    }
+    due_in(cells, attrs, row)
+}
+
+/// For each row of a sketch the cells that may differ from what is shown, from one to before
+/// another; `None` where none does.
+pub fn dues_of(
     alloc: Global,
     attrs: &[Attr],
-    screen: &[Row],
+    flags: &[bool],
+    drawn: &[LentRow],
     rows: &[ShownRow],
-) -> Result<Vec<bool>, AllocError>
-    requires { length rows.now ≡ length screen.now }
-    ensures { IfOk result (λ flags. AreShown flags.items attrs.now screen.now rows.now) }
+) -> Result<Vec<Option<(usize, usize)>>, AllocError>
+    requires { length rows.now ≡ length drawn.now }
+    ensures { IfOk result (λ dues. (screen : List (List SpecCell))
+        → IsSketch flags.now (lent_rows drawn.now) attrs.now rows.now screen
+        → AreDue dues.items (lent_rows drawn.now) attrs.now rows.now screen) }
 {
-    let mut flags = Vec::with_capacity(alloc, screen.len())?;
-    for k in 0..screen.len() {
-        let flag = is_shown(screen[k].cells(), attrs, rows[k].cells());
-        flags.push(flag)?;
+    let mut dues = Vec::with_capacity(alloc, drawn.len())?;
+    for k in 0..drawn.len() {
+        let due = due_of(has_flag(flags, k), drawn[k].cells, attrs, rows[k].cells());
+        dues.push(due)?;
     }
-    Ok(flags)
+    Ok(dues)
 }
 
 /// The cells with the ids of their attributes.

@@ -6,6 +6,7 @@ mod ids;
 mod kept;
 mod key;
 mod laws;
+mod lent;
 mod lines;
 mod painter;
 mod scrolling;

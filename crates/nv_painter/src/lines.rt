@@ -1,14 +1,19 @@
 //! The cells of a row that are due, and the events that tell them.
 
-ghost use Rattle.nv_linegrid.specs.Rows.{differs_at, end_due, first_due, is_due, is_last_id, is_right_at, line_of_row, lines_of_rows, run_of, runs_of, starts_with_right};
+ghost use Rattle.nv_hl.specs.declared.attribute.Attr.{Attr as SpecAttr};
+ghost use Rattle.nv_hl.specs.declared.cell.Cell.{Cell as SpecCell};
+ghost use Rattle.nv_linegrid.specs.declared.event.Redraw.TheVariants.{LineOf};
+ghost use Rattle.nv_linegrid.specs.Rows.{differs_at, end_due, first_due, is_due, is_last_id, is_right_at, line_of_row, lines_of_rows, run_of, runs_of, same_shown, starts_with_right};
 ghost use Rattle.nv_linegrid.specs.Told.{known_rows, shown_cell, shown_rows};
-ghost use Rattle.nv_painter.specs.inside.Sketch.{IsSketch};
+ghost use Rattle.nv_painter.specs.inside.Due.{AreDue, IsDue, ShowsBut};
+ghost use Rattle.nv_painter.specs.inside.Lent.{lent_rows};
 ghost use Rattle.nv_painter.specs.inside.Telling.{half_at, joins_at, runs_with};
-ghost use Rattle.std.specs.Prelude.{◌≡◌, ◌<◌, ◌≤◌, ◌+◌, ◌^◌, ◌++◌, List, [], All, IfOk, OnOk, Some, drop, if◌then◌else◌, length, map};
+ghost use Rattle.std.specs.Prelude.{◌≡◌, ◌<◌, ◌≤◌, ◌+◌, ◌-◌, ◌^◌, ◌++◌, ◌∷◌, List, [], All, IfOk, OnOk, Some, drop, length, map, min, pos};
 
-use crate::ids::{has_flag, shown_cells};
+use crate::ids::{due_at, id_of, shown_cells};
+use crate::lent::LentRow;
 use crate::shown::{ShownCell, ShownRow};
-use nv_hl::{Attr, Cell, Row};
+use nv_hl::{Attr, Cell};
 use nv_linegrid::{Redraw, Run, Runs};
 use std::alloc::{AllocError, Global};
 
@@ -114,62 +119,73 @@ fn runs_of(alloc: Global, cells: &[ShownCell]) -> Result<Runs, AllocError>
 
 // ---- due cells
 
-// Whether a cell differs from what is shown at its place.
-fn differs_at(old: &[Option<ShownCell>], new: &[ShownCell], at: usize) -> bool
-    ensures { result ≡ differs_at old.now new.now at }
+// Whether a cell that is shown is this one.
+fn is_cell(shown: &ShownCell, attrs: &[Attr], cell: &Cell) -> bool
+    ensures { result ≡ same_shown shown.now (shown_cell attrs.now cell.now) }
 {
-    if at >= new.len() {
+    shown.id == id_of(attrs, &cell.attr) && shown.text.is_same(&cell.text)
+}
+
+// Whether a cell differs from what is shown at its place.
+fn differs_at(old: &[Option<ShownCell>], attrs: &[Attr], cells: &[Cell], at: usize) -> bool
+    ensures { result ≡ differs_at old.now (map (shown_cell attrs.now) cells.now) at }
+{
+    if at >= cells.len() {
         return false;
     }
     if at >= old.len() {
         return true;
     }
     match &old[at] {
-        Some(shown) => !shown.is_same(&new[at]),
+        Some(shown) => !is_cell(shown, attrs, &cells[at]),
         None => true,
     }
 }
 
-fn is_right_at(new: &[ShownCell], at: usize) -> bool
-    ensures { result ≡ is_right_at new.now at }
+fn is_right_at(cells: &[Cell], at: usize) -> bool
+    ensures { (attrs : List SpecAttr)
+        → result ≡ is_right_at (map (shown_cell attrs) cells.now) at }
 {
-    if at >= new.len() {
+    if at >= cells.len() {
         return false;
     }
-    let cell = &new[at];
+    let cell = &cells[at];
     cell.text.is_empty()
 }
 
 // Whether a cell is due.
 #[tactic(auto, unfolding(nv_linegrid::specs::Rows::is_due))]
-fn is_due(old: &[Option<ShownCell>], new: &[ShownCell], at: usize) -> bool
-    requires { at < length new.now }
-    ensures { result ≡ is_due old.now new.now at }
+fn is_due(old: &[Option<ShownCell>], attrs: &[Attr], cells: &[Cell], at: usize) -> bool
+    requires { at < length cells.now }
+    ensures { result ≡ is_due old.now (map (shown_cell attrs.now) cells.now) at }
 {
-    differs_at(old, new, at)
-        || (is_right_at(new, at) && 0 < at && differs_at(old, new, at - 1))
-        || (is_right_at(new, at + 1) && differs_at(old, new, at + 1))
+    differs_at(old, attrs, cells, at)
+        || (is_right_at(cells, at) && 0 < at && differs_at(old, attrs, cells, at - 1))
+        || (is_right_at(cells, at + 1) && differs_at(old, attrs, cells, at + 1))
 }
 
-// The first due cell, or the end.
-fn first_due(old: &[Option<ShownCell>], new: &[ShownCell]) -> usize
-    ensures { result ≡ first_due old.now new.now (length new.now) 0 }
+// The first due cell from one on, or the end.
+fn first_due(old: &[Option<ShownCell>], attrs: &[Attr], cells: &[Cell], from: usize) -> usize
+    requires { from ≤ length cells.now }
+    ensures { result
+        ≡ first_due old.now (map (shown_cell attrs.now) cells.now) (length cells.now - from) from }
 {
-    for k in 0..new.len() {
-        if is_due(old, new, k) {
+    for k in from..cells.len() {
+        if is_due(old, attrs, cells, k) {
             return k;
         }
     }
-    new.len()
+    cells.len()
 }
 
-// The end of the last due cell.
-fn end_due(old: &[Option<ShownCell>], new: &[ShownCell]) -> usize
-    ensures end { result ≡ end_due old.now new.now (length new.now) }
-    ensures within { result ≤ length new.now }
+// The end of the last due cell before one.
+fn end_due(old: &[Option<ShownCell>], attrs: &[Attr], cells: &[Cell], to: usize) -> usize
+    requires { to ≤ length cells.now }
+    ensures end { result ≡ end_due old.now (map (shown_cell attrs.now) cells.now) to }
+    ensures within { result ≤ to }
 {
-    for k in (0..new.len()).rev() {
-        if is_due(old, new, k) {
+    for k in (0..to).rev() {
+        if is_due(old, attrs, cells, k) {
             return k + 1;
         }
     }
@@ -178,77 +194,116 @@ fn end_due(old: &[Option<ShownCell>], new: &[ShownCell]) -> usize
 
 // ---- lines
 
-// Tells a row from its first due cell to its last.
+// Tells the cells of a row from a column on.
 fn push_line(
     alloc: Global,
     events: &mut Vec<Redraw>,
     row: u32,
-    old: &[Option<ShownCell>],
-    new: &[ShownCell],
+    col: usize,
+    cells: &[ShownCell],
 ) -> Result<(), AllocError>
-    requires { length new.now < 2 ^ 32 }
+    requires col { col < 2 ^ 32 }
+    requires cells { length cells.now < 2 ^ 32 }
     ensures { OnOk result (events.new.items
-        ≡ events.old.items ++ line_of_row row old.now new.now) }
+        ≡ events.old.items ++ LineOf (pos 1) row col (runs_of cells.now) ∷ []) }
 {
-    let first = first_due(old, new);
-    let end = end_due(old, new);
-    if first < end {
-        let cells = runs_of(alloc, &new[first..end])?;
-        events.push(Redraw::LineOf {
-            grid: 1,
-            row,
-            col: first as u32,
-            cells,
-        })?;
-    }
+    let cells = runs_of(alloc, cells)?;
+    events.push(Redraw::LineOf {
+        grid: 1,
+        row,
+        col: col as u32,
+        cells,
+    })?;
     Ok(())
 }
 
-// Tells the due cells of a row, which then shows these cells, where it isn't shown already.
+// The place before one, within so many.
+fn one_before(at: usize, count: usize) -> usize
+    ensures { result ≡ min at count - 1 }
+{
+    at.min(count).saturating_sub(1)
+}
+
+// The place behind one, within so many.
+fn one_behind(at: usize, count: usize) -> usize
+    ensures { result ≡ min (at + 1) count }
+{
+    if at < count { at + 1 } else { count }
+}
+
+// Tells a row from its first due cell to its last. It then shows these cells. Half of a pair is due
+// where the other is, so cells next to those that may differ are looked at too.
+fn push_due(
+    alloc: Global,
+    events: &mut Vec<Redraw>,
+    number: u32,
+    row: &mut ShownRow,
+    due: (usize, usize),
+    attrs: &[Attr],
+    cells: &[Cell],
+) -> Result<(), AllocError>
+    requires { length cells.now < 2 ^ 32 }
+    ensures events { OnOk result (ShowsBut attrs.now cells.now row.old due.0 due.1
+        → events.new.items ≡ events.old.items
+        ++ line_of_row number row.old (map (shown_cell attrs.now) cells.now)) }
+    ensures row { OnOk result (ShowsBut attrs.now cells.now row.old due.0 due.1
+        → row.new ≡ map Some (map (shown_cell attrs.now) cells.now)) }
+{
+    let count = cells.len();
+    let first = first_due(row.cells(), attrs, cells, one_before(due.0, count));
+    let end = end_due(row.cells(), attrs, cells, one_behind(due.1, count));
+    if first >= end {
+        return Ok(());
+    }
+    let shown = shown_cells(alloc, &cells[first..end], attrs)?;
+    push_line(alloc, events, number, first, shown.as_slice())?;
+    row.put(first, shown);
+    Ok(())
+}
+
+// Tells the due cells of a row, which then shows its cells.
 fn push_row(
     alloc: Global,
     events: &mut Vec<Redraw>,
     number: u32,
     row: &mut ShownRow,
-    is_shown: bool,
+    due: Option<(usize, usize)>,
     attrs: &[Attr],
     cells: &[Cell],
 ) -> Result<(), AllocError>
     requires { length cells.now < 2 ^ 32 }
-    ensures events { OnOk result (events.new.items ≡ events.old.items
-        ++ (if is_shown then []
-        else line_of_row number row.old (map (shown_cell attrs.now) cells.now))) }
-    ensures row { OnOk result (row.new ≡ (if is_shown then row.old
-        else map Some (map (shown_cell attrs.now) cells.now))) }
+    ensures events { OnOk result ((screen : List SpecCell)
+        → IsDue due attrs.now cells.now screen row.old → events.new.items ≡ events.old.items
+        ++ line_of_row number row.old (map (shown_cell attrs.now) screen)) }
+    ensures row { OnOk result ((screen : List SpecCell)
+        → IsDue due attrs.now cells.now screen row.old
+        → row.new ≡ map Some (map (shown_cell attrs.now) screen)) }
 {
-    if is_shown {
+    let Some(due) = due else {
         return Ok(());
-    }
-    let shown = shown_cells(alloc, cells, attrs)?;
-    push_line(alloc, events, number, row.cells(), shown.as_slice())?;
-    *row = ShownRow::known(alloc, shown)?;
+    };
+    push_due(alloc, events, number, row, due, attrs, cells)?;
     Ok(())
 }
 
-/// Tells the due cells of all rows, which then show this screen. Rows with a flag are shown already
-/// and aren't looked at.
+/// Tells the due cells of all rows, which then show this screen.
 pub fn push_rows(
     alloc: Global,
     events: &mut Vec<Redraw>,
     rows: &mut Vec<ShownRow>,
     attrs: &[Attr],
-    flags: &[bool],
-    drawn: &[Row],
+    dues: &[Option<(usize, usize)>],
+    drawn: &[LentRow],
 ) -> Result<(), AllocError>
     requires high { length rows.old.items ≡ length drawn.now }
     requires rows { length drawn.now < 2 ^ 32 }
-    requires cells { All (λ row. length row < 2 ^ 32) drawn.now }
-    ensures events { OnOk result ((screen : List (List Cell))
-        → IsSketch flags.now drawn.now attrs.now rows.old.items screen
+    requires cells { All (λ row. length row < 2 ^ 32) (lent_rows drawn.now) }
+    ensures events { OnOk result ((screen : List (List SpecCell))
+        → AreDue dues.now (lent_rows drawn.now) attrs.now rows.old.items screen
         → events.new.items ≡ events.old.items
         ++ lines_of_rows 0 rows.old.items (shown_rows attrs.now screen)) }
-    ensures rows { OnOk result ((screen : List (List Cell))
-        → IsSketch flags.now drawn.now attrs.now rows.old.items screen
+    ensures rows { OnOk result ((screen : List (List SpecCell))
+        → AreDue dues.now (lent_rows drawn.now) attrs.now rows.old.items screen
         → rows.new.items ≡ known_rows (shown_rows attrs.now screen)) }
 {
     for k in 0..drawn.len() {
@@ -257,9 +312,9 @@ pub fn push_rows(
             events,
             k as u32,
             &mut rows[k],
-            has_flag(flags, k),
+            due_at(dues, k),
             attrs,
-            drawn[k].cells(),
+            drawn[k].cells,
         )?;
     }
     Ok(())

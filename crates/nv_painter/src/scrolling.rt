@@ -2,9 +2,9 @@
 
 ghost use Rattle.nv_linegrid.specs.Client.{cells_from, row_between, row_from};
 ghost use Rattle.nv_linegrid.specs.Scrolls.{is_same_text, rows_after_shift, rows_after_shifts, scroll_of, shift_between, shift_by, shift_in, shifts_between};
-ghost use Rattle.nv_painter.specs.inside.Moving.{EndsInReach, row_after_shift, rows_up};
+ghost use Rattle.nv_painter.specs.inside.Moving.{EndsInReach, StaysIn, row_after_shift, rows_up};
 ghost use Rattle.std.specs.Ordering.{int_eq};
-ghost use Rattle.std.specs.Prelude.{◌≡◌, ◌<◌, ◌≤◌, ◌++◌, ◌∷◌, ◌&&◌, ◌==◌, [], All, IfOk, IsTrue, MatchOption, None, OnOk, get_or, if◌then◌else◌, length, map, min, nat_le, nat_lt, sum, take};
+ghost use Rattle.std.specs.Prelude.{◌≡◌, ◌<◌, ◌≤◌, ◌++◌, ◌∷◌, ◌&&◌, ◌==◌, ℕ, [], All, IfOk, MatchOption, None, OnOk, false, get_or, if◌then◌else◌, length, map, min, nat_le, nat_lt, sum, take, true};
 
 use crate::shown::{ShownCell, ShownRow};
 use crate::view::PaneView;
@@ -287,17 +287,25 @@ pub fn shifts_between(
     Ok(shifts)
 }
 
-/// Whether the text of no window moved. False may stand where none did.
-pub fn are_still(olds: &[PaneView], news: &[PaneView]) -> bool
-    requires { All EndsInReach news.now }
-    ensures { IsTrue result → shifts_between olds.now news.now ≡ [] }
+// Clears the flags of rows, from one to before another.
+fn clear_rows(flags: &mut Vec<bool>, from: u32, to: u32)
+    ensures { (k : ℕ) → get_or flags.new.items k false ≡ true
+        → (get_or flags.old.items k false ≡ true) × ((nat_le from k && nat_lt k to) ≡ false) }
 {
-    for new in news {
-        if shift_in(olds, new).is_some() {
-            return false;
-        }
+    let end = flags.len().min(to as usize);
+    for k in from as usize..end {
+        flags[k] = false;
     }
-    true
+}
+
+/// Clears the flags of rows that move.
+pub fn clear_moved(flags: &mut Vec<bool>, shifts: &[Shift])
+    ensures { (k : ℕ) → get_or flags.new.items k false ≡ true
+        → (get_or flags.old.items k false ≡ true) × StaysIn shifts.now k }
+{
+    for shift in shifts {
+        clear_rows(flags, shift.top, shift.bot);
+    }
 }
 
 /// The rows after all shifts.

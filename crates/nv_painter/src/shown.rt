@@ -1,10 +1,9 @@
 //! What a client shows: rows of cells with the ids of their attributes.
 
-ghost use Rattle.nv_linegrid.specs.Client.{Shown};
+ghost use Rattle.nv_linegrid.specs.Client.{row_with};
 ghost use Rattle.nv_linegrid.specs.Rows.{same_shown};
 ghost use Rattle.nv_linegrid.specs.Told.{blank_shown_rows};
-ghost use Rattle.std.specs.Vec.Iter.{into_iter_items};
-ghost use Rattle.std.specs.Prelude.{◌≡◌, ◌∷◌, [], IfOk, Some, length, map, replicate};
+ghost use Rattle.std.specs.Prelude.{◌≡◌, ◌≤◌, ◌+◌, ◌∷◌, [], IfOk, Some, length, replicate};
 
 use nv_hl::CellText;
 use std::alloc::{AllocError, Global};
@@ -64,14 +63,19 @@ impl Model for ShownRow {
     ghost view = { λ r. r.cells.items };
 }
 
-fn known_cells(alloc: Global, cells: Vec<ShownCell>) -> Result<Vec<Option<ShownCell>>, AllocError>
-    ensures { IfOk result (λ known. known.items ≡ map Some cells.items) }
+// Puts cells in place of those from a place on, as far as there are some.
+fn put_cells(row: &mut Vec<Option<ShownCell>>, at: usize, cells: Vec<ShownCell>)
+    ensures { at + length cells.items ≤ length row.old.items
+        → row.new.items ≡ row_with row.old.items at cells.items }
 {
-    let mut known = Vec::with_capacity(alloc, cells.len())?;
+    let mut place = at;
     for cell in cells {
-        known.push(Some(cell))?;
+        if place >= row.len() {
+            return;
+        }
+        row[place] = Some(cell);
+        place += 1;
     }
-    Ok(known)
 }
 
 fn blank_cells(alloc: Global, width: u32) -> Result<Vec<Option<ShownCell>>, AllocError>
@@ -93,12 +97,12 @@ impl ShownRow {
         ShownRow { cells }
     }
 
-    /// A row in which each cell is known.
-    pub fn known(alloc: Global, cells: Vec<ShownCell>) -> Result<ShownRow, AllocError>
-        ensures { IfOk result (λ row. row ≡ map Some cells.items) }
+    /// Puts cells in place of its own from a column on.
+    pub fn put(&mut self, col: usize, cells: Vec<ShownCell>)
+        ensures { col + length cells.items ≤ length self.old
+            → self.new ≡ row_with self.old col cells.items }
     {
-        let cells = known_cells(alloc, cells)?;
-        Ok(ShownRow { cells })
+        put_cells(&mut self.cells, col, cells);
     }
 
     /// A row of spaces without an attribute.

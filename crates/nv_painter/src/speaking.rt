@@ -1,16 +1,12 @@
 //! What a session is sent.
 
-ghost use Rattle.nv_msgpack.specs.Shortest.{shortest};
 ghost use Rattle.nv_painter.specs.Spoken.{AreSendable, IsSpeakable, painting_after, spoken_batch, spoken_messages, spoken_scene};
-ghost use Rattle.nv_rpc.specs.MessageView.{sent_of};
-ghost use Rattle.nv_rpc.specs.Messages.{IsSendable, message_tree};
 ghost use Rattle.nv_screen.specs.Sound.{IsSoundScene};
 ghost use Rattle.std.specs.Prelude.{◌≡◌, ◌++◌, OnOk, Some};
 
 use crate::painter::Painter;
-use nv_msgpack::encode;
 use nv_redraw::write_batch;
-use nv_rpc::{Message, into_value};
+use nv_rpc::{Message, put_message};
 use nv_screen::HeldScene;
 use std::alloc::{AllocError, Global};
 
@@ -22,15 +18,6 @@ pub struct Batch {
     pub scene: Option<HeldScene>,
 }
 
-fn speak_message(alloc: Global, message: Message, into: &mut Vec<u8>) -> Result<(), AllocError>
-    requires { IsSendable (sent_of message) }
-    ensures { OnOk result (into.new.items
-        ≡ into.old.items ++ shortest (message_tree (sent_of message))) }
-{
-    let value = into_value(alloc, message)?;
-    encode(&value, into)
-}
-
 fn speak_messages(
     alloc: Global,
     messages: Vec<Message>,
@@ -40,7 +27,7 @@ fn speak_messages(
     ensures { OnOk result (into.new.items ≡ into.old.items ++ spoken_messages messages.items) }
 {
     for message in messages {
-        speak_message(alloc, message, into)?;
+        put_message(alloc, message, into)?;
     }
     Ok(())
 }

@@ -2,20 +2,22 @@
 
 ghost use Rattle.nv_linegrid.specs.Batch.{batch, event_if, is_place, is_size, same_colours, told_after};
 ghost use Rattle.nv_linegrid.specs.Laws.{ShowsWanted};
-ghost use Rattle.nv_linegrid.specs.Told.{IsDrawn, nothing_told};
+ghost use Rattle.nv_linegrid.specs.Told.{AreSized, IsDrawn, nothing_told};
 ghost use Rattle.nv_linegrid.specs.Scrolls.{shifts_between};
 ghost use Rattle.nv_painter.specs.Pictures.{picture_of, views_of};
 ghost use Rattle.nv_painter.specs.inside.Last.{IsSketchOf};
+ghost use Rattle.nv_painter.specs.inside.Lent.{lent_rows};
 ghost use Rattle.nv_painter.specs.inside.Moving.{EndsInReach, moves, rows_to_move};
 ghost use Rattle.nv_screen.specs.Cursor.{cursor_of_scene};
 ghost use Rattle.std.specs.Prelude.{◌≡◌, ◌++◌, [], true, All, IfOk, IsTrue, None, OnOk, if◌then◌else◌};
 
-use crate::ids::{add_attrs_of_rows, push_attrs, rows_shown};
+use crate::ids::{add_attrs_of_rows, dues_of, push_attrs};
+use crate::lent::{LentRow, lend};
 use crate::lines::push_rows;
-use crate::scrolling::{Shift, are_still, push_scrolls, rows_after_shifts, shifts_between};
+use crate::scrolling::{Shift, push_scrolls, rows_after_shifts, shifts_between};
 use crate::shown::{ShownRow, blank_rows};
 use crate::view::PaneView;
-use nv_hl::{Attr, Colours, Grid, Row};
+use nv_hl::{Attr, Colours, Grid};
 use nv_linegrid::Redraw;
 use nv_screen::Scene;
 use std::alloc::{AllocError, Global};
@@ -82,12 +84,13 @@ impl Model for ToldScreen {
     }) };
 }
 
-/// What a scene shows otherwise than the one before: a flag for each row that stays as it is, and
-/// the rows, which have no cells where they stay.
+/// What a scene shows otherwise than the one before: how the texts of windows moved, a flag for
+/// each row that stays as it is, and the rows, of which those count that have none.
 #[derive(Drop)]
-pub struct Sketch {
+pub struct Sketch<'a> {
+    pub shifts: Vec<Shift>,
     pub flags: Vec<bool>,
-    pub drawn: Vec<Row>,
+    pub drawn: Vec<LentRow<'a>>,
 }
 
 fn is_size(size: Option<(u32, u32)>, width: u32, height: u32) -> bool
@@ -207,10 +210,12 @@ fn told_next(
     let shifts = moves(alloc, is_resized, old_views.as_slice(), &picture)?;
     let before = rows_to_move(alloc, is_resized, old_rows, &picture)?;
     let mut rows = rows_after_shifts(alloc, before, shifts.as_slice())?;
-    let drawn = picture.screen.rows();
-    let flags = rows_shown(alloc, attrs.as_slice(), drawn, rows.as_slice())?;
+    let (cursor, views) = (picture.cursor, picture.views);
+    let lent = lend(alloc, picture.screen.rows())?;
+    let drawn = lent.as_slice();
+    let dues = dues_of(alloc, attrs.as_slice(), &[], drawn, rows.as_slice())?;
     let count = attrs.len();
-    add_attrs_of_rows(&mut attrs, flags.as_slice(), drawn)?;
+    add_attrs_of_rows(&mut attrs, dues.as_slice(), drawn)?;
     push_attrs(&mut events, attrs.as_slice(), count)?;
     push_if(&mut events, is_resized, Redraw::Clear { grid: 1 })?;
     push_scrolls(&mut events, shifts.as_slice())?;
@@ -219,10 +224,9 @@ fn told_next(
         &mut events,
         &mut rows,
         attrs.as_slice(),
-        flags.as_slice(),
+        dues.as_slice(),
         drawn,
     )?;
-    let cursor = picture.cursor;
     let is_moved = !is_place(cursor_before(is_resized, old_cursor), cursor);
     let place = Redraw::Goto {
         grid: 1,
@@ -237,13 +241,12 @@ fn told_next(
         attrs,
         colours: Some(colours),
         cursor: Some(cursor),
-        views: picture.views,
+        views,
     };
     Ok((events, told))
 }
 
-// Tells what differs of a scene of the same size, in which nothing moved: only the rows that are
-// drawn are looked at.
+// Tells what differs of a scene of the same size: only the rows that are drawn are looked at.
 fn told_of_sketch(
     alloc: Global,
     old: ToldScreen,
@@ -255,13 +258,15 @@ fn told_of_sketch(
     requires drawn { IsDrawn (picture_of scene.now) }
     requires cursor { cursor ≡ cursor_of_scene scene.now }
     requires views { views.items ≡ views_of scene.now.panes.items }
-    requires sketch { IsSketchOf old sketch.now.flags.items sketch.now.drawn.items scene.now }
+    requires sketch { IsSketchOf old sketch.now.shifts.items sketch.now.flags.items
+        (lent_rows sketch.now.drawn.items) scene.now }
     ensures events { IfOk result (λ next. next.0.items ≡ batch old (picture_of scene.now)) }
     ensures told { IfOk result (λ next. next.1 ≡ told_after old (picture_of scene.now)) }
     ensures shows { IfOk result (λ next. ShowsWanted old (picture_of scene.now)) }
 {
     let (old_colours, old_cursor) = (old.colours, old.cursor);
-    let mut rows = old.rows;
+    let shifts = sketch.shifts.as_slice();
+    let mut rows = rows_after_shifts(alloc, old.rows, shifts)?;
     let mut attrs = old.attrs;
     let flags = sketch.flags.as_slice();
     let drawn = sketch.drawn.as_slice();
@@ -273,15 +278,17 @@ fn told_of_sketch(
         is_recoloured,
         Redraw::DefaultColors { colours },
     )?;
+    let dues = dues_of(alloc, attrs.as_slice(), flags, drawn, rows.as_slice())?;
     let count = attrs.len();
-    add_attrs_of_rows(&mut attrs, flags, drawn)?;
+    add_attrs_of_rows(&mut attrs, dues.as_slice(), drawn)?;
     push_attrs(&mut events, attrs.as_slice(), count)?;
+    push_scrolls(&mut events, shifts)?;
     push_rows(
         alloc,
         &mut events,
         &mut rows,
         attrs.as_slice(),
-        flags,
+        dues.as_slice(),
         drawn,
     )?;
     let is_moved = !is_place(old_cursor, cursor);
@@ -331,16 +338,23 @@ impl ToldScreen {
         Ok(events)
     }
 
-    /// Whether this size was told, and the text of no window moved. False may stand where none did.
-    pub fn is_steady(&self, width: u32, height: u32, views: &[PaneView]) -> bool
-        requires { All EndsInReach views.now }
-        ensures size { IsTrue result → is_size self.now.size width height ≡ true }
-        ensures still { IsTrue result → shifts_between self.now.views views.now ≡ [] }
+    /// Whether this size was told.
+    pub fn has_size(&self, width: u32, height: u32) -> bool
+        ensures size { result ≡ is_size self.now.size width height }
+        ensures sized { IsTrue result → AreSized width height self.now.rows }
     {
-        is_size(self.size, width, height) && are_still(self.views.as_slice(), views)
+        is_size(self.size, width, height)
     }
 
-    /// Tells what differs of a scene of the same size, in which nothing moved.
+    /// How the texts of windows moved that were told before.
+    pub fn shifts_to(&self, alloc: Global, views: &[PaneView]) -> Result<Vec<Shift>, AllocError>
+        requires { All EndsInReach views.now }
+        ensures { IfOk result (λ shifts. shifts.items ≡ shifts_between self.now.views views.now) }
+    {
+        shifts_between(alloc, self.views.as_slice(), views)
+    }
+
+    /// Tells what differs of a scene of the same size.
     pub fn tell_sketch(
         &mut self,
         alloc: Global,
@@ -352,8 +366,8 @@ impl ToldScreen {
         requires drawn { IsDrawn (picture_of scene.now) }
         requires cursor { cursor ≡ cursor_of_scene scene.now }
         requires views { views.items ≡ views_of scene.now.panes.items }
-        requires sketch { IsSketchOf self.old sketch.now.flags.items sketch.now.drawn.items
-            scene.now }
+        requires sketch { IsSketchOf self.old sketch.now.shifts.items
+            sketch.now.flags.items (lent_rows sketch.now.drawn.items) scene.now }
         ensures events { IfOk result
             (λ events. events.items ≡ batch self.old (picture_of scene.now)) }
         ensures told { OnOk result (self.new ≡ told_after self.old (picture_of scene.now)) }

@@ -2,13 +2,13 @@
 use Rattle.std.specs.Prelude.{◌≡◌, ◌<◌, ◌^◌, Bool, true, List, [], All, length, Option, Some, None}
 use Rattle.nv_hl.specs.declared.cell.Cell.{Cell}
 use Rattle.nv_linegrid.specs.Batch.{is_size, told_after}
-use Rattle.nv_linegrid.specs.Scrolls.{shifts_between}
+use Rattle.nv_linegrid.specs.Scrolls.{Shift, rows_after_shifts, shifts_between}
 use Rattle.nv_linegrid.specs.Told.{Told}
 use Rattle.nv_screen.specs.declared.scene.Scene.{Scene}
 use Rattle.nv_screen.specs.Drawing.{drawn_rows}
 use Rattle.nv_screen.specs.Sound.{IsSoundScene}
 use Rattle.nv_painter.specs.Pictures.{picture_of, views_of}
-use Rattle.nv_painter.specs.inside.Sketch.{AreDrawn, IsSketch}
+use Rattle.nv_painter.specs.inside.Sketch.{IsSketch}
 
 -- inside: this sound scene was told, and nothing since
 pub record IsToldOf (t : Told) (s : Scene) : Type 0 where
@@ -20,17 +20,12 @@ abbrev pub IsToldOfLast : Told → Option Scene → Type 0
 IsToldOfLast t None = Unit {0}
 IsToldOfLast t (Some s) = IsToldOf t s
 
--- inside: as many rows as a scene has, those without a flag drawn
-pub record AreRowsOf (flags : List Bool) (drawn : List (List Cell)) (s : Scene) : Type 0 where
-  pub count : length drawn ≡ s.height
-  pub drawn_is : AreDrawn flags drawn (drawn_rows s)
-  pub short : All (λ row. length row < 2 ^ 32) drawn
-
--- inside: a scene of the size that was told, in which no window's text moved, and whose rows are
--- drawn or shown
-pub record IsSketchOf (t : Told) (flags : List Bool) (drawn : List (List Cell)) (s : Scene)
+-- inside: a scene of the size that was told, how windows' texts moved, and its rows, which are
+-- drawn or shown once they did
+pub record IsSketchOf (t : Told) (shifts : List Shift) (flags : List Bool)
+    (drawn : List (List Cell)) (s : Scene)
     : Type 0 where
   pub size : is_size t.size s.width s.height ≡ true
-  pub still : shifts_between t.views (views_of s.panes.items) ≡ []
-  pub sketch : IsSketch flags drawn t.attrs t.rows (drawn_rows s)
+  pub moves : shifts ≡ shifts_between t.views (views_of s.panes.items)
+  pub sketch : IsSketch flags drawn t.attrs (rows_after_shifts shifts t.rows) (drawn_rows s)
   pub short : All (λ row. length row < 2 ^ 32) drawn

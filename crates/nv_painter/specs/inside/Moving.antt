@@ -1,5 +1,5 @@
 -- inside: windows whose text moved.
-use Rattle.std.specs.Prelude.{ℕ, ℤ, pos, neg_ℤ, ◌+◌, ◌^◌, ◌<◌, Bool, ◌&&◌, nat_le, nat_lt, if◌then◌else◌, List, [], get_or, Option}
+use Rattle.std.specs.Prelude.{◌≡◌, ℕ, ℤ, pos, neg_ℤ, ◌+◌, ◌^◌, ◌<◌, Bool, false, ◌&&◌, nat_le, nat_lt, if◌then◌else◌, List, [], ◌∷◌, get_or, Option}
 use Rattle.nv_hl.specs.Cells.{Screen}
 use Rattle.nv_linegrid.specs.Client.{Shown, ShownRows, cells_from, row_between, row_from}
 use Rattle.nv_linegrid.specs.Scrolls.{Shift, shifts_between}
@@ -23,6 +23,11 @@ row_after_shift s rows k =
     row_between s.left s.right (cells_from rows (row_from s.top s.bot s.rows k)) 0
     (get_or rows k [])
     else get_or rows k []
+
+-- inside: no shift moves a row
+abbrev pub StaysIn : List Shift → ℕ → Type 0
+StaysIn [] k = Unit {0}
+StaysIn (s ∷ ss) k = ((nat_le s.top k && nat_lt k s.bot) ≡ false) × StaysIn ss k
 
 -- inside: how windows' texts moved, not at all where the size is new
 abbrev pub moves : Bool → List View → List View → List Shift

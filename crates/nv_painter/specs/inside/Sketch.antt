@@ -32,10 +32,11 @@ abbrev pub AreDrawn : List Bool → List (List Cell) → List (List Cell) → Ty
 AreDrawn flags drawn screen =
     (k : ℕ) → get_or flags k false ≡ false → get_or drawn k [] ≡ get_or screen k []
 
--- inside: of a screen each row is drawn, or has a flag and is shown
+-- inside: of a screen each row is drawn, or has a flag and is shown; all are as wide as those shown
 pub record IsSketch (flags : List Bool) (drawn : List (List Cell)) (attrs : List Attr)
     (rows : ShownRows)
     (screen : List (List Cell)) : Type 0 where
   pub high : length screen ≡ length drawn
   pub drawn_is : AreDrawn flags drawn screen
   pub shown : AreShown flags attrs screen rows
+  pub wide : (k : ℕ) → length (get_or rows k []) ≡ length (get_or screen k [])

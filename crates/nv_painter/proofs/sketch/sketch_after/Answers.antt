@@ -1,17 +1,21 @@
-use Rattle.std.proofs.Common.{◌≡◌, ◌<◌, ◌^◌, ◌∙◌, [], All, Bool, List, ap, arith, rules, subst, sym, true}
+use Rattle.std.proofs.Common.{◌≡◌, ◌<◌, ◌≤◌, ◌^◌, ◌∙◌, ℕ, [], All, Bool, List, ap, arith, false, get_or, length, rules, subst, sym, true}
+use Rattle.std.proofs.lemmas.List.{length-map}
+use Rattle.nv_hl.specs.declared.cell.Cell.{Cell}
 use Rattle.nv_linegrid.specs.Batch.{is_size}
-use Rattle.nv_linegrid.specs.Scrolls.{shifts_between}
+use Rattle.nv_linegrid.specs.Scrolls.{Shift, rows_after_shifts, shifts_between}
+use Rattle.nv_linegrid.specs.Told.{AreSized}
 use Rattle.nv_screen.specs.Drawing.{drawn_rows}
 use Rattle.nv_screen.proofs.WholeScreens.{screens_are_whole}
 use Rattle.nv_painter.specs.Pictures.{picture_of, views_of}
-use Rattle.nv_painter.specs.inside.Moving.{EndsInReach}
-use Rattle.nv_painter.specs.inside.Sketch.{AreDrawn}
-use Rattle.nv_painter.proofs.LastLemmas.{steady_are_shown}
+use Rattle.nv_painter.specs.inside.Lent.{lent_cells, lent_rows}
+use Rattle.nv_painter.specs.inside.Moving.{EndsInReach, StaysIn}
+use Rattle.nv_painter.proofs.DueLemmas.{lent_are_short, same_width, shifts_keep_sized}
+use Rattle.nv_painter.proofs.LastLemmas.{all_drawn, steady_are_shown}
 use Rattle.nv_painter.proofs.PictureLemmas.{sound_is_shown, views_end_in_reach}
 use Rattle.nv_painter.proofs.sketch.sketch_after.Goals as goal
 
-pub is_steady-requires : goal.is_steady-requires
-is_steady-requires c =
+pub shifts_to-requires : goal.shifts_to-requires
+shifts_to-requires c =
     let s = c.args.scene.now in
     let wide : s.width < 2 ^ 32 = search (rules, arith) in
     let high : s.height < 2 ^ 32 = search (rules, arith) in
@@ -22,18 +26,31 @@ pub returns : goal.returns
 returns c =
     let s = c.args.scene.now in
     let t = c.args.told.now in
-    let flags = c.in_ok-flags.flags.items in
+    let screen = drawn_rows s in
+    let whole = screens_are_whole s in
+    let flags = c.clear_moved.new.flags.items in
+    let shifts = c.in_ok-shifts.shifts.items in
+    let drawn = c.in_ok-drawn.drawn.items in
     let size : is_size t.size s.width s.height ≡ true = search rules in
-    let moves : shifts_between t.views c.args.views.now ≡ [] = search rules in
-    let rows = rw c.in-Some.is at c.in_ok-drawn.ensures in
-    let same : c.as_slice-2.result.now ≡ flags = search rules in
+    let sized : AreSized s.width s.height t.rows = search rules in
+    let wide : s.width < 2 ^ 32 = search (rules, arith) in
+    let moved : shifts ≡ shifts_between t.views (views_of s.panes.items) =
+    c.in_ok-shifts.ensures ∙ ap (shifts_between t.views) c.requires.views in
+    let count : length (lent_rows drawn) ≡ length screen =
+    length-map drawn lent_cells ∙ c.in_ok-drawn.ensures.count ∙ sym whole.high in
+    let there : (k : ℕ) → k < length drawn → get_or flags k false ≡ false → 0 < length (get_or (lent_rows drawn) k []) = search rules in
+    let steady : (k : ℕ) → get_or flags k false ≡ true → (get_or c.in_ok-flags.flags.items k false ≡ true) × StaysIn shifts k = search rules in
     record {
       size = size;
-      still = ap (shifts_between t.views) (sym c.requires.views) ∙ moves;
+      moves = moved;
       sketch = record {
-        high = (screens_are_whole s).high ∙ sym rows.count;
-        drawn_is = subst (λ (l : List Bool). AreDrawn l c.in-Some.drawn.items (drawn_rows s)) same rows.drawn_is;
-        shown = steady_are_shown t (picture_of c.args.last.now) flags (drawn_rows s) c.requires.last.same c.in_ok-flags.ensures.steady;
+        high = sym count;
+        drawn_is = all_drawn flags (lent_rows drawn) screen count
+            (λ k lt e. c.in_ok-drawn.ensures.lent k (there k (omega (arith, lt, length-map drawn lent_cells)) e));
+        shown = steady_are_shown t (picture_of c.args.last.now) shifts flags screen c.requires.last.same
+            (λ k e. (c.in_ok-flags.ensures.steady k (steady k e).0, (steady k e).1));
+        wide = same_width s.width s.height (rows_after_shifts shifts t.rows) screen (shifts_keep_sized s.width s.height shifts t.rows sized)
+            whole.high whole.wide;
       };
-      short = rows.short;
+      short = lent_are_short s.width (lent_rows drawn) screen wide c.in_ok-drawn.ensures.lent whole.wide;
     }

@@ -1,6 +1,6 @@
 use Rattle.std.proofs.Common.{take}
 use Rattle.nv_painter.specs.inside.Sketch.{IsIdOf, ShowsCells}
-use Rattle.nv_painter.proofs.ids.is_shown.Given as goal
+use Rattle.nv_painter.proofs.ids.front_shown.Given as goal
 
 abbrev pub invariant-loop-k : goal.invariant-loop-k
 invariant-loop-k l = record {
