@@ -14,7 +14,6 @@ mod scene;
 mod status;
 mod steady;
 mod text;
-mod wide;
 
 pub use cursor::cursor_cell;
 pub use drawing::{draw, draw_from, pane_grid};
@@ -23,4 +22,3 @@ pub use known::{KnownLines, NoLines, line_cells};
 pub use laws::{drawing_laws, sound_scene_laws, worked_lines, worked_patches, worked_screens};
 pub use scene::{Bars, Pane, Patch, Scene, SceneLine, Spot};
 pub use steady::steady_rows;
-pub use wide::text_row;

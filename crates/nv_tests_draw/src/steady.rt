@@ -4,7 +4,7 @@ ghost use Rattle.nv_screen.specs.Sound.{IsSoundScene};
 ghost use Rattle.std.specs.Prelude.{IfOk};
 
 use crate::painter::{scene_of, two_lines};
-use nv_screen::{NoLines, Scene, steady_rows, text_row};
+use nv_screen::{Scene, steady_rows};
 use std::alloc::{AllocError, Global};
 use std::test::Fail;
 
@@ -90,13 +90,5 @@ fn rows_below_a_longer_line_are_cleared(rt: HostRuntime) -> Result<(), Fail> {
             &[false, false, false, true, true]
         )?
     );
-    Ok(())
-}
-
-#[test]
-fn no_row_is_known_without_lines(rt: HostRuntime) -> Result<(), Fail> {
-    let alloc = rt.alloc();
-    let scene = scene(alloc, b"ab", b"cd", b"name")?;
-    assert!(rt; text_row(alloc, &scene, &NoLines, 0).is_none());
     Ok(())
 }
