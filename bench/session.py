@@ -3,6 +3,7 @@
 
 Usage: bench/session.py [PROGRAM]            default: crates/nvimd/out/nvimd, as the launcher builds it
        bench/session.py beside [PROGRAM]     the same requests to Neovim (`nvim` on the path) in the same run
+       bench/session.py marks [PROGRAM]      of these the ones on marks alone
 """
 
 import os
@@ -151,8 +152,8 @@ def place(row, col):
 LIMIT_ONE = b"\x81" + text(b"limit") + integer(1)
 
 
-def mark_figures(words, count):
-    """The figures of so many marks, one in each line of a text, set in random order."""
+def marks_once(words, count):
+    """The figures of so many marks, one in each line of a text, set in random order, by one server."""
     server = Server(words)
     server.ask(set_rows(0, -1, [b"x" * 40] * count))
     namespace = server.namespace()
@@ -170,6 +171,16 @@ def mark_figures(words, count):
     found[f"{count} marks listed, ms"] = min(server.ask(get_marks(namespace, integer(0), integer(-1))) for _ in range(3)) * 1e3
     server.close()
     return found
+
+
+def mark_figures(words, count):
+    """The same, where there are few marks by the medians of several servers."""
+    runs = [marks_once(words, count) for _ in range(max(1, 10_000 // count))]
+    return {name: statistics.median(run[name] for run in runs) for name in runs[0]}
+
+
+def all_mark_figures(words):
+    return {**mark_figures(words, 1_000), **mark_figures(words, 100_000)}
 
 
 def small_figures(words):
@@ -215,12 +226,11 @@ def figures(words):
         server.ask(edits("replace", 1_000, 50_000))
     found["peak of 1e6 one-line edits, MB"] = server.peak()
     server.close()
-    for count in (1_000, 100_000):
-        found.update(mark_figures(words, count))
+    found.update(all_mark_figures(words))
     return found
 
 
-def beside(program):
+def beside(program, figures):
     busy = os.getloadavg()[0] > 1
     print(f"load {os.getloadavg()[0]:.1f}" + (": the machine is busy, so the figures are not to be relied on" if busy else ""))
     ours, theirs = [], []
@@ -231,12 +241,13 @@ def beside(program):
     for name in theirs[0]:
         one = statistics.median(run[name] for run in theirs)
         other = statistics.median(run[name] for run in ours)
-        print(f"    {name:36} {one:9.1f} {other:9.1f} {other / one:6.2f}")
+        print(f"    {name:36} {one:9.2f} {other:9.2f} {other / one:6.2f}")
 
 
 def main():
-    if len(sys.argv) > 1 and sys.argv[1] == "beside":
-        return beside(sys.argv[2] if len(sys.argv) > 2 else PROGRAM)
+    if len(sys.argv) > 1 and sys.argv[1] in ("beside", "marks"):
+        asked = figures if sys.argv[1] == "beside" else all_mark_figures
+        return beside(sys.argv[2] if len(sys.argv) > 2 else PROGRAM, asked)
     program = sys.argv[1] if len(sys.argv) > 1 else PROGRAM
     if not os.path.exists(program):
         raise SystemExit("build it first: ./nvimd embed </dev/null")
