@@ -1,5 +1,5 @@
 -- Lemmas on what holds of each element, and on lists in order.
-use Rattle.std.proofs.Common.{◌≡◌, ◌<◌, ◌+◌, List, [], ◌∷◌, ◌++◌, ℕ, zero, suc, refl, sym, length, take, drop, get_or, map, arith, All, Bool, true, false, cond, subst}
+use Rattle.std.proofs.Common.{◌≡◌, ◌≤◌, ◌<◌, ◌+◌, List, [], ◌∷◌, ◌++◌, ℕ, zero, suc, refl, sym, length, take, drop, get_or, map, arith, All, Bool, true, false, cond, subst}
 use Rattle.std.specs.Prelude.{IsPermutation, IsSortedBy, filter}
 use Rattle.std.proofs.lemmas.Bool.{both_ways}
 use Rattle.std.specs.Cmp.{IsStrictWeakOrder}
@@ -131,6 +131,13 @@ module _ {X : Type 0} (lt : X → X → Bool) where
       by_case false is =
           absurd (both_ways (lt (get_or xs j d) y)
           (ranks.chain (get_or xs j d) (get_or xs i d) y (sorted_far lt ranks xs up i j d in_order within) is) before)
+
+-- ---- what holds of each element from a place on
+pub each_from : {X : Type 0} (P : X → Type 0) (xs : List X) (n : ℕ) → ((k : ℕ) (d : X) → n ≤ k → k < length xs → P (get_or xs k d)) → ForEach P (drop n xs)
+each_from P [] zero all = tt
+each_from P [] (suc n) all = tt
+each_from P (x ∷ xs) zero all = (all 0 x (omega arith) (omega arith), each_from P xs zero (λ k d low within. all (suc k) d (omega arith) (omega arith)))
+each_from P (x ∷ xs) (suc n) all = each_from P xs n (λ k d low within. all (suc k) d (omega arith) (omega arith))
 
 -- ---- what a partition point says
 module _ {X : Type 0} (t : X → Bool) where

@@ -1,6 +1,7 @@
 -- Records found in a chunk as it keeps them, and put in and taken out in place.
 use Rattle.std.proofs.Common.{◌≡◌, ◌≤◌, ◌<◌, ◌+◌, List, [], ◌∷◌, ◌++◌, ℕ, zero, suc, refl, ap, sym, ◌∙◌, length, take, drop, get_or, set, map, not, ◌&&◌, arith, Bool, true, false, ltb, subst, None}
 use Rattle.std.specs.Prelude.{IsPermutation, filter, insert, remove}
+use Rattle.std.specs.List.{AllWithin}
 use Rattle.std.specs.List.Sorted.{IsPartitionPoint, IsPartitionedBy}
 use Rattle.std.proofs.lemmas.Bool.{both_ways}
 use Rattle.std.proofs.lemmas.Bool.Decides.{nat_tests}
@@ -60,6 +61,27 @@ pub kept_below : (base : Pos) (r : Record) (ks : List Kept) → Sort (map (place
 kept_below base r ks up =
     parts_kept (placed_record base) (λ q. precedes q r) ks
     (lower_parts precedes record_ranks r (map (placed_record base) ks) (sorted_from_rises precedes (map (placed_record base) ks) up))
+
+-- where one that stands before a place was looked at, those before it do too
+pub front_from : (base at : Pos) (ks : List Kept) (n m : ℕ) (e : Kept) → Sort (map (placed_record base) ks) → n < length ks → m ≤ n + 1
+    → is_before (further base (get_or ks n e).by) at ≡ true → AllWithin (λ k. is_before (further base k.by) at ≡ true) ks 0 m
+front_from base at ks n m e up within fits before = λ k d low high.
+    kept_before base at ks up k n d (omega arith) within (subst (λ (x : Kept). is_before (further base x.by) at ≡ true) (get_or_default ks n e d within) before)
+
+-- where they come first up to one that doesn't, or up to the end, that is all of them
+pub point_at : (base at : Pos) (ks : List Kept) (n : ℕ) (e : Kept) → Sort (map (placed_record base) ks)
+    → AllWithin (λ k. is_before (further base k.by) at ≡ true) ks 0 n
+    → (n < length ks → is_before (further base (get_or ks n e).by) at ≡ false)
+    → IsPartitionPoint (λ k. is_before (further base k.by) at ≡ true) (λ k. is_before (further base k.by) at ≡ false) ks n
+point_at base at ks n e up front stops = (front, λ k d low high. by_case k low high (is_before (further base (get_or ks k d).by) at) d refl)
+  where
+    by_case : (k : ℕ) → n ≤ k → k < length ks → (b : Bool) (d : Kept) → is_before (further base (get_or ks k d).by) at ≡ b
+        → is_before (further base (get_or ks k d).by) at ≡ false
+    by_case k low high true d is =
+        let here : is_before (further base (get_or ks n d).by) at ≡ true = kept_before base at ks up n k d low high is in
+        absurd (both_ways (is_before (further base (get_or ks n d).by) at)
+        (subst (λ (x : Kept). is_before (further base x.by) at ≡ false) (get_or_default ks n e d (omega arith)) (stops (omega arith))) here)
+    by_case k low high false d is = is
 
 -- ---- the part of a chunk within two places
 pub Sort-rest : (base : Pos) (ks rest : List Kept) (n : ℕ) → rest ≡ drop n ks → Sort (map (placed_record base) ks) → Sort (map (placed_record base) rest)

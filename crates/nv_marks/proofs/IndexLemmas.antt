@@ -5,38 +5,39 @@ use Rattle.std.specs.BTreeMap.{BTreeMap, get, is_at, keys}
 use Rattle.std.proofs.lemmas.Map.Made.{is_some-lookup}
 use Rattle.std.proofs.lemmas.Grind.{common_steps}
 use Rattle.std.proofs.lemmas.Bool.Decides.{nat_tests}
+use Rattle.std.specs.declared.cmp.Reverse.{Reverse}
 use Rattle.nv_marks.specs.Marks.{is_named, mark_at, without}
 use Rattle.nv_marks.specs.declared.extmark.Mark.{Mark}
 use Rattle.nv_marks.specs.declared.index.Home.{Home}
 use Rattle.nv_marks.specs.inside.Chunks.{Piece, spread_records}
 use Rattle.nv_marks.specs.inside.Records.{marks_among}
-use Rattle.nv_marks.specs.inside.Names.{name_order, is_indexed, is_one_name, IsIndexOf}
+use Rattle.nv_marks.specs.inside.Names.{name_of, name_order, is_indexed, is_one_name, IsIndexOf}
 
-one_name : (ns id n i : ℕ) → is_at (name_order (ns, id)) (n, i) ≡ is_one_name ns id n i
+one_name : (ns id n i : ℕ) → is_at (name_order (name_of ns id)) (name_of n i) ≡ is_one_name ns id n i
 one_name ns id n i = grind (arith, common_steps, nat_tests)
 
 -- a map has a name as its keys do
-pub known : (m : BTreeMap (ℕ × ℕ) Home) (ns id : ℕ) → is_some (get name_order m (ns, id)) ≡ is_indexed (keys m) ns id
-known m ns id = is_some-lookup (is_at (name_order (ns, id))) m.entries
+pub known : (m : BTreeMap (ℕ × Reverse ℕ) Home) (ns id : ℕ) → is_some (get name_order m (name_of ns id)) ≡ is_indexed (keys m) ns id
+known m ns id = is_some-lookup (is_at (name_order (name_of ns id))) m.entries
 
-pub entered : (m n : BTreeMap (ℕ × ℕ) Home) (ns id : ℕ) (v : Home)
-    → ((q : ℕ × ℕ) → get name_order n q ≡ cond (is_at (name_order (ns, id)) q) (Some v) (get name_order m q))
+pub entered : (m n : BTreeMap (ℕ × Reverse ℕ) Home) (ns id : ℕ) (v : Home)
+    → ((q : ℕ × Reverse ℕ) → get name_order n q ≡ cond (is_at (name_order (name_of ns id)) q) (Some v) (get name_order m q))
     → (a i : ℕ) → is_indexed (keys n) a i ≡ (is_one_name ns id a i || is_indexed (keys m) a i)
 entered m n ns id v step a i =
-    sym (known n a i) ∙ ap is_some (step (a, i)) ∙ by_case (is_at (name_order (ns, id)) (a, i)) (get name_order m (a, i))
-    ∙ ap (λ (b : Bool). b || is_some (get name_order m (a, i))) (one_name ns id a i)
+    sym (known n a i) ∙ ap is_some (step (name_of a i)) ∙ by_case (is_at (name_order (name_of ns id)) (name_of a i)) (get name_order m (name_of a i))
+    ∙ ap (λ (b : Bool). b || is_some (get name_order m (name_of a i))) (one_name ns id a i)
     ∙ ap (λ (b : Bool). is_one_name ns id a i || b) (known m a i)
   where
     by_case : (b : Bool) (o : Option Home) → is_some (cond b (Some v) o) ≡ (b || is_some o)
     by_case true o = refl
     by_case false o = refl
 
-pub forgotten : (m n : BTreeMap (ℕ × ℕ) Home) (ns id : ℕ)
-    → ((q : ℕ × ℕ) → get name_order n q ≡ cond (is_at (name_order (ns, id)) q) None (get name_order m q))
+pub forgotten : (m n : BTreeMap (ℕ × Reverse ℕ) Home) (ns id : ℕ)
+    → ((q : ℕ × Reverse ℕ) → get name_order n q ≡ cond (is_at (name_order (name_of ns id)) q) None (get name_order m q))
     → (a i : ℕ) → is_indexed (keys n) a i ≡ (not (is_one_name ns id a i) && is_indexed (keys m) a i)
 forgotten m n ns id step a i =
-    sym (known n a i) ∙ ap is_some (step (a, i)) ∙ by_case (is_at (name_order (ns, id)) (a, i)) (get name_order m (a, i))
-    ∙ ap (λ (b : Bool). not b && is_some (get name_order m (a, i))) (one_name ns id a i)
+    sym (known n a i) ∙ ap is_some (step (name_of a i)) ∙ by_case (is_at (name_order (name_of ns id)) (name_of a i)) (get name_order m (name_of a i))
+    ∙ ap (λ (b : Bool). not b && is_some (get name_order m (name_of a i))) (one_name ns id a i)
     ∙ ap (λ (b : Bool). not (is_one_name ns id a i) && b) (known m a i)
   where
     by_case : (b : Bool) (o : Option Home) → is_some (cond b None o) ≡ (not b && is_some o)
@@ -44,7 +45,7 @@ forgotten m n ns id step a i =
     by_case false o = refl
 
 -- what one name says of another is by the two alone
-pub no_mark : (names : List (ℕ × ℕ)) (marks : List Mark) (ns id : ℕ) → IsIndexOf names marks → false ≡ is_indexed names ns id → mark_at marks ns id ≡ None
+pub no_mark : (names : List (ℕ × Reverse ℕ)) (marks : List Mark) (ns id : ℕ) → IsIndexOf names marks → false ≡ is_indexed names ns id → mark_at marks ns id ≡ None
 no_mark names marks ns id index none = by_case (mark_at marks ns id) (none ∙ index ns id)
   where
     by_case : (o : Option Mark) → false ≡ is_some o → o ≡ None
@@ -52,11 +53,11 @@ no_mark names marks ns id index none = by_case (mark_at marks ns id) (none ∙ i
     by_case (Some m) is = absurd cc
 
 -- ---- the index of other marks
-pub index_none : (names : List (ℕ × ℕ)) (ps : List Piece) → names ≡ [] → ps ≡ [] → IsIndexOf names (marks_among (spread_records ps))
+pub index_none : (names : List (ℕ × Reverse ℕ)) (ps : List Piece) → names ≡ [] → ps ≡ [] → IsIndexOf names (marks_among (spread_records ps))
 index_none names ps none empty ns id =
-    ap (λ (l : List (ℕ × ℕ)). is_indexed l ns id) none ∙ sym (ap (λ (l : List Piece). is_some (mark_at (marks_among (spread_records l)) ns id)) empty)
+    ap (λ (l : List (ℕ × Reverse ℕ)). is_indexed l ns id) none ∙ sym (ap (λ (l : List Piece). is_some (mark_at (marks_among (spread_records l)) ns id)) empty)
 
-pub index_moved : (names : List (ℕ × ℕ)) (old new : List Mark) (f : Mark → Mark) → ((ns id : ℕ) → mark_at new ns id ≡ option_map f (mark_at old ns id))
+pub index_moved : (names : List (ℕ × Reverse ℕ)) (old new : List Mark) (f : Mark → Mark) → ((ns id : ℕ) → mark_at new ns id ≡ option_map f (mark_at old ns id))
     → IsIndexOf names old → IsIndexOf names new
 index_moved names old new f found index ns id = index ns id ∙ by_case (mark_at old ns id) ∙ ap is_some (sym (found ns id))
   where
@@ -64,7 +65,7 @@ index_moved names old new f found index ns id = index ns id ∙ by_case (mark_at
     by_case None = refl
     by_case (Some m) = refl
 
-pub index_with : (names more : List (ℕ × ℕ)) (old new : List Mark) (m : Mark)
+pub index_with : (names more : List (ℕ × Reverse ℕ)) (old new : List Mark) (m : Mark)
     → ((n i : ℕ) → is_indexed more n i ≡ (is_one_name m.ns m.id n i || is_indexed names n i))
     → ((ns id : ℕ) → mark_at new ns id ≡ cond (is_named ns id m) (Some m) (mark_at old ns id))
     → IsIndexOf names old → IsIndexOf more new
@@ -97,7 +98,7 @@ mark_at-without ns id n i (m ∷ marks) = by_case (is_named ns id m) refl (is_na
     by_case false here false there rest =
         ap (λ (b : Bool). is_some (cond b (Some m) (mark_at (without ns id marks) n i))) there ∙ rest
 
-pub index_less : (names fewer : List (ℕ × ℕ)) (old new : List Mark) (ns id : ℕ)
+pub index_less : (names fewer : List (ℕ × Reverse ℕ)) (old new : List Mark) (ns id : ℕ)
     → ((n i : ℕ) → is_indexed fewer n i ≡ (not (is_one_name ns id n i) && is_indexed names n i))
     → new ≡ without ns id old → IsIndexOf names old → IsIndexOf fewer new
 index_less names fewer old new ns id forgot is index n i =
@@ -105,7 +106,7 @@ index_less names fewer old new ns id forgot is index n i =
     ∙ ap (λ (l : List Mark). is_some (mark_at l n i)) (sym is)
 
 -- a new name that was entered and taken out again
-pub left_again : (names more again : List (ℕ × ℕ)) (ns id : ℕ) (b : Bool) → is_indexed names ns id ≡ not b
+pub left_again : (names more again : List (ℕ × Reverse ℕ)) (ns id : ℕ) (b : Bool) → is_indexed names ns id ≡ not b
     → ((n i : ℕ) → is_indexed more n i ≡ (is_one_name ns id n i || is_indexed names n i))
     → (b ≡ true → (n i : ℕ) → is_indexed again n i ≡ (not (is_one_name ns id n i) && is_indexed more n i))
     → (b ≡ false → again ≡ more) → (n i : ℕ) → is_indexed again n i ≡ is_indexed names n i
@@ -121,7 +122,7 @@ left_again names more again ns id true was entered forgot same n i =
             ap (λ (k : ℕ). is_indexed names k i) n_is ∙ ap (λ (k : ℕ). is_indexed names ns k) i_is ∙ was
     by_case false is = refl
 left_again names more again ns id false was entered forgot same n i =
-    ap (λ (l : List (ℕ × ℕ)). is_indexed l n i) (same refl) ∙ entered n i ∙ by_case (is_one_name ns id n i) refl
+    ap (λ (l : List (ℕ × Reverse ℕ)). is_indexed l n i) (same refl) ∙ entered n i ∙ by_case (is_one_name ns id n i) refl
   where
     by_case : (c : Bool) → is_one_name ns id n i ≡ c → (c || is_indexed names n i) ≡ is_indexed names n i
     by_case true is = sym (there is)

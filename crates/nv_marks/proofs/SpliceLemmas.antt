@@ -4,7 +4,7 @@ use Rattle.std.specs.Prelude.{IsPermutation}
 use Rattle.std.specs.List.Sorted.{IsPartitionedBy}
 use Rattle.std.proofs.lemmas.Bool.{cases_lt, both_ways}
 use Rattle.std.proofs.lemmas.Bool.Decides.{nat_tests}
-use Rattle.std.proofs.lemmas.List.{length-take-le, length-drop, length-map, take-append-drop, map-append, drop-drop, drop-take, drop_at}
+use Rattle.std.proofs.lemmas.List.{length-take-le, length-drop, length-map, take-append-drop, map-append, drop-drop, drop-take, drop_at, get_or_default}
 use Rattle.std.proofs.lemmas.List.Sorted.{IsPermutation-append_left, IsPermutation-append_right, length_permutation}
 use Rattle.nv_places.specs.declared.place.Pos.{Pos}
 use Rattle.nv_places.specs.declared.place.Extent.{Extent}
@@ -16,7 +16,7 @@ use Rattle.nv_marks.specs.declared.record.Record.{Record}
 use Rattle.nv_marks.specs.declared.record.Kept.{Kept}
 use Rattle.nv_marks.specs.inside.Records.{ForEach, Sort, place, precedes, moved_record, MovesInRange}
 use Rattle.nv_marks.specs.inside.Chunks.{Piece, IsTouched, placed_record, records_of, spread_records, base_of, IsFit, IsBased, Ample, IsLaid, starts_before, refilled_pieces, refit_pieces, carried_piece, pieces_carried_from}
-use Rattle.nv_marks.proofs.EachLemmas.{Each-append, Each-left, Each-right, Each-weaker, Each-map, Each-permutation, Each-take, Each-drop, Rises-left, Rises-right, Rises-cross}
+use Rattle.nv_marks.proofs.EachLemmas.{each_from, Each-append, Each-left, Each-right, Each-weaker, Each-map, Each-permutation, Each-take, Each-drop, Rises-left, Rises-right, Rises-cross}
 use Rattle.nv_marks.proofs.PlacesLemmas.{follows, at_least, moved-before, moved-behind, record_ranks}
 use Rattle.nv_marks.proofs.SpreadLemmas.{spread-append, length-records, from_base, spread_carried, all_carried_based, behind_all, refit_parts, carried_parts, spread_refilled, refills_based, sizes, rooms, fit_same, ample_same, sizes_refilled, rooms_refilled, sizes_carried, rooms_carried, in_order_again}
 
@@ -106,6 +106,20 @@ parts_up_to at ps laid = parts_by (λ p. not (is_before at p.base)) down ps laid
         → not (is_before at q.base) ≡ true → not (is_before at p.base) ≡ true
     down p q fit_p fit_q rise before =
         earlier_too p.base q.base (base_rises p.base q.base p.kept q.kept default_record fit_p.some fit_q.some (rise default_record)) before
+
+-- where a chunk begins behind a place, the later ones do too
+pub later_behind : (at : Pos) (ps : List Piece) (n : ℕ) (p : Piece) → IsLaid ps → n < length ps → p ≡ get_or ps n p → is_before at p.base ≡ true
+    → ForEach (λ q. is_before at q.base ≡ true) (drop n ps)
+later_behind at ps n p laid within here behind =
+    each_from (λ q. is_before at q.base ≡ true) ps n (λ k d low high. by_case k low high (is_before at (get_or ps k d).base) d refl)
+  where
+    by_case : (k : ℕ) → n ≤ k → k < length ps → (b : Bool) (d : Piece) → is_before at (get_or ps k d).base ≡ b → is_before at (get_or ps k d).base ≡ true
+    by_case k low high true d is = is
+    by_case k low high false d is =
+        let before : not (is_before at (get_or ps n d).base) ≡ true = parts_up_to at ps laid n k d low high (ap not is) in
+        let after : is_before at (get_or ps n d).base ≡ true =
+        subst (λ (q : Piece). is_before at q.base ≡ true) (here ∙ get_or_default ps n p d within) behind in
+        absurd (both_ways (not (is_before at (get_or ps n d).base)) (ap not after) before)
 
 pub parts_to_row : (row : ℕ) (ps : List Piece) → IsLaid ps → IsPartitionedBy (λ p. leb p.base.row row) ps
 parts_to_row row ps laid = parts_by (λ p. leb p.base.row row) down ps laid.fit laid.based laid.in_order

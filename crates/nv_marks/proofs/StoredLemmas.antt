@@ -1,6 +1,6 @@
 -- What a set of marks keeps, through each of its calls.
 use Rattle.std.proofs.Common.{◌≡◌, ◌≤◌, ◌+◌, ◌*◌, ◌/◌, List, [], ◌∷◌, ◌++◌, ℕ, suc, refl, ap, sym, ◌∙◌, length, map, max, not, cond, eqb, arith, All, Bool, true, false, subst, Option, Some, None}
-use Rattle.std.specs.Prelude.{IsPermutation, filter, option_map, is_some}
+use Rattle.std.specs.Prelude.{IfSome, IsPermutation, filter, option_map, is_some}
 use Rattle.std.proofs.lemmas.List.{length-map}
 use Rattle.std.proofs.lemmas.List.Sorted.{IsPermutation-refl, IsPermutation-map, length_permutation}
 use Rattle.std.proofs.lemmas.Map.Keys.{IsDistinct-from_apart}
@@ -15,7 +15,7 @@ use Rattle.nv_marks.specs.Sound.{IsSound}
 use Rattle.nv_marks.specs.declared.extmark.Mark.{Mark}
 use Rattle.nv_marks.specs.declared.record.Record.{Record}
 use Rattle.nv_marks.specs.inside.Records.{ForEach, place, moved_record, MovesInRange, same_key, belongs_to, marks_among, records_of_mark, records_of_marks}
-use Rattle.nv_marks.specs.inside.Chunks.{Piece, IsLaid, IsSpare, spread_records}
+use Rattle.nv_marks.specs.inside.Chunks.{Piece, IsChunkFor, IsLaid, IsSpare, spread_records}
 use Rattle.nv_marks.specs.inside.Stored.{HoldsMarks, IsEquipped, IsEndKnown, scratch_room}
 use Rattle.nv_marks.proofs.EachLemmas.{Each-from_all, Each-permutation}
 use Rattle.nv_marks.proofs.SoundLemmas.{sound_none, sound_without, sound_moved, sound_with, mark_at-moved, mark_at-set}
@@ -171,3 +171,9 @@ ready_new ps scratch used space spare none empty unused nothing = record {
 pub room_with : (b : Bool) (marks now space : ℕ) → now ≡ cond b marks (marks + 1) → 2 * (marks + 1) + 64 ≤ space → scratch_room now ≤ space
 room_with true marks now space is room = omega arith
 room_with false marks now space is room = omega arith
+
+-- the chunk that was found for a new mark stays the one, since nothing was taken out before
+pub chunk_stays : (chunk : Option ℕ) (found : Option Mark) (r : Record) (ps qs : List Piece) → IfSome chunk (λ at. (found ≡ None) × IsChunkFor r ps at)
+    → (found ≡ None → qs ≡ ps) → IfSome chunk (λ at. IsChunkFor r qs at)
+chunk_stays None found r ps qs fits same = tt
+chunk_stays (Some at) found r ps qs fits same = subst (λ (l : List Piece). IsChunkFor r l at) (sym (same fits.0)) fits.1

@@ -6,6 +6,7 @@ ghost use Rattle.std.specs.Prelude.{◌≡◌, ◌&&◌, ◌||◌, ℕ, [], OnEr
 use crate::chunk::Chunk;
 use crate::record::{Info, Record};
 use std::alloc::{AllocError, Global};
+use std::cmp::Reverse;
 use std::collections::BTreeMap;
 use std::marker::Model;
 
@@ -22,7 +23,9 @@ pub(crate) struct Home {
 /// what stands there.
 #[derive(Drop)]
 pub(crate) struct Index {
-    homes: BTreeMap<(u32, u32), Home>,
+    /// By namespace, and then the greatest id first: a new mark mostly has the greatest, and is
+    /// found at the front of a row of the tree.
+    homes: BTreeMap<(u32, Reverse<u32>), Home>,
     /// By the number of a chunk, its place among the chunks.
     places: Vec<usize>,
     /// The numbers that no chunk has.
@@ -32,8 +35,9 @@ pub(crate) struct Index {
 impl Model for Index {
     ghost use Rattle.std.specs.BTreeMap.{keys};
     ghost use Rattle.std.specs.Prelude.{List, ℕ};
+    ghost use Rattle.std.specs.declared.cmp.Reverse.{Reverse};
 
-    ghost Value = { List (ℕ × ℕ) };
+    ghost Value = { List (ℕ × Reverse ℕ) };
 
     ghost view = { λ s. keys s.homes };
 }
@@ -54,7 +58,7 @@ impl Index {
     pub(crate) fn home(&self, ns: u32, id: u32) -> Option<Home>
         ensures { is_some result ≡ is_indexed self.now ns id }
     {
-        self.homes.get(&(ns, id)).copied()
+        self.homes.get(&(ns, Reverse(id))).copied()
     }
 
     /// Where the chunk of a number stood last.
@@ -72,12 +76,13 @@ impl Index {
     }
 
     /// Gives a namespace and id a home.
-    pub(crate) fn enter(&mut self, ns: u32, id: u32) -> Result<(), AllocError>
+    pub(crate) fn enter(&mut self, ns: u32, id: u32, start: usize) -> Result<(), AllocError>
         ensures ok { OnOk result ((n i : ℕ) → is_indexed self.new n i
             ≡ (is_one_name ns id n i || is_indexed self.old n i)) }
         ensures err { OnErr result (self.new ≡ self.old) }
     {
-        self.homes.insert((ns, id), Home { start: 0, end: 0 })?;
+        self.homes
+            .insert((ns, Reverse(id)), Home { start, end: 0 })?;
         Ok(())
     }
 
@@ -86,14 +91,14 @@ impl Index {
         ensures { (n i : ℕ) → is_indexed self.new n i
             ≡ (not (is_one_name ns id n i) && is_indexed self.old n i) }
     {
-        let _ = self.homes.remove(&(ns, id));
+        let _ = self.homes.remove(&(ns, Reverse(id)));
     }
 
     /// Notes that the chunk of a number has a start or an end.
     pub(crate) fn note(&mut self, info: &Info, number: usize)
         ensures { self.new ≡ self.old }
     {
-        if let Some(home) = self.homes.get_mut(&(info.ns, info.id)) {
+        if let Some(home) = self.homes.get_mut(&(info.ns, Reverse(info.id))) {
             if info.is_end {
                 home.end = number;
             } else {

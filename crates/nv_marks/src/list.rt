@@ -2,17 +2,18 @@
 
 ghost use Rattle.nv_marks.specs.Order.{is_within, starts_within};
 ghost use Rattle.nv_marks.specs.inside.Chunks.{IsLaid, placed_record, records_of, spread_records};
-ghost use Rattle.nv_marks.specs.inside.Records.{ForEach, Sort, marks_among, same_key};
+ghost use Rattle.nv_marks.specs.inside.Records.{ForEach, Sort, end_among, mark_among, marks_among, same_key};
 ghost use Rattle.nv_marks.specs.inside.Stored.{IsEndKnown, extended_list, listed_marks};
-ghost use Rattle.nv_places.specs.Places.{IsNarrow, is_before};
-ghost use Rattle.std.specs.List.{IsDistinct};
-ghost use Rattle.std.specs.Prelude.{◌≡◌, ◌+◌, ◌-◌, ◌<◌, ◌≤◌, ◌++◌, ◌∷◌, List, [], OnErr, OnOk, false, filter, length, map, take, true};
+ghost use Rattle.nv_places.specs.Places.{IsNarrow, further, is_before};
+ghost use Rattle.std.specs.List.{AllWithin, IsDistinct};
+ghost use Rattle.std.specs.List.Sorted.{IsPartitionPoint};
+ghost use Rattle.std.specs.Prelude.{◌≡◌, ◌+◌, ◌-◌, ◌<◌, ◌≤◌, ◌++◌, ◌∷◌, List, [], OnErr, OnOk, false, filter, is_some, length, map, take, true};
 
 use crate::chunk::Chunk;
 use crate::extmark::Mark;
 use crate::index::Index;
-use crate::parts::mark_of;
-use crate::record::{Info, Kept, Record};
+use crate::parts::{mark_of, mark_with_stop};
+use crate::record::{Kept, Record};
 use crate::store::Store;
 use nv_places::Pos;
 use std::alloc::AllocError;
@@ -128,9 +129,38 @@ fn rest_from(base: Pos, kept: &[Kept], from: Pos) -> &[Kept]
         → filter (λ r. is_within from to r.pos) (map (placed_record base) result.now)
         ≡ filter (λ r. is_within from to r.pos) (map (placed_record base) kept.now) }
 {
-    let first = kept.partition_point(|one| one.stands_before(base, from));
+    let first = count_to(base, kept, from);
     let (_, rest) = kept.split_at(first);
     rest
+}
+
+/// How many records of a chunk stand before a place: these come first.
+fn count_to(base: Pos, kept: &[Kept], from: Pos) -> usize
+    requires in_order { Sort (map (placed_record base) kept.now) }
+    ensures bound { result ≤ length kept.now }
+    ensures point { IsPartitionPoint (λ k. is_before (further base k.by) from ≡ true)
+        (λ k. is_before (further base k.by) from ≡ false) kept.now result }
+{
+    let mut count = count_near(base, kept, from);
+    while count < kept.len() && kept[count].stands_before(base, from) {
+        count += 1;
+    }
+    count
+}
+
+/// How many records of a chunk stand before a place, or a few less. Each eighth is looked at: they
+/// come into the processor's cache side by side, where the halves of a binary search come one after
+/// another.
+fn count_near(base: Pos, kept: &[Kept], from: Pos) -> usize
+    requires in_order { Sort (map (placed_record base) kept.now) }
+    ensures bound { result ≤ length kept.now }
+    ensures front { AllWithin (λ k. is_before (further base k.by) from ≡ true) kept.now 0 result }
+{
+    let mut near = 0;
+    while near + 8 < kept.len() && kept[near + 8].stands_before(base, from) {
+        near += 8;
+    }
+    near
 }
 
 /// Lists the marks that start among records of one chunk that don't stand before the range.
@@ -192,15 +222,20 @@ fn list_one(
     if one.info.is_end {
         return Ok(());
     }
-    into.push(mark_of(store, one, end_place(index, &one.info)))?;
+    if !one.info.has_end {
+        into.push(plain_mark(store, one))?;
+        return Ok(());
+    }
+    let near = index.place_of(one.info.ns, one.info.id, true);
+    into.push(mark_of(store, one, near))?;
     Ok(())
 }
 
-/// Where the chunk stood last in which the end of a mark is.
-fn end_place(index: &Index, start: &Info) -> usize {
-    if start.has_end {
-        index.place_of(start.ns, start.id, true)
-    } else {
-        0
-    }
+/// The mark of a start that has no end.
+fn plain_mark(store: &Store, start: Record) -> Mark
+    requires none { false
+        ≡ is_some (end_among (spread_records store.now.chunks.items) start.info.ns start.info.id) }
+    ensures { result ≡ mark_among (spread_records store.now.chunks.items) start }
+{
+    mark_with_stop(start, None)
 }

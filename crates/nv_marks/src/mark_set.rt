@@ -15,7 +15,7 @@ use crate::chunk::Chunk;
 use crate::extmark::Mark;
 use crate::index::Index;
 use crate::list::list;
-use crate::parts::{find_counted, find_mark, put_mark, take_found};
+use crate::parts::{chunk_for, find_counted, find_mark, put_mark, take_found};
 use crate::record::Record;
 use crate::steps::Steps;
 use crate::store::Store;
@@ -114,7 +114,16 @@ impl MarkSet {
         self.scratch.reserve(room)?;
         self.store.reserve()?;
         stock(self.alloc, &mut self.index, &mut self.spare)?;
-        enter(&mut self.index, &mut self.greatest, ns, id, found.is_none())?;
+        let chunk = chunk_for(&self.store, found, &mark);
+        let number = self.store.number_of(chunk);
+        enter(
+            &mut self.index,
+            &mut self.greatest,
+            ns,
+            id,
+            found.is_none(),
+            number,
+        )?;
         take_found(
             &mut self.store,
             &mut self.index,
@@ -127,6 +136,7 @@ impl MarkSet {
             &mut self.store,
             &mut self.index,
             mark,
+            chunk,
             &mut self.spare,
             &mut self.scratch,
         );
@@ -279,6 +289,7 @@ fn enter(
     ns: u32,
     id: u32,
     is_new: bool,
+    number: usize,
 ) -> Result<(), AllocError>
     requires { is_indexed index.old ns id ≡ not is_new }
     ensures names { OnOk result ((n i : ℕ) → is_indexed index.new n i
@@ -290,7 +301,7 @@ fn enter(
         ((n i : ℕ) → is_indexed index.new n i ≡ is_indexed index.old n i) }
     ensures err_greatest { OnErr result (greatest.new.entries ≡ greatest.old.entries) }
 {
-    enter_name(index, ns, id, is_new)?;
+    enter_name(index, ns, id, is_new, number)?;
     if count_id(greatest, ns, id).is_err() {
         leave_name(index, ns, id, is_new);
         return Err(AllocError);
@@ -305,23 +316,32 @@ fn count_id(greatest: &mut BTreeMap<u32, u32>, ns: u32, id: u32) -> Result<(), A
         else greatest_id greatest.old.entries n)) }
     ensures err { OnErr result (greatest.new.entries ≡ greatest.old.entries) }
 {
-    match greatest.get(&ns).copied() {
-        Some(most) if id <= most => Ok(()),
-        _ => {
-            greatest.insert(ns, id)?;
-            Ok(())
-        }
+    if let Some(most) = greatest.get_mut(&ns) {
+        *most = id.max(*most);
+        return Ok(());
     }
+    greatest.insert(ns, id)?;
+    Ok(())
 }
 
 /// Enters a name where it is a new one.
-fn enter_name(index: &mut Index, ns: u32, id: u32, is_new: bool) -> Result<(), AllocError>
+fn enter_name(
+    index: &mut Index,
+    ns: u32,
+    id: u32,
+    is_new: bool,
+    number: usize,
+) -> Result<(), AllocError>
     requires { is_indexed index.old ns id ≡ not is_new }
     ensures ok { OnOk result ((n i : ℕ) → is_indexed index.new n i
         ≡ (is_one_name ns id n i || is_indexed index.old n i)) }
     ensures err { OnErr result (index.new ≡ index.old) }
 {
-    if is_new { index.enter(ns, id) } else { Ok(()) }
+    if is_new {
+        index.enter(ns, id, number)
+    } else {
+        Ok(())
+    }
 }
 
 /// Takes a name out that was entered as a new one.

@@ -1,13 +1,13 @@
 //! Marks in a store of records: found, taken out, put in and listed.
 
 ghost use Rattle.nv_marks.specs.Marks.{greatest_id, mark_at};
-ghost use Rattle.nv_marks.specs.inside.Chunks.{IsLaid, IsSpare, spread_records};
+ghost use Rattle.nv_marks.specs.inside.Chunks.{IsChunkFor, IsLaid, IsSpare, spread_records};
 ghost use Rattle.nv_marks.specs.inside.Names.{IsIndexOf};
-ghost use Rattle.nv_marks.specs.inside.Records.{ForEach, belongs_to, end_among, has_key, mark_among, marks_among, records_of_mark, records_of_marks, same_key, start_record, end_record};
+ghost use Rattle.nv_marks.specs.inside.Records.{ForEach, belongs_to, end_among, has_key, mark_among, mark_with_stop, marks_among, records_of_mark, records_of_marks, same_key, start_record, end_record};
 ghost use Rattle.nv_marks.specs.inside.Stored.{IsEndKnown};
 ghost use Rattle.nv_places.specs.Places.{IsNarrow};
 ghost use Rattle.std.specs.List.{IsDistinct};
-ghost use Rattle.std.specs.Prelude.{◌≡◌, ◌+◌, ◌≤◌, ◌<◌, ◌++◌, ◌∷◌, [], All, IsPermutation, None, false, filter, is_some, not, vec_capacity, vec_len};
+ghost use Rattle.std.specs.Prelude.{◌≡◌, ◌+◌, ◌≤◌, ◌<◌, ◌++◌, ◌∷◌, [], All, IfSome, IsPermutation, None, false, filter, is_some, not, vec_capacity, vec_len};
 
 use crate::chunk::Chunk;
 use crate::extmark::{Far, Mark};
@@ -63,12 +63,20 @@ pub(crate) fn mark_of(store: &Store, start: Record, near: usize) -> Mark
         ≡ is_some (end_among (spread_records store.now.chunks.items) start.info.ns start.info.id) }
     ensures { result ≡ mark_among (spread_records store.now.chunks.items) start }
 {
+    let stop = end_of(store, start, near);
+    mark_with_stop(start, stop)
+}
+
+/// The mark of a start, with an end that was found.
+pub(crate) fn mark_with_stop(start: Record, stop: Option<Far>) -> Mark
+    ensures { result ≡ mark_with_stop start stop }
+{
     Mark {
         ns: start.info.ns,
         id: start.info.id,
         start: start.pos,
         right: start.info.right,
-        stop: end_of(store, start, near),
+        stop,
         paint: start.info.paint,
         priority: start.info.priority,
     }
@@ -187,6 +195,7 @@ pub(crate) fn take_found(
     ensures room { vec_capacity scratch.new ≡ vec_capacity scratch.old }
     ensures place { vec_capacity store.new.chunks ≡ vec_capacity store.old.chunks }
     ensures places { vec_len store.new.chunks ≤ vec_len store.old.chunks }
+    ensures same { found ≡ None → store.new.chunks.items ≡ store.old.chunks.items }
     ensures index { index.new ≡ index.old }
 {
     if let Some(mark) = found {
@@ -199,10 +208,13 @@ pub(crate) fn put_mark(
     store: &mut Store,
     index: &mut Index,
     mark: Mark,
+    chunk: Option<usize>,
     spare: &mut Vec<Chunk>,
     scratch: &mut Vec<Record>,
 )
     requires laid { IsLaid store.old.chunks.items }
+    requires chunk { IfSome chunk
+        (λ at. IsChunkFor (start_record mark) store.old.chunks.items at) }
     requires place { vec_len store.old.chunks + 1 < vec_capacity store.old.chunks }
     requires spare { 1 < vec_len spare.old }
     requires spares { ForEach IsSpare spare.old.items }
@@ -225,8 +237,20 @@ pub(crate) fn put_mark(
             store.insert(end_record(&mark, far), index, spare, scratch);
             store.insert(start, index, spare, scratch);
         }
-        None => store.insert(start, index, spare, scratch),
+        None => store.insert_into(chunk, start, index, spare, scratch),
     }
+}
+
+/// The chunk that the start of a mark goes into, where it is a new one and has no end.
+pub(crate) fn chunk_for(store: &Store, found: Option<Mark>, mark: &Mark) -> Option<usize>
+    requires laid { IsLaid store.now.chunks.items }
+    ensures { IfSome result (λ at. (found ≡ None)
+        × IsChunkFor (start_record mark.now) store.now.chunks.items at) }
+{
+    if found.is_some() || mark.stop.is_some() {
+        return None;
+    }
+    store.chunk_for(&start_record(mark))
 }
 
 /// The start of a mark as a record.

@@ -166,6 +166,13 @@ pub record IsFoundAt (t : Record → Bool) (ps : List Piece) (n i : ℕ) : Type 
   pub found : (d : Record) → find t (spread_records ps)
       ≡ Some (slice_index_or (held_records n 1 ps) i d)
 
+-- a record goes into a chunk: no record of the chunks before comes behind it, and none of those
+-- behind comes before it
+pub record IsChunkFor (r : Record) (ps : List Piece) (n : ℕ) : Type 0 where
+  pub within : n < length ps
+  pub front : ForEach (λ q. precedes r q ≡ false) (held_records 0 n ps)
+  pub behind : ForEach (λ q. precedes q r ≡ false) (spread_records (drop (n + 1) ps))
+
 -- ---- which chunks a splice writes
 
 -- the chunks from one place to before another are those whose records may change their order

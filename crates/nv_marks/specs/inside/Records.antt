@@ -78,17 +78,21 @@ far_in r = record { pos = r.pos; right = r.info.right }
 abbrev pub end_among : List Record → ℕ → ℕ → Option Far
 end_among rs ns id = option_map far_in (find (has_key ns id true) rs)
 
--- the mark of a start among records
-abbrev pub mark_among : List Record → Record → Mark
-mark_among rs r = record {
+-- the mark of a start, with this end
+abbrev pub mark_with_stop : Record → Option Far → Mark
+mark_with_stop r stop = record {
   ns = r.info.ns;
   id = r.info.id;
   start = r.pos;
   right = r.info.right;
-  stop = end_among rs r.info.ns r.info.id;
+  stop = stop;
   paint = r.info.paint;
   priority = r.info.priority;
 }
+
+-- the mark of a start among records
+abbrev pub mark_among : List Record → Record → Mark
+mark_among rs r = mark_with_stop r (end_among rs r.info.ns r.info.id)
 
 -- the marks that records stand for
 abbrev pub marks_among : List Record → List Mark

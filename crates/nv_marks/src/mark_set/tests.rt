@@ -60,18 +60,34 @@ impl MarkSet {
     }
 }
 
-/// Whether the marks with ends of namespace 1 are so many, and all stand where the index says.
+/// Whether the marks of namespace 1 are so many, and all stand where the index says.
 fn are_there(set: &MarkSet, count: usize) -> bool {
     let mut there = 0usize;
     for id in 0..256u32 {
-        if set.find(1, id).is_some() {
-            if !set.is_there(id, false) || !set.is_there(id, true) {
+        if let Some(mark) = set.find(1, id) {
+            if !set.is_there(id, false) || mark.stop.is_some() && !set.is_there(id, true) {
                 return false;
             }
             there = there.wrapping_add(1);
         }
     }
     there == count
+}
+
+/// Sets marks without ends of all ids below 256, in rows that look random.
+fn dot(set: &mut MarkSet, factor: u8) -> Result<(), AllocError>
+    requires { All (IsBelow 1024) set.old.marks }
+    ensures { OnOk result (All (IsBelow 1024) set.new.marks) }
+{
+    for id in 0..=255u8 {
+        let row = id.wrapping_mul(factor);
+        put(
+            set,
+            mark(u32::from(id), at(u32::from(row), 0), id > 99),
+            1024,
+        )?;
+    }
+    Ok(())
 }
 
 /// Sets marks of all ids below 256, in rows that look random, with their ends some rows behind.
@@ -105,6 +121,8 @@ fn thin(set: &mut MarkSet)
 fn index_follows_marks(rt: HostRuntime) -> Result<(), Fail> {
     // Marks that are set, set anew elsewhere, taken out, set again, and heaped up by a splice.
     let mut set = MarkSet::new(rt.alloc())?;
+    dot(&mut set, 55)?;
+    assert_eq!(rt; are_there(&set, 256), true);
     scatter(&mut set, 77)?;
     assert_eq!(rt; are_there(&set, 256), true);
     scatter(&mut set, 147)?;

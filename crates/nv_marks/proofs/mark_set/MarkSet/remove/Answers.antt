@@ -1,4 +1,5 @@
 use Rattle.std.proofs.Common.{◌≡◌, ◌∙◌, ap, sym, subst, ℕ, List, arith}
+use Rattle.std.specs.declared.cmp.Reverse.{Reverse}
 use Rattle.nv_marks.specs.Marks.{Marks, without}
 use Rattle.nv_marks.specs.inside.Records.{marks_among}
 use Rattle.nv_marks.specs.inside.Chunks.{spread_records}
@@ -37,7 +38,7 @@ invariant_of-self c = (
       (marks_among (spread_records c.take_found.new.store.chunks.items)) c.args.ns c.args.id c.forget.ensures
       (marks_left c.args.ns c.args.id c.self.inside.store.chunks.items c.take_found.new.store.chunks.items c.self.inside.greatest.entries c.self.invariant.0
       c.take_found.ensures.laid c.take_found.ensures.rest)
-      (subst (λ (l : List (ℕ × ℕ)). IsIndexOf l (marks_among (spread_records c.self.inside.store.chunks.items))) (sym c.take_found.ensures.index) c.self.invariant.2),
+      (subst (λ (l : List (ℕ × Reverse ℕ)). IsIndexOf l (marks_among (spread_records c.self.inside.store.chunks.items))) (sym c.take_found.ensures.index) c.self.invariant.2),
 )
 
 pub returns-clause-marks : goal.returns-clause-marks

@@ -1,18 +1,24 @@
 use Rattle.std.proofs.Common.{◌≡◌, ◌∙◌, ◌+◌, ◌*◌, ◌∷◌, ap, sym, subst, cond, not, ℕ, Some, Option, List, arith}
 use Rattle.std.specs.Prelude.{IfSome, IsPermutation, filter, is_some, vec_capacity}
 use Rattle.std.specs.Result.{result_ok}
+use Rattle.std.specs.declared.cmp.Reverse.{Reverse}
 use Rattle.nv_marks.specs.Marks.{Marks, is_named, mark_at, without}
 use Rattle.nv_marks.specs.Order.{IsInOrder}
-use Rattle.nv_marks.specs.inside.Records.{belongs_to, marks_among}
+use Rattle.nv_marks.specs.inside.Records.{belongs_to, marks_among, start_record}
 use Rattle.nv_marks.specs.inside.Chunks.{Piece, spread_records}
 use Rattle.nv_marks.specs.inside.Names.{IsIndexOf}
 use Rattle.nv_marks.proofs.IndexLemmas.{index_with}
-use Rattle.nv_marks.proofs.StoredLemmas.{ends_of_stored, stored_with, ordered_with, found_with, count_with_one, room_with}
+use Rattle.nv_marks.proofs.StoredLemmas.{ends_of_stored, stored_with, ordered_with, found_with, count_with_one, room_with, chunk_stays}
 use Rattle.nv_marks.proofs.mark_set.MarkSet.set.Goals as goal
 
 pub find_counted-found-requires-clause-ends : goal.find_counted-found-requires-clause-ends
 find_counted-found-requires-clause-ends c =
     ends_of_stored c.self.inside.store.chunks.items c.self.inside.greatest.entries c.self.invariant.0
+
+pub put_mark-requires-clause-chunk : goal.put_mark-requires-clause-chunk
+put_mark-requires-clause-chunk c =
+    chunk_stays c.chunk_for-chunk.result c.find_counted-found.result (start_record c.args.mark) _ c.take_found.new.store.chunks.items c.chunk_for-chunk.ensures
+    c.take_found.ensures.same
 
 pub invariant_of-self-2 : goal.invariant_of-self-2
 invariant_of-self-2 c =
@@ -34,14 +40,14 @@ invariant_of-self-2 c =
             c.count_with-self-inside.ensures (omega (arith, room, c.in_ok-reserve.ensures.ok, c.take_found.ensures.room, c.put_mark.ensures.room, c.self.invariant.1.empty));
         spares = c.put_mark.ensures.spares;
       },
-      subst (λ (l : List (ℕ × ℕ)). IsIndexOf l (marks_among (spread_records c.put_mark.new.store.chunks.items)))
+      subst (λ (l : List (ℕ × Reverse ℕ)). IsIndexOf l (marks_among (spread_records c.put_mark.new.store.chunks.items)))
           (sym (c.put_mark.ensures.index ∙ c.take_found.ensures.index))
           (index_with c.stock.new.index c.enter.new.index (marks_among (spread_records c.self.inside.store.chunks.items))
           (marks_among (spread_records c.put_mark.new.store.chunks.items)) c.args.mark c.in_ok-enter.ensures.names
           (found_with c.args.mark c.self.inside.store.chunks.items c.take_found.new.store.chunks.items c.put_mark.new.store.chunks.items
           c.self.inside.greatest.entries c.enter.new.greatest.entries c.self.invariant.0 c.take_found.ensures.laid c.put_mark.ensures.laid rest
           c.put_mark.ensures.same_records counts)
-          (subst (λ (l : List (ℕ × ℕ)). IsIndexOf l (marks_among (spread_records c.self.inside.store.chunks.items))) (sym c.stock.ensures.index) c.self.invariant.2)),
+          (subst (λ (l : List (ℕ × Reverse ℕ)). IsIndexOf l (marks_among (spread_records c.self.inside.store.chunks.items))) (sym c.stock.ensures.index) c.self.invariant.2)),
     )
 
 pub returns-clause-marks : goal.returns-clause-marks

@@ -1,5 +1,6 @@
 use Rattle.std.proofs.Common.{◌≤◌, ◌+◌, ◌∙◌, ap, sym, subst, map, All, ℕ, List, arith}
 use Rattle.std.specs.Prelude.{option_map, vec_len, vec_capacity}
+use Rattle.std.specs.declared.cmp.Reverse.{Reverse}
 use Rattle.nv_marks.specs.Marks.{Marks, mark_at}
 use Rattle.nv_marks.specs.Order.{IsInOrder}
 use Rattle.nv_marks.specs.Cost.{most_steps}
@@ -34,7 +35,7 @@ invariant_of-self g c = (
     room = omega (arith, c.clear.ensures.capacity, c.splice_counted.ensures.room, c.self.invariant.1.room);
     spares = c.self.invariant.1.spares;
   },
-  subst (λ (l : List (ℕ × ℕ)). IsIndexOf l (marks_among (spread_records c.splice_counted.new.self.chunks.items))) (sym c.splice_counted.ensures.index)
+  subst (λ (l : List (ℕ × Reverse ℕ)). IsIndexOf l (marks_among (spread_records c.splice_counted.new.self.chunks.items))) (sym c.splice_counted.ensures.index)
       (index_moved c.self.inside.index (marks_among (spread_records c.self.inside.store.chunks.items))
       (marks_among (spread_records c.splice_counted.new.self.chunks.items)) (moved_mark c.args.start c.args.old c.args.new)
       (found_moved c.args.start c.args.old c.args.new c.self.inside.store.chunks.items c.splice_counted.new.self.chunks.items c.self.inside.greatest.entries
