@@ -32,7 +32,7 @@ fn lines_after(
     requires rows { rows ≡ length (chunk_lines chunks.now) }
     ensures { IfOk result (λ lines. lines.items ≡ splice (chunk_lines chunks.now) from to new) }
 {
-    let mut added = new.into_vec();
+    let mut added = new.into_vec()?;
     if from == 0 && to == rows {
         return Ok(added);
     }

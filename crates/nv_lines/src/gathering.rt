@@ -3,6 +3,7 @@ ghost use Rattle.std.specs.Prelude.{◌≡◌, ◌+◌, ◌-◌, ◌<◌, ◌≤
 ghost use Rattle.nv_lines.specs.Chunks.{chunk_lines};
 
 use crate::chunk::Chunk;
+use crate::held::Held;
 use crate::listing::LineList;
 use crate::single::Line;
 use std::alloc::AllocError;
@@ -62,13 +63,13 @@ fn begins_inside(start: usize, end: usize) -> bool
     end > 0
 }
 
-// Moves the rows from `from` up to before `to` of a list to the end of another with room for them.
-fn move_rows(into: &mut Vec<Line>, lines: LineList, from: usize, to: usize)
-    requires room { vec_len into.old + length (slice_range lines from to) ≤ vec_capacity into.old }
-    ensures items { into.new.items ≡ into.old.items ++ slice_range lines from to }
+// Moves the rows from `from` up to before `to` of a table to the end of another with room for them.
+fn move_many(into: &mut Vec<Line>, mut lines: Vec<Line>, from: usize, to: usize)
+    requires room { vec_len into.old + length (slice_range lines.items from to)
+        ≤ vec_capacity into.old }
+    ensures items { into.new.items ≡ into.old.items ++ slice_range lines.items from to }
     ensures capacity { vec_capacity into.old ≤ vec_capacity into.new }
 {
-    let mut lines = lines.into_vec();
     if from == 0 && lines.len() <= to {
         let _ = into.append(&mut lines);
         return;
@@ -83,6 +84,22 @@ fn move_rows(into: &mut Vec<Line>, lines: LineList, from: usize, to: usize)
             continue;
         }
         into.push_reserved(line);
+    }
+}
+
+// The same of a list.
+fn move_rows(into: &mut Vec<Line>, lines: LineList, from: usize, to: usize)
+    requires room { vec_len into.old + length (slice_range lines from to) ≤ vec_capacity into.old }
+    ensures items { into.new.items ≡ into.old.items ++ slice_range lines from to }
+    ensures capacity { vec_capacity into.old ≤ vec_capacity into.new }
+{
+    match lines.into_held() {
+        Held::One(line, _) => {
+            if begins_inside(from, to) {
+                into.push_reserved(line);
+            }
+        }
+        Held::Many(lines) => move_many(into, lines, from, to),
     }
 }
 

@@ -8,6 +8,7 @@ mod editing;
 mod exchange;
 mod finding;
 mod gathering;
+mod held;
 mod listing;
 mod measuring;
 mod reading;

@@ -2,29 +2,41 @@
 ghost use Rattle.std.specs.Prelude.{◌≡◌, ◌^◌, ◌≤◌, ◌↔◌, [], ◌∷◌, ◌++◌, length, IsTrue, IfOk, OnOk, OnErr, IfErr, IfSome, MatchOption, All, slice_get, slice_range, option_copied};
 ghost use Rattle.std.specs.List.{splice};
 ghost use Rattle.nv_places.specs.Flat.{flat, IsLine};
+ghost use Rattle.nv_lines.specs.inside.Held.{held_lines};
 
-use crate::exchange::exchange;
 use crate::gathering::add_shared;
+use crate::held::Held;
 use crate::measuring::checked_flat_len;
 use crate::single::Line;
 use std::alloc::{AllocError, AllocFailed, Global};
 use std::marker::Model;
+use std::mem;
 
-/// A list of lines, maybe empty.
+/// A list of lines, maybe empty. A single line takes no table.
 #[derive(Drop)]
 pub struct LineList {
-    lines: Vec<Line>,
+    held: Held,
 }
 
 impl Model for LineList {
     ghost use Rattle.std.specs.Prelude.{List, ℕ, All};
     ghost use Rattle.nv_places.specs.Flat.{IsLine};
+    ghost use Rattle.nv_lines.specs.inside.Held.{held_lines};
 
     ghost Value = { List (List ℕ) };
 
-    ghost view = { λ list. list.lines.items };
+    ghost view = { λ list. held_lines list.held };
 
-    ghost invariant = { λ list. All IsLine list.lines.items };
+    ghost invariant = { λ list. All IsLine (held_lines list.held) };
+}
+
+// Shares of lines, in a table.
+fn shared(alloc: Global, lines: &[Line]) -> Result<Vec<Line>, AllocError>
+    ensures { IfOk result (λ list. list.items ≡ lines.now) }
+{
+    let mut list = Vec::with_capacity(alloc, lines.len())?;
+    add_shared(&mut list, lines)?;
+    Ok(list)
 }
 
 impl LineList {
@@ -33,7 +45,17 @@ impl LineList {
         ensures { result ≡ [] }
     {
         LineList {
-            lines: Vec::new(alloc),
+            held: Held::Many(Vec::new(alloc)),
+        }
+    }
+
+    /// A list of one line. It takes no memory.
+    pub fn one(alloc: Global, line: Line) -> LineList
+        ensures { result ≡ line ∷ [] }
+    {
+        let _ = line.len();
+        LineList {
+            held: Held::One(line, alloc),
         }
     }
 
@@ -44,14 +66,24 @@ impl LineList {
         for line in &lines {
             let _ = line.len();
         }
-        LineList { lines }
+        LineList {
+            held: Held::Many(lines),
+        }
     }
 
-    pub fn into_vec(self) -> Vec<Line>
-        ensures value { result.items ≡ self }
-        ensures lines { All IsLine result.items }
+    /// The lines in a table, which takes memory where there is one line.
+    pub fn into_vec(self) -> Result<Vec<Line>, AllocError>
+        ensures value { IfOk result (λ lines. lines.items ≡ self) }
+        ensures lines { IfOk result (λ lines. All IsLine lines.items) }
     {
-        self.lines
+        self.held.into_vec()
+    }
+
+    // As it is held.
+    pub(crate) fn into_held(self) -> Held
+        ensures { held_lines result ≡ self }
+    {
+        self.held
     }
 
     /// Adds a line at the end.
@@ -61,15 +93,19 @@ impl LineList {
         ensures line_returned { IfErr result (λ e. e.value ≡ line) }
     {
         let _ = line.len();
-        self.lines.push(line)
+        self.held.push(line)
     }
 
     /// The same lines, shared: one owner more of each, and no bytes copied.
     pub fn share(&self) -> Result<LineList, AllocError>
         ensures { IfOk result (λ list. list ≡ self.now) }
     {
-        let mut lines = Vec::with_capacity(*self.lines.allocator(), self.lines.len())?;
-        add_shared(&mut lines, &self.lines)?;
+        let alloc = self.held.alloc();
+        let lines = self.held.as_slice();
+        if lines.len() == 1 {
+            return Ok(LineList::one(alloc, lines[0].share()?));
+        }
+        let lines = shared(alloc, lines)?;
         Ok(LineList::from_vec(lines))
     }
 
@@ -78,21 +114,21 @@ impl LineList {
         ensures value { result ≡ length self.now }
         ensures lines { All IsLine self.now }
     {
-        self.lines.len()
+        self.held.len()
     }
 
     /// Whether there is no line.
     pub fn is_empty(&self) -> bool
         ensures { IsTrue result ↔ (self.now ≡ []) }
     {
-        self.lines.is_empty()
+        self.held.as_slice().is_empty()
     }
 
     /// The line at a place, from 0. `None` exactly at or past the end.
     pub fn get(&self, place: usize) -> Option<&Line>
         ensures { option_copied result ≡ slice_get self.now place }
     {
-        self.lines.get(place)
+        self.held.as_slice().get(place)
     }
 
     /// All lines, lent.
@@ -100,25 +136,23 @@ impl LineList {
         ensures value { result.now ≡ self.now }
         ensures lines { All IsLine result.now }
     {
-        self.lines.as_slice()
+        self.held.as_slice()
     }
 
-    // Puts `new` in place of the lines from `from` up to before `to`, and gives those back. Where
-    // memory is wanting nothing changes.
-    pub(crate) fn replace(
-        &mut self,
-        from: usize,
-        to: usize,
-        new: LineList,
-    ) -> Result<LineList, AllocError>
+    /// Puts `new` in place of the lines from `from` up to before `to`, and gives those back. Where
+    /// memory is wanting nothing changes.
+    pub fn replace(&mut self, from: usize, to: usize, new: LineList) -> Result<LineList, AllocError>
         requires order { from ≤ to }
         requires within { to ≤ length self.old }
         ensures ok { OnOk result (self.new ≡ splice self.old from to new) }
         ensures taken { IfOk result (λ taken. taken ≡ slice_range self.old from to) }
         ensures err { OnErr result (self.new ≡ self.old) }
     {
-        let taken = exchange(&mut self.lines, from, to, new.into_vec())?;
-        Ok(LineList::from_vec(taken))
+        if from == 0 && to == self.len() {
+            return Ok(mem::replace(self, new));
+        }
+        let held = self.held.replace(from, to, new.held)?;
+        Ok(LineList { held })
     }
 
     /// The number of bytes of the flat text of these lines. `None` exactly where it is 2^64 or
@@ -127,6 +161,6 @@ impl LineList {
         ensures { MatchOption result (2 ^ 64 ≤ length (flat self.now))
             (λ n. n ≡ length (flat self.now)) }
     {
-        checked_flat_len(&self.lines)
+        checked_flat_len(self.held.as_slice())
     }
 }

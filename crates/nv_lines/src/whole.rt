@@ -45,8 +45,7 @@ impl Lines {
     pub fn new(alloc: Global) -> Result<Lines, AllocError>
         ensures { IfOk result (λ text. text ≡ [] ∷ []) }
     {
-        let mut lines = LineList::new(alloc);
-        lines.push(Line::new(alloc)?)?;
+        let lines = LineList::one(alloc, Line::new(alloc)?);
         let mut chunks = Vec::new(alloc);
         chunks.push(Chunk { lines, bytes: 1 })?;
         Ok(Lines {

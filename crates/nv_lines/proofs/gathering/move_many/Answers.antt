@@ -1,7 +1,7 @@
 use Rattle.std.proofs.Common.{◌≡◌, ◌∷◌, arith, rules, slice_range}
 use Rattle.std.specs.Vec.Iter.{into_iter_items}
 use Rattle.nv_lines.proofs.Parts.{row_moved, row_passed, length-gathered}
-use Rattle.nv_lines.proofs.gathering.move_rows.Goals as goal
+use Rattle.nv_lines.proofs.gathering.move_many.Goals as goal
 
 pub loop-line-preserved-then-not-inside : goal.loop-line-preserved-then-not-inside
 loop-line-preserved-then-not-inside c =
