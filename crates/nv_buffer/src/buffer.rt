@@ -1,5 +1,5 @@
 // A buffer.
-ghost use Rattle.std.specs.Prelude.{◌≡◌, ◌+◌, ◌-◌, ◌^◌, ◌<◌, ◌≤◌, ◌↔◌, ◌<ℤ◌, ◌+ℤ◌, pos, true, false, [], ◌∷◌, length, All, Some, slice_get, IsTrue, IsSome, IfSome, IfOk, OnOk, OnErr};
+ghost use Rattle.std.specs.Prelude.{◌≡◌, ◌+◌, ◌-◌, ◌^◌, ◌<◌, ◌≤◌, ◌↔◌, ◌<ℤ◌, ◌+ℤ◌, pos, true, false, [], ◌∷◌, length, All, Some, slice_get, IsTrue, IsSome, IfSome, IfOk, OnOk, OnErr, vec_len, vec_capacity};
 ghost use Rattle.std.specs.List.{join_with_byte};
 ghost use Rattle.nv_places.specs.Flat.{flat, IsLine};
 ghost use Rattle.nv_places.specs.Places.{offset_of, is_before, further, IsNarrow};
@@ -366,7 +366,7 @@ impl Buffer {
         let told = edit.share()?;
         let lines = edit.lines.share()?;
         let end = edit.first + lines.len() as u32;
-        self.unsealed.reserve(1)?;
+        make_room(&mut self.unsealed)?;
         let taken = self
             .text
             .replace(edit.first as usize, edit.last as usize, lines)?;
@@ -570,6 +570,17 @@ impl Buffer {
         self.modified = true;
         self.unsealed.clear();
     }
+}
+
+// Makes room for a step more. Most changes have one step, so the first makes room for one only.
+fn make_room(steps: &mut Vec<Step>) -> Result<(), AllocError>
+    ensures items { steps.new.items ≡ steps.old.items }
+    ensures room { OnOk result (vec_len steps.new + 1 ≤ vec_capacity steps.new) }
+{
+    if steps.is_empty() {
+        return steps.reserve_exact(1);
+    }
+    steps.reserve(1)
 }
 
 // Goes a leg in a tree.

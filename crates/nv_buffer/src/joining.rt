@@ -91,11 +91,11 @@ pub fn joined(
     requires back_line { IsLine back.now }
     ensures { IfOk result (λ list. list ≡ with_back (with_front front.now lines) back.now) }
 {
-    let mut lines = lines.into_vec();
-    if lines.len() == 1 {
-        lines[0] = line_between(alloc, front, lines[0].as_slice(), back)?;
-        return Ok(LineList::from_vec(lines));
+    if let [line] = lines.as_slice() {
+        let whole = line_between(alloc, front, line.as_slice(), back)?;
+        return Ok(LineList::one(alloc, whole));
     }
+    let mut lines = lines.into_vec()?;
     put_front(alloc, front, &mut lines)?;
     put_back(alloc, &mut lines, back)?;
     Ok(LineList::from_vec(lines))

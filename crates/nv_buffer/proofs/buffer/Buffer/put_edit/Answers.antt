@@ -1,8 +1,8 @@
-use Rattle.std.proofs.Common.{◌≡◌, ℕ, List, pos, ◌+◌, ◌+ℤ◌, length, ap, sym, subst, ◌∙◌, rules, to_z, of_z, w64}
+use Rattle.std.proofs.Common.{◌≡◌, ℕ, ℤ, List, pos, ◌+◌, ◌+ℤ◌, length, ap, sym, subst, ◌∙◌, rules, to_z, of_z, w64}
 use Rattle.std.specs.List.{splice}
 use Rattle.nv_buffer.specs.Splices.{IsBufferText}
 use Rattle.nv_buffer.specs.Changes.{Fits}
-use Rattle.nv_buffer.specs.Content.{Content}
+use Rattle.nv_buffer.specs.Content.{Content, event_at}
 use Rattle.nv_buffer.specs.Steps.{edits_ahead, tree_ahead}
 use Rattle.nv_buffer.specs.declared.edit.Step.{Step}
 use Rattle.nv_buffer.proofs.Keeping.{text_of_buffer}
@@ -49,7 +49,7 @@ invariant_of-self-2 c =
     } in
     let now = c.in_ok-taken.ensures.ok ∙ ap (λ (ls : List (List ℕ)). splice inside.text edit.first edit.last ls) c.in_ok-lines.ensures in
     let steps =
-    step_pushed inside.unsealed.items c.reserve.new.self.items c.push_reserved.new.self.items step c.in_ok-reserve.ensures.items
+    step_pushed inside.unsealed.items c.make_room.new.steps.items c.push_reserved.new.self.items step c.in_ok-make_room.ensures.items
     c.push_reserved.ensures.items in
     let tick : to_z w64 (of_z w64 (to_z w64 (of_z w64 inside.tick) +ℤ pos 1)) ≡ inside.tick +ℤ pos 1 = search rules in
     let made =
@@ -65,9 +65,18 @@ returns-clause-ok c =
     let step : Step = record { ahead = edit; end = edit.first + c.len.result; taken = c.in_ok-taken.taken } in
     let now = c.in_ok-taken.ensures.ok ∙ ap (λ (ls : List (List ℕ)). splice inside.text edit.first edit.last ls) c.in_ok-lines.ensures in
     let steps =
-    step_pushed inside.unsealed.items c.reserve.new.self.items c.push_reserved.new.self.items step c.in_ok-reserve.ensures.items
+    step_pushed inside.unsealed.items c.make_room.new.steps.items c.push_reserved.new.self.items step c.in_ok-make_room.ensures.items
     c.push_reserved.ensures.items in
     let tick : to_z w64 (of_z w64 (to_z w64 (of_z w64 inside.tick) +ℤ pos 1)) ≡ inside.tick +ℤ pos 1 = search rules in
     edited_is _ c.args.self.now edit c.replace.new.self (to_z w64 (of_z w64 (to_z w64 (of_z w64 inside.tick) +ℤ pos 1))) c.move_marks.new.marks
     (edits_ahead c.push_reserved.new.self.items) c.self.view_is now tick c.move_marks.ensures
     (edits_pushed c.push_reserved.new.self.items inside.unsealed.items step steps)
+
+pub returns-clause-told : goal.returns-clause-told
+returns-clause-told c =
+    let tick : ℤ = to_z w64 (of_z w64 (to_z w64 (of_z w64 (to_z w64 (of_z w64 c.self.inside.tick) +ℤ pos 1)))) in
+    let kept : tick ≡ c.self.inside.tick +ℤ pos 1 = search rules in
+    let told : event_at tick c.in_ok-told.told ≡ event_at tick c.args.edit = ap (event_at tick) c.in_ok-told.ensures in
+    let counted : event_at tick c.args.edit ≡ event_at (c.args.self.now.tick +ℤ pos 1) c.args.edit =
+    ap (λ (t : ℤ). event_at t c.args.edit) (kept ∙ ap (λ (b : Content). b.tick +ℤ pos 1) c.self.view_is) in
+    told ∙ counted
