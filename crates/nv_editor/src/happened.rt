@@ -65,6 +65,9 @@ impl Happened {
         ensures ok { OnOk result (self.new ≡ self.old ++ fact_of fact ∷ []) }
         ensures err { OnErr result (self.new ≡ self.old) }
     {
+        if self.facts.is_empty() {
+            self.facts.reserve_exact(1)?;
+        }
         self.facts.push(fact)?;
         Ok(())
     }
