@@ -1,15 +1,13 @@
 //! What a follower knows of its buffer.
-ghost use Rattle.std.specs.Prelude.{◌≡◌, ◌≤◌, length, is_some, unwrap_or, IfOk, OnOk, OnErr, option_and_then};
-ghost use Rattle.std.specs.List.{splice};
+ghost use Rattle.std.specs.Prelude.{◌≡◌, is_some, unwrap_or, IfOk, OnOk, OnErr, option_and_then};
 ghost use Rattle.nv_value.specs.View.{contents};
 ghost use Rattle.nv_subs.specs.Mirrors.{event_lines, mirror_after_lines, mirror_with_lines};
 ghost use Rattle.nv_subs.specs.inside.States.{mirror_at_tick, mirror_of_state};
 
 use crate::received::lines_of;
-use nv_lines::{Line, LineList};
+use nv_lines::LineList;
 use nv_value::Items;
 use std::alloc::AllocError;
-use std::mem;
 
 /// What a follower knows of its buffer: nothing, its changedtick alone, or its lines at a
 /// changedtick.
@@ -18,32 +16,6 @@ pub enum State {
     Absent,
     Ticking(i64),
     Holding(LineList, i64),
-}
-
-// Puts `new` in place of the rows from `from` up to before `to`.
-fn put_rows(rows: &mut Vec<Line>, from: usize, to: usize, new: Vec<Line>) -> Result<(), AllocError>
-    requires order { from ≤ to }
-    requires within { to ≤ length rows.old.items }
-    ensures ok { OnOk result (rows.new.items ≡ splice rows.old.items from to new.items) }
-    ensures err { OnErr result (rows.new.items ≡ rows.old.items) }
-{
-    rows.splice(from..to, new)?;
-    Ok(())
-}
-
-// The same in a list of lines.
-fn put_lines(lines: &mut LineList, from: usize, to: usize, new: LineList) -> Result<(), AllocError>
-    requires order { from ≤ to }
-    requires within { to ≤ length lines.old }
-    ensures ok { OnOk result (lines.new ≡ splice lines.old from to new) }
-    ensures err { OnErr result (lines.new ≡ lines.old) }
-{
-    let new = new.into_vec();
-    let empty = LineList::new(*new.allocator());
-    let mut rows = mem::replace(lines, empty).into_vec();
-    let done = put_rows(&mut rows, from, to, new);
-    *lines = LineList::from_vec(rows);
-    done
 }
 
 impl State {
@@ -91,7 +63,7 @@ impl State {
                 if last > lines.len() {
                     return Ok(false);
                 }
-                put_lines(lines, first, last, new)?;
+                lines.replace(first, last, new)?;
                 self.set_tick(tick);
                 Ok(true)
             }
