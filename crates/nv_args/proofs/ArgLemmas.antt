@@ -1,7 +1,6 @@
 -- What arguments give at a place.
 use Rattle.std.proofs.Common.{◌≡◌, ℕ, Bool, true, false, List, [], map, Option, refl, sym, ap, ◌∙◌}
-use Rattle.std.proofs.lemmas.Option.{unwrap_or-slice_get}
-use Rattle.std.specs.Prelude.{slice_get, slice_set, get_or, option_map, unwrap_or}
+use Rattle.std.specs.Prelude.{slice_get, option_map, unwrap_or}
 use Rattle.nv_value.specs.Content.{Tree, Trees, nil}
 use Rattle.nv_value.specs.View.{content}
 use Rattle.nv_args.specs.declared.args.Args.{Args}
@@ -10,16 +9,16 @@ use Rattle.nv_args.specs.Arguments.{truth_in, string_in, pairs_in}
 use Rattle.nv_args.specs.Table.{Kind}
 use Rattle.nv_args.specs.Kinds.{kind_of}
 use Rattle.nv_args.specs.Reading.{array_in, number_of, flag_of, string_of, values_of, pairs_of, object_of, number_at, flag_at, string_at, values_at, pairs_at, object_at}
-use Rattle.nv_args.specs.Args.{typed_arguments, SameElsewhere}
-use Rattle.nv_args.specs.inside.Held.{args_held, is_flag_kind, is_string_kind, is_list_kind, is_map_kind, is_any_kind}
-use Rattle.nv_args.proofs.HeldLemmas.{held_there, held-there, same-elsewhere, no-flag, no-string, no-list, no-map, no-any, the-flag, the-string, the-list, the-map, the-any}
+use Rattle.nv_args.specs.Args.{typed_arguments}
+use Rattle.nv_args.specs.inside.Held.{is_flag_kind, is_string_kind, is_list_kind, is_map_kind, is_any_kind}
+use Rattle.nv_args.proofs.HeldLemmas.{held_there, held-there, no-flag, no-string, no-list, no-map, no-any, the-flag, the-string, the-list, the-map, the-any}
 
 -- the kinds of the parameters, and the values
 abbrev pub kinds_in : Args → List Kind
 kinds_in args = map kind_of args.kinds.now
 
 abbrev pub values_in : Args → List Tree
-values_in args = map content args.values.items
+values_in args = map content args.values.now
 
 -- the argument at a place, by the kind and the value there
 pub there : (args : Args) (place : ℕ) (o : Option Kind) (t : Option Tree)
@@ -71,14 +70,6 @@ string-there args place k b t kind test holds value =
     sym (the-string (option_map kind_of k) t (sym test ∙ holds))
     ∙ ap string_of (there args place (option_map kind_of k) t kind value)
 
-pub string-taken : (args : Args) (place : ℕ) (k : Option TypeKind) (b : Bool) (t : Tree)
-    → option_map kind_of k ≡ slice_get (kinds_in args) place
-    → b ≡ is_string_kind (option_map kind_of k) → b ≡ true → t ≡ get_or (values_in args) place nil
-    → unwrap_or (string_in t) [] ≡ string_at (typed_arguments args) place
-string-taken args place k b t kind test holds value =
-    ap (λ (u : Tree). unwrap_or (string_in u) []) (value ∙ sym (unwrap_or-slice_get (values_in args) place nil))
-    ∙ string-there args place k b (slice_get (values_in args) place) kind test holds refl
-
 -- what isn't of the kind
 pub list-absent : (args : Args) (place : ℕ) (k : Option TypeKind) (b : Bool)
     → option_map kind_of k ≡ slice_get (kinds_in args) place
@@ -95,14 +86,6 @@ pub list-there : (args : Args) (place : ℕ) (k : Option TypeKind) (b : Bool) (t
 list-there args place k b t kind test holds value =
     sym (the-list (option_map kind_of k) t (sym test ∙ holds))
     ∙ ap values_of (there args place (option_map kind_of k) t kind value)
-
-pub list-taken : (args : Args) (place : ℕ) (k : Option TypeKind) (b : Bool) (t : Tree)
-    → option_map kind_of k ≡ slice_get (kinds_in args) place
-    → b ≡ is_list_kind (option_map kind_of k) → b ≡ true → t ≡ get_or (values_in args) place nil
-    → unwrap_or (array_in t) Trees.no_more ≡ values_at (typed_arguments args) place
-list-taken args place k b t kind test holds value =
-    ap (λ (u : Tree). unwrap_or (array_in u) Trees.no_more) (value ∙ sym (unwrap_or-slice_get (values_in args) place nil))
-    ∙ list-there args place k b (slice_get (values_in args) place) kind test holds refl
 
 -- what isn't of the kind
 pub map-absent : (args : Args) (place : ℕ) (k : Option TypeKind) (b : Bool)
@@ -121,14 +104,6 @@ map-there args place k b t kind test holds value =
     sym (the-map (option_map kind_of k) t (sym test ∙ holds))
     ∙ ap pairs_of (there args place (option_map kind_of k) t kind value)
 
-pub map-taken : (args : Args) (place : ℕ) (k : Option TypeKind) (b : Bool) (t : Tree)
-    → option_map kind_of k ≡ slice_get (kinds_in args) place
-    → b ≡ is_map_kind (option_map kind_of k) → b ≡ true → t ≡ get_or (values_in args) place nil
-    → unwrap_or (pairs_in t) [] ≡ pairs_at (typed_arguments args) place
-map-taken args place k b t kind test holds value =
-    ap (λ (u : Tree). unwrap_or (pairs_in u) []) (value ∙ sym (unwrap_or-slice_get (values_in args) place nil))
-    ∙ map-there args place k b (slice_get (values_in args) place) kind test holds refl
-
 -- what isn't of the kind
 pub any-absent : (args : Args) (place : ℕ) (k : Option TypeKind) (b : Bool)
     → option_map kind_of k ≡ slice_get (kinds_in args) place
@@ -145,20 +120,3 @@ pub any-there : (args : Args) (place : ℕ) (k : Option TypeKind) (b : Bool) (t 
 any-there args place k b t kind test holds value =
     sym (the-any (option_map kind_of k) t (sym test ∙ holds))
     ∙ ap object_of (there args place (option_map kind_of k) t kind value)
-
-pub any-taken : (args : Args) (place : ℕ) (k : Option TypeKind) (b : Bool) (t : Tree)
-    → option_map kind_of k ≡ slice_get (kinds_in args) place
-    → b ≡ is_any_kind (option_map kind_of k) → b ≡ true → t ≡ get_or (values_in args) place nil
-    → t ≡ object_at (typed_arguments args) place
-any-taken args place k b t kind test holds value =
-    ap (λ (u : Tree). u) (value ∙ sym (unwrap_or-slice_get (values_in args) place nil))
-    ∙ any-there args place k b (slice_get (values_in args) place) kind test holds refl
-
--- what stays where a value was taken out
-pub same-after : (args after : Args) (place : ℕ) → kinds_in after ≡ kinds_in args
-    → values_in after ≡ slice_set (values_in args) place nil
-    → SameElsewhere place (typed_arguments args) (typed_arguments after)
-unfolding typed_arguments
-same-after args after place kinds values other apart =
-    ap (λ (ks : List Kind). slice_get (args_held ks (values_in after)) other) kinds
-    ∙ same-elsewhere (kinds_in args) (values_in args) (values_in after) place nil values other apart

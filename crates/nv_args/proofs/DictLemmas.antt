@@ -20,11 +20,11 @@ use Rattle.nv_value.specs.declared.value.Pair.{Pair}
 use Rattle.nv_value.specs.declared.fault.ApiFault.{ApiFault}
 use Rattle.nv_args.specs.Arguments.{string_in, is_same, last_pairs}
 use Rattle.nv_args.specs.Faults.{invalid_key, invalid_value}
-use Rattle.nv_args.specs.Maps.{Key, is_name, has_name, value_of, known_key, takes_value, unknown_key, wrong_value, or_else}
-use Rattle.nv_args.specs.Naming.{bad_name_fault, is_one_of, names_group, wrong_value_of}
+use Rattle.nv_args.specs.Maps.{Key, is_name, has_name, value_of, known_key, takes_value, unknown_key, wrong_value, missing_key, map_fault, or_else}
+use Rattle.nv_args.specs.Naming.{bad_name_fault, is_one_of, names_group, wrong_value_of, naming_fault}
 use Rattle.nv_args.specs.Rules.{key_of}
 use Rattle.nv_args.specs.declared.rules.Rule.{Rule}
-use Rattle.nv_args.specs.inside.Looking.{key_name, is_known, are_known, is_key_among, fault_after, misnames, pair_fault, fault_that_counts}
+use Rattle.nv_args.specs.inside.Looking.{key_name, is_known, are_known, is_faultless, are_faultless, is_key_among, fault_after, misnames, pair_fault, fault_that_counts}
 
 -- the second where the first has none
 abbrev pub or_value : Option Tree → Option Tree → Option Tree
@@ -243,6 +243,39 @@ none-unknown keys [] e = refl
 none-unknown keys (p ∷ ps) e =
     let parts = and_parts (is_known keys p) (are_known keys ps) e in
     unknown-known keys p ps parts.0 ∙ none-unknown keys ps parts.1
+
+-- where no pair has a fault, no key is unknown and no value wrong
+pair-faultless : (a b : Bool) (x y : ApiFault) → (not b && a) ≡ true → cond (not a) (Some x) (cond b (Some y) None) ≡ None
+pair-faultless true true x y e = cc
+pair-faultless true false x y e = refl
+pair-faultless false true x y e = cc
+pair-faultless false false x y e = cc
+
+pub none-faulty : (naming : List (List ℕ)) (keys : List Key) (ps : List (Tree × Tree)) → are_faultless naming keys ps ≡ true
+    → (unknown_key keys (last_pairs ps) ≡ None) × (wrong_value_of naming keys (last_pairs ps) ≡ None)
+none-faulty naming keys [] e = (refl, refl)
+none-faulty naming keys (p ∷ ps) e =
+    let parts = and_parts (is_faultless naming keys p) (are_faultless naming keys ps) e in
+    let own = and_parts (is_known keys p) _ parts.0 in
+    let rest = none-faulty naming keys ps parts.1 in (
+      unknown-known keys p ps own.0 ∙ rest.0,
+      wrong-on naming keys p ps (pair-faultless (takes_value (known_key keys (string_in p.0)) p.1) (misnames naming p) _ _ own.1) ∙ rest.1,
+    )
+
+-- so only a missing key is a fault
+pub none-but-missing : (naming : List (List ℕ)) (keys : List Key) (ps : List (Tree × Tree)) (b : Bool)
+    → b ≡ are_faultless naming keys ps → b ≡ true
+    → missing_key keys (last_pairs ps) ≡ naming_fault naming keys (last_pairs ps)
+none-but-missing naming keys ps b is holds =
+    let none = none-faulty naming keys ps (sym is ∙ holds) in
+    let missing = missing_key keys (last_pairs ps) in
+    sym (ap (λ (o : Option ApiFault). or_else o (or_else (wrong_value_of naming keys (last_pairs ps)) missing)) none.0
+    ∙ ap (λ (o : Option ApiFault). or_else o missing) none.1)
+
+-- also where no key names a group
+pub naming-none : (keys : List Key) (ps : List (Tree × Tree)) → naming_fault [] keys ps ≡ map_fault keys ps
+naming-none keys ps =
+    ap (λ (o : Option ApiFault). or_else (unknown_key keys ps) (or_else o (missing_key keys ps))) (none-naming keys ps)
 
 or-same : (a b : Bool) → a || (a || b) ≡ a || b
 or-same true b = refl

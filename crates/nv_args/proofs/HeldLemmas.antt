@@ -1,6 +1,6 @@
 -- Arguments as the values that were looked through.
-use Rattle.std.proofs.Common.{◌≡◌, ◌≢◌, ℕ, zero, suc, ◌+◌, pos, Bool, true, false, cond, List, [], ◌∷◌, length, map, Option, Some, None, Result, Ok, Err, refl, sym, ap, ◌∙◌, arith}
-use Rattle.std.specs.Prelude.{slice_get, slice_set, is_some, option_map, option_and_then, unwrap_or}
+use Rattle.std.proofs.Common.{◌≡◌, ℕ, zero, suc, ◌+◌, pos, Bool, true, false, cond, List, [], ◌∷◌, length, map, Option, Some, None, Result, Ok, Err, refl, ap, ◌∙◌, arith}
+use Rattle.std.specs.Prelude.{slice_get, is_some, option_map, option_and_then, unwrap_or}
 use Rattle.nv_value.specs.Content.{Tree, Trees, nil}
 use Rattle.nv_value.specs.declared.fault.ApiFault.{ApiFault}
 use Rattle.nv_args.specs.Arguments.{tree_list, truth_in, string_in, pairs_in, require, answer_after}
@@ -9,7 +9,6 @@ use Rattle.nv_args.specs.Table.{Kind, Parameter, type_name}
 use Rattle.std.specs.List.{list_all}
 use Rattle.nv_msgpack.specs.Handle.{handle_in, integer_of}
 use Rattle.nv_args.specs.Reading.{Arg, list_arg, any_arg, array_in, values_passing, is_mark_place, are_two_integers, is_call, arg_of, read_from, flag_of, string_of, values_of, pairs_of, object_of}
-use Rattle.nv_args.specs.Args.{SameElsewhere}
 use Rattle.nv_args.specs.inside.Held.{arg_held, args_held, first_wrong, is_flag_kind, is_string_kind, is_list_kind, is_map_kind, is_any_kind}
 
 -- what is found of some, by a default
@@ -287,26 +286,6 @@ the-any (Some Kind.cursor) t e = cc
 the-any (Some Kind.call_list) t e = cc
 the-any (Some Kind.mark_place) None e = refl
 the-any (Some Kind.mark_place) (Some t) e = refl
-
--- the values once one was taken out
-slice_get-set : (given : List Tree) (place other : ℕ) (t : Tree) → other ≢ place
-    → slice_get (slice_set given place t) other ≡ slice_get given other
-slice_get-set [] place other t apart = refl
-slice_get-set (first ∷ given) zero zero t apart = absurd (apart refl)
-slice_get-set (first ∷ given) zero (suc other) t apart = refl
-slice_get-set (first ∷ given) (suc place) zero t apart = refl
-slice_get-set (first ∷ given) (suc place) (suc other) t apart =
-    slice_get-set given place other t (λ e. apart (ap (λ n. suc n) e))
-
--- the other arguments are the same
-pub same-elsewhere : (kinds : List Kind) (given after : List Tree) (place : ℕ) (t : Tree)
-    → after ≡ slice_set given place t
-    → SameElsewhere place (args_held kinds given) (args_held kinds after)
-same-elsewhere kinds given after place t e other apart =
-    held-there kinds after other
-    ∙ ap (λ (ts : List Tree). held_there (slice_get kinds other) (slice_get ts other)) e
-    ∙ ap (held_there (slice_get kinds other)) (slice_get-set given place other t apart)
-    ∙ sym (held-there kinds given other)
 
 -- where all values are of their kinds, they are read as they are held
 pub read-all : (n : ℕ) (name : List ℕ) (parameters : List Parameter) (given : List Tree)

@@ -1,12 +1,13 @@
 -- Values by the kinds of parameters.
-use Rattle.std.proofs.Common.{◌≡◌, ℕ, zero, suc, ◌+◌, ◌<◌, Bool, true, false, cond, List, [], ◌∷◌, length, map, drop, Option, Some, None, refl, sym, ap, ◌∙◌, arith}
+use Rattle.std.proofs.Common.{◌≡◌, ℕ, zero, suc, ◌+◌, ◌<◌, Bool, true, false, ◌&&◌, cond, List, [], ◌∷◌, length, map, drop, Option, Some, None, refl, sym, ap, ◌∙◌, arith}
 use Rattle.std.proofs.lemmas.Bool.Decides.{nat_tests}
-use Rattle.std.specs.Prelude.{◌==◌, get_or, slice_get, is_some, option_map, option_and_then}
+use Rattle.std.specs.Prelude.{◌==◌, get_or, slice_get, is_some, option_map, option_and_then, unwrap_or}
+use Rattle.std.specs.List.{list_all}
 use Rattle.nv_value.specs.Content.{Tree, Trees, list}
 use Rattle.nv_value.specs.View.{content, contents}
 use Rattle.nv_value.specs.declared.value.Value.{Value}
 use Rattle.nv_args.specs.declared.kinds.Kind.{Kind as TypeKind}
-use Rattle.nv_args.specs.Arguments.{tree_list, pairs_in}
+use Rattle.nv_args.specs.Arguments.{tree_list, string_in, strings_in, with_string, pairs_in}
 use Rattle.nv_args.specs.Kinds.{kind_of}
 use Rattle.nv_args.specs.Reading.{list_arg, array_in, values_passing, arg_of}
 use Rattle.nv_args.specs.inside.Held.{first_wrong}
@@ -37,6 +38,38 @@ list-passing test t values b is e =
     ∙ ap test (sym (tree_list-contents values))
     ∙ some-list (test (tree_list (contents values))) (contents values)
     ∙ ap (λ (u : Tree). is_some (option_map list_arg (option_and_then (values_passing test) (array_in u)))) (sym is)
+
+-- strings, where all values are
+with-all : (s : Option (List ℕ)) (b : Bool) (o : Option (List (List ℕ)))
+    → (b ≡ true → o ≡ Some (unwrap_or o [])) → (is_some s && b) ≡ true
+    → with_string s o ≡ Some (unwrap_or (with_string s o) [])
+with-all None b o rest e = cc
+with-all (Some s) false o rest e = cc
+with-all (Some s) true (Some strings) rest e = refl
+with-all (Some s) true None rest e = let no : None ≡ Some [] = rest refl in cc
+
+pub all-strings : (values : List Value) (b : Bool)
+    → b ≡ list_all (λ t. is_some (string_in t)) (map content values) → b ≡ true
+    → strings_in (contents values) ≡ Some (unwrap_or (strings_in (contents values)) [])
+all-strings [] b is holds = refl
+all-strings (v ∷ values) b is holds =
+    with-all (string_in (content v)) (list_all (λ t. is_some (string_in t)) (map content values)) (strings_in (contents values))
+    (λ e. all-strings values _ refl e) (sym is ∙ holds)
+
+-- and none, where one isn't
+with-none : (s : Option (List ℕ)) (b : Bool) (o : Option (List (List ℕ)))
+    → (b ≡ false → o ≡ None) → (is_some s && b) ≡ false → with_string s o ≡ None
+with-none None b o rest e = refl
+with-none (Some s) false o rest e = ap (with_string (Some s)) (rest refl)
+with-none (Some s) true o rest e = cc
+
+pub not-all-strings : (values : List Value) (b : Bool)
+    → b ≡ list_all (λ t. is_some (string_in t)) (map content values) → b ≡ false
+    → strings_in (contents values) ≡ None
+not-all-strings [] b is fails = cc
+not-all-strings (v ∷ values) b is fails =
+    with-none (string_in (content v)) (list_all (λ t. is_some (string_in t)) (map content values)) (strings_in (contents values))
+    (λ e. not-all-strings values _ refl e) (sym is ∙ fails)
 
 -- the kind at a place
 pub kind-there : (kinds : List TypeKind) (place : ℕ) (d : TypeKind) → place < length kinds

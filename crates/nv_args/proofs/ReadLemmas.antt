@@ -64,13 +64,13 @@ read-refused m kinds given place n d name told are many found within number name
 -- and where all are, they are the arguments
 pub read-accepted : (m : Method) (args : Args)
     → map kind_of args.kinds.now ≡ map (λ p. p.kind) (signature_of m).parameters
-    → length (map content args.values.items) ≡ length args.kinds.now
-    → None ≡ first_wrong (map kind_of args.kinds.now) (map content args.values.items)
-    → read (signature_of m) (map content args.values.items) ≡ Ok (typed_arguments args)
+    → length (map content args.values.now) ≡ length args.kinds.now
+    → None ≡ first_wrong (map kind_of args.kinds.now) (map content args.values.now)
+    → read (signature_of m) (map content args.values.now) ≡ Ok (typed_arguments args)
 unfolding typed_arguments
 read-accepted m args are many found =
     let f : Parameter → Kind = λ p. p.kind in
-    let given = map content args.values.items in
+    let given = map content args.values.now in
     let wrong : first_wrong (map f (signature_of m).parameters) given ≡ None =
     ap (λ (ks : List Kind). first_wrong ks given) (sym are) ∙ sym found in
     let count = as-many m args.kinds.now given are many in

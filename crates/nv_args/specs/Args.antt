@@ -1,5 +1,5 @@
 -- The arguments of a call as the code has them.
-use Rattle.std.specs.Prelude.{◌≡◌, ◌≢◌, ℕ, List, map, slice_get}
+use Rattle.std.specs.Prelude.{List, map}
 use Rattle.nv_value.specs.View.{content}
 use Rattle.nv_args.specs.declared.args.Args.{Args}
 use Rattle.nv_args.specs.Kinds.{kind_of}
@@ -8,9 +8,4 @@ use Rattle.nv_args.specs.inside.Held.{args_held}
 
 -- the typed arguments that values are, which were looked through
 unfoldable pub typed_arguments : Args → List Arg
-typed_arguments args = args_held (map kind_of args.kinds.now) (map content args.values.items)
-
--- the arguments at all other places are the same
-abbrev pub SameElsewhere : ℕ → List Arg → List Arg → Type 0
-SameElsewhere place before after =
-    (other : ℕ) → other ≢ place → slice_get after other ≡ slice_get before other
+typed_arguments args = args_held (map kind_of args.kinds.now) (map content args.values.now)

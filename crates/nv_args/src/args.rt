@@ -1,41 +1,40 @@
 //! The arguments of a call, each of the kind that its method's parameter takes.
-ghost use Rattle.std.specs.Prelude.{◌≡◌, false, [], length, map, slice_get, slice_set, get_or, Some, option_map, unwrap_or, IfOk, IfSome, ◌<◌};
+ghost use Rattle.std.specs.Prelude.{◌≡◌, false, [], length, map, slice_get, Some, option_map, unwrap_or, IfOk, IfSome, ◌<◌};
 ghost use Rattle.nv_value.specs.Content.{Trees, nil};
 ghost use Rattle.nv_value.specs.View.{content, contents, pair_content};
 ghost use Rattle.nv_args.specs.Arguments.{truth_in, string_in, strings_in, pairs_in};
 ghost use Rattle.nv_args.specs.Methods.{signature_of};
 ghost use Rattle.nv_args.specs.Kinds.{kind_of};
-ghost use Rattle.nv_args.specs.Reading.{read, array_in, number_of, number_at, flag_at, string_at, values_at, pairs_at, object_at, lines_at, name_of_call, arguments_of_call};
+ghost use Rattle.nv_args.specs.Reading.{read, array_in, number_of, number_at, flag_at, string_at, values_at, pairs_at, object_at, lines_at, first_string, second_values, name_of_call, arguments_of_call};
 ghost use Rattle.nv_args.specs.Refusals.{Meets};
-ghost use Rattle.nv_args.specs.Args.{typed_arguments, SameElsewhere};
+ghost use Rattle.nv_args.specs.Args.{typed_arguments};
 ghost use Rattle.nv_args.specs.inside.Held.{arg_held, first_wrong, is_flag_kind, is_string_kind, is_list_kind, is_map_kind, is_any_kind};
 
 use crate::faults::{Fail, wrong_count, wrong_type};
-use crate::kinds::{BUFFER, Kind, TABPAGE, WINDOW, handle_number};
+use crate::kinds::{BUFFER, Kind, TABPAGE, WINDOW, are_strings, handle_number};
 use crate::methods::Method;
 use crate::reading::integer_of;
-use nv_value::{Bytes, Fields, Items, Pair, Value};
+use nv_value::{Bytes, Pair, Value};
 use std::alloc::{AllocError, Global};
-use std::mem;
 
 /// The arguments of a call, one for each parameter of its method. They are the values of the call
-/// themselves, looked through once; what owns memory is moved out of them.
-#[derive(Drop)]
-pub struct Args {
+/// themselves, lent, and looked through once.
+#[derive(Clone, Copy)]
+pub struct Args<'a> {
     kinds: &'static [Kind],
-    values: Items,
+    values: &'a [Value],
 }
 
 /// The arguments of a call of a method. Their number is looked at first, and then their types, the
 /// first argument first. A call without a fault takes no memory.
-pub fn read(alloc: Global, method: Method, params: Items) -> Result<Args, Fail>
-    ensures { Meets typed_arguments result (read (signature_of method) (map content params.items)) }
+pub fn read(alloc: Global, method: Method, params: &[Value]) -> Result<Args<'_>, Fail>
+    ensures { Meets typed_arguments result (read (signature_of method) (map content params.now)) }
 {
     let kinds = method.kinds();
     if params.len() != kinds.len() {
         return Err(wrong_count(alloc, kinds.len(), params.len()));
     }
-    match first_wrong(kinds, params.as_slice()) {
+    match first_wrong(kinds, params) {
         Some(place) => {
             let number = place as u8 + 1;
             Err(wrong_type(alloc, number, method.name(), kinds[place].type_name()))
@@ -61,7 +60,7 @@ fn first_wrong(kinds: &[Kind], values: &[Value]) -> Option<usize>
     None
 }
 
-impl Args {
+impl<'a> Args<'a> {
     // The kind of the parameter at a place.
     fn kind(&self, place: usize) -> Option<Kind>
         ensures { option_map kind_of result ≡ slice_get (map kind_of self.now.kinds.now) place }
@@ -73,9 +72,9 @@ impl Args {
     }
 
     // The value at a place.
-    fn value(&self, place: usize) -> Option<&Value>
+    fn value(&self, place: usize) -> Option<&'a Value>
         ensures { option_map (λ v. content v.now) result
-            ≡ slice_get (map content self.now.values.items) place }
+            ≡ slice_get (map content self.now.values.now) place }
     {
         self.values.get(place)
     }
@@ -104,7 +103,7 @@ impl Args {
     }
 
     /// The String at a place, from 0, lent. Empty where the argument is none.
-    pub fn string(&self, place: usize) -> &[u8]
+    pub fn string(&self, place: usize) -> &'a [u8]
         ensures { result.now ≡ string_at (typed_arguments self.now) place }
     {
         if !is_string_kind(self.kind(place)) {
@@ -117,7 +116,7 @@ impl Args {
     }
 
     /// The values of the Array at a place, from 0, lent; none where the argument is no Array.
-    pub fn values(&self, place: usize) -> &[Value]
+    pub fn values(&self, place: usize) -> &'a [Value]
         ensures { contents result.now ≡ values_at (typed_arguments self.now) place }
     {
         if !is_list_kind(self.kind(place)) {
@@ -130,7 +129,7 @@ impl Args {
     }
 
     /// The pairs of the Dict at a place, from 0, lent; none where the argument is no Dict.
-    pub fn pairs(&self, place: usize) -> &[Pair]
+    pub fn pairs(&self, place: usize) -> &'a [Pair]
         ensures { map pair_content result.now ≡ pairs_at (typed_arguments self.now) place }
     {
         if !is_map_kind(self.kind(place)) {
@@ -143,7 +142,7 @@ impl Args {
     }
 
     /// The Object at a place, from 0, lent. A nil may be absent.
-    pub fn object(&self, place: usize) -> Option<&Value>
+    pub fn object(&self, place: usize) -> Option<&'a Value>
         ensures { unwrap_or (option_map (λ v. content v.now) result) nil
             ≡ object_at (typed_arguments self.now) place }
     {
@@ -154,80 +153,28 @@ impl Args {
         }
     }
 
-    /// Moves the String at a place, from 0, out. Where the argument is none, the empty one is made.
-    pub fn take_string(&mut self, place: usize) -> Result<Bytes, AllocError>
-        ensures string { IfOk result (λ string. string
-            ≡ string_at (typed_arguments self.old) place) }
-        ensures rest { SameElsewhere place (typed_arguments self.old) (typed_arguments self.new) }
+    /// The String at a place, from 0, shared. Empty where the argument is none.
+    pub fn bytes(&self, alloc: Global, place: usize) -> Result<Bytes, AllocError>
+        ensures { IfOk result (λ string. string ≡ string_at (typed_arguments self.now) place) }
     {
-        let alloc = *self.values.allocator();
-        if is_string_kind(self.kind(place)) {
-            string_of(alloc, take(&mut self.values, place))
-        } else {
-            Bytes::new(alloc)
+        if !is_string_kind(self.kind(place)) {
+            return Bytes::new(alloc);
+        }
+        match self.value(place) {
+            Some(value) => bytes_of(alloc, value),
+            None => Bytes::new(alloc),
         }
     }
 
-    /// Moves the lines of an Array of Strings at a place, from 0, out. None where it is no such
-    /// Array.
-    pub fn take_lines(&mut self, place: usize) -> Result<Vec<Bytes>, AllocError>
-        ensures lines { IfOk result (λ lines. lines.items
-            ≡ lines_at (typed_arguments self.old) place) }
-        ensures rest { SameElsewhere place (typed_arguments self.old) (typed_arguments self.new) }
+    /// The lines of the Array of Strings at a place, from 0: its values, lent. None where it is no
+    /// such Array.
+    pub fn lines(&self, place: usize) -> &'a [Value]
+        ensures { strings_in (contents result.now)
+            ≡ Some (lines_at (typed_arguments self.now) place) }
     {
-        let items = self.take_values(place);
-        strings_of(items)
+        let values = self.values(place);
+        if are_strings(values) { values } else { &[] }
     }
-
-    /// Moves the values of the Array at a place, from 0, out. None where the argument is no Array.
-    pub fn take_values(&mut self, place: usize) -> Items
-        ensures values { contents result.items ≡ values_at (typed_arguments self.old) place }
-        ensures rest { SameElsewhere place (typed_arguments self.old) (typed_arguments self.new) }
-    {
-        let alloc = *self.values.allocator();
-        if is_list_kind(self.kind(place)) {
-            items_of(alloc, take(&mut self.values, place))
-        } else {
-            Vec::new(alloc)
-        }
-    }
-
-    /// Moves the pairs of the Dict at a place, from 0, out. None where the argument is no Dict.
-    pub fn take_pairs(&mut self, place: usize) -> Fields
-        ensures pairs { map pair_content result.items ≡ pairs_at (typed_arguments self.old) place }
-        ensures rest { SameElsewhere place (typed_arguments self.old) (typed_arguments self.new) }
-    {
-        let alloc = *self.values.allocator();
-        if is_map_kind(self.kind(place)) {
-            fields_of(alloc, take(&mut self.values, place))
-        } else {
-            Vec::new(alloc)
-        }
-    }
-
-    /// Moves the Object at a place, from 0, out. Nil where the argument is none.
-    pub fn take_object(&mut self, place: usize) -> Value
-        ensures object { content result ≡ object_at (typed_arguments self.old) place }
-        ensures rest { SameElsewhere place (typed_arguments self.old) (typed_arguments self.new) }
-    {
-        if is_any_kind(self.kind(place)) {
-            take(&mut self.values, place)
-        } else {
-            Value::Nil
-        }
-    }
-}
-
-// The value at a place, with nil left there.
-fn take(values: &mut Items, place: usize) -> Value
-    ensures value { content result ≡ get_or (map content values.old.items) place nil }
-    ensures rest { map content values.new.items
-        ≡ slice_set (map content values.old.items) place nil }
-{
-    if place >= values.len() {
-        return Value::Nil;
-    }
-    mem::replace(&mut values[place], Value::Nil)
 }
 
 // The number of a value as an argument of a kind.
@@ -281,76 +228,54 @@ fn pairs_in(value: &Value) -> &[Pair]
     }
 }
 
-fn text_of(value: Value) -> Option<Bytes>
-    ensures { result ≡ string_in (content value) }
+/// The bytes of a String, shared. Empty where the value is none.
+pub fn bytes_of(alloc: Global, value: &Value) -> Result<Bytes, AllocError>
+    ensures { IfOk result (λ string. string ≡ unwrap_or (string_in (content value.now)) []) }
 {
     match value {
-        Value::Text(bytes) | Value::Bin(bytes) => Some(bytes),
-        _ => None,
+        Value::Text(bytes) | Value::Bin(bytes) => bytes.share(),
+        _ => Bytes::new(alloc),
     }
 }
 
-fn string_of(alloc: Global, value: Value) -> Result<Bytes, AllocError>
-    ensures { IfOk result (λ string. string ≡ unwrap_or (string_in (content value)) []) }
+/// A call among those of `nvim_call_atomic()`, lent.
+#[derive(Clone, Copy)]
+pub struct NamedCall<'a> {
+    pub name: &'a [u8],
+    pub params: &'a [Value],
+}
+
+/// The name and the arguments of a call as a value. A value of another form has the empty name, or
+/// no arguments.
+pub fn call_in(value: &Value) -> NamedCall<'_>
+    ensures name { result.name.now ≡ name_of_call (content value.now) }
+    ensures params { map content result.params.now ≡ arguments_of_call (content value.now) }
 {
-    match text_of(value) {
-        Some(bytes) => Ok(bytes),
-        None => Bytes::new(alloc),
+    let parts = items_in(value);
+    NamedCall {
+        name: first_string(parts),
+        params: second_values(parts),
     }
 }
 
-fn items_of(alloc: Global, value: Value) -> Items
-    ensures { contents result.items ≡ unwrap_or (array_in (content value)) Trees.no_more }
+// The string that a list begins with.
+fn first_string(parts: &[Value]) -> &[u8]
+    ensures { result.now ≡ first_string (map content parts.now) }
 {
-    match value {
-        Value::List(items) => items,
-        _ => Vec::new(alloc),
+    match parts {
+        [name, ..] => string_in(name),
+        [] => &[],
     }
 }
 
-fn fields_of(alloc: Global, value: Value) -> Fields
-    ensures { map pair_content result.items ≡ unwrap_or (pairs_in (content value)) [] }
+// The values of the list that stands second in a list.
+fn second_values(parts: &[Value]) -> &[Value]
+    ensures { map content result.now ≡ second_values (map content parts.now) }
 {
-    match value {
-        Value::Pairs(fields) => fields,
-        _ => Vec::new(alloc),
+    match parts {
+        [_, params, ..] => items_in(params),
+        _ => &[],
     }
-}
-
-/// A call among those of `nvim_call_atomic()`.
-#[derive(Drop)]
-pub struct NamedCall {
-    pub name: Bytes,
-    pub params: Items,
-}
-
-/// The name and the arguments of a call as a value, moved out of it. A value of another form has
-/// the empty name, or no arguments.
-pub fn call_in(alloc: Global, value: Value) -> Result<NamedCall, AllocError>
-    ensures name { IfOk result (λ call. call.name ≡ name_of_call (content value)) }
-    ensures params { IfOk result (λ call. map content call.params.items
-        ≡ arguments_of_call (content value)) }
-{
-    let mut parts = items_of(alloc, value);
-    let name = string_of(alloc, take(&mut parts, 0))?;
-    let params = items_of(alloc, take(&mut parts, 1));
-    Ok(NamedCall { name, params })
-}
-
-// The strings of a list, and none where one of its values isn't a string.
-fn strings_of(items: Items) -> Result<Vec<Bytes>, AllocError>
-    ensures { IfOk result (λ lines. lines.items ≡ unwrap_or
-        (strings_in (contents items.items)) []) }
-{
-    let alloc = *items.allocator();
-    let mut strings = Vec::with_capacity(alloc, items.len())?;
-    for item in items {
-        let Some(string) = text_of(item) else {
-            return Ok(Vec::new(alloc));
-        };
-        strings.push(string)?;
-    }
-    Ok(strings)
 }
 
 fn is_flag_kind(kind: Option<Kind>) -> bool

@@ -8,7 +8,7 @@ ghost use Rattle.nv_args.specs.Maps.{has_name, value_of, unknown_key, wrong_valu
 ghost use Rattle.nv_args.specs.Naming.{is_group_name, is_one_of, names_group, wrong_value_of, naming_fault};
 ghost use Rattle.nv_args.specs.Refusals.{Finds, Refuses};
 ghost use Rattle.nv_args.specs.Rules.{key_of};
-ghost use Rattle.nv_args.specs.inside.Looking.{are_known, is_known, stands_in, is_key_among, stands_among, fault_after, misnames, pair_fault, fault_that_counts};
+ghost use Rattle.nv_args.specs.inside.Looking.{are_faultless, are_known, is_faultless, is_known, stands_in, is_key_among, stands_among, fault_after, misnames, pair_fault, fault_that_counts};
 
 use crate::faults::{self, Fail};
 use crate::reading::name_in;
@@ -329,11 +329,38 @@ fn first_missing(rules: &[Rule], pairs: &[Pair]) -> Option<&'static str>
     None
 }
 
-/// Refuses a Dict: its first unknown key, or its first wrong value, or the first missing key.
+// Whether each pair's key is known and takes its value.
+fn are_faultless(naming: &[&str], rules: &[Rule], pairs: &[Pair]) -> bool
+    ensures { result ≡ are_faultless (map (λ name. name.now) naming.now) (map key_of rules.now)
+        (map pair_content pairs.now) }
+{
+    for pair in pairs {
+        if !is_faultless(naming, rules, pair) {
+            return false;
+        }
+    }
+    true
+}
+
+fn is_faultless(naming: &[&str], rules: &[Rule], pair: &Pair) -> bool
+    ensures { result ≡ is_faultless (map (λ name. name.now) naming.now) (map key_of rules.now)
+        (pair_content pair.now) }
+{
+    match rule_of(rules, &pair.key) {
+        Some(rule) => !misnames(naming, pair) && rule.takes.takes(&pair.value),
+        None => false,
+    }
+}
+
+/// Refuses a Dict: its first unknown key, or its first wrong value, or the first missing key. A
+/// Dict without a fault is gone through once.
 pub fn map_fault(alloc: Global, rules: &[Rule], pairs: &[Pair]) -> Result<(), Fail>
     ensures { Finds result (map_fault (map key_of rules.now)
         (last_pairs (map pair_content pairs.now))) }
 {
+    if are_faultless(&[], rules, pairs) {
+        return missing_key(alloc, rules, pairs);
+    }
     unknown_key(alloc, rules, pairs)?;
     wrong_value(alloc, rules, pairs)?;
     missing_key(alloc, rules, pairs)
@@ -349,6 +376,9 @@ pub fn naming_fault(
     ensures { Finds result (naming_fault (map (λ name. name.now) naming.now)
         (map key_of rules.now) (last_pairs (map pair_content pairs.now))) }
 {
+    if are_faultless(naming, rules, pairs) {
+        return missing_key(alloc, rules, pairs);
+    }
     unknown_key(alloc, rules, pairs)?;
     wrong_value_of(alloc, naming, rules, pairs)?;
     missing_key(alloc, rules, pairs)

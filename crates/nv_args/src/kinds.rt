@@ -137,7 +137,8 @@ fn is_lines(value: &Value) -> bool
     }
 }
 
-fn are_strings(items: &[Value]) -> bool
+/// Whether all values are strings.
+pub fn are_strings(items: &[Value]) -> bool
     ensures { result ≡ list_all (λ item. is_some (string_in item)) (map content items.now) }
 {
     for item in items {

@@ -12,7 +12,7 @@ mod methods;
 mod reading;
 mod rules;
 
-pub use args::{Args, NamedCall, call_in, read};
+pub use args::{Args, NamedCall, bytes_of, call_in, read};
 pub use dicts::{
     is_group_name, map_fault, missing_key, naming_fault, unknown_key, value_of, wrong_value,
     wrong_value_of,

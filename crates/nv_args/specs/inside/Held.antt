@@ -1,5 +1,4 @@
--- inside: the typed arguments that values are, once they were looked through; where an argument was
--- moved out, nothing of its kind stands there.
+-- inside: the typed arguments that values are, once they were looked through.
 use Rattle.std.specs.Prelude.{ℕ, suc, ℤ, pos, Bool, true, false, List, [], ◌∷◌, Option, Some, None, is_some, option_map, unwrap_or, if◌then◌else◌}
 use Rattle.nv_value.specs.Content.{Tree, Trees}
 use Rattle.nv_msgpack.specs.Handle.{handle_in, integer_of}

@@ -54,3 +54,11 @@ abbrev pub fault_that_counts : List (List ℕ) → List Key → Tree × Tree →
 fault_that_counts naming keys pair behind = option_and_then
     (λ fault. if stands_among pair.0 behind then None else Some fault)
     (pair_fault naming keys pair)
+
+-- whether a pair's key is known, and its value is without a fault
+abbrev pub is_faultless : List (List ℕ) → List Key → Tree × Tree → Bool
+is_faultless naming keys pair = is_known keys pair
+    && (not (misnames naming pair) && takes_value (known_key keys (string_in pair.0)) pair.1)
+
+abbrev pub are_faultless : List (List ℕ) → List Key → List (Tree × Tree) → Bool
+are_faultless naming keys = list_all (is_faultless naming keys)

@@ -1,10 +1,7 @@
-use Rattle.std.proofs.Common.{◌≡◌, ◌+◌, length, map, List, ◌∙◌, ap, refl, arith}
+use Rattle.std.proofs.Common.{◌≡◌, ◌+◌, length, map, refl, arith}
 use Rattle.std.proofs.lemmas.List.{length-map}
 use Rattle.nv_value.specs.View.{content}
-use Rattle.nv_value.specs.declared.value.Value.{Value}
-use Rattle.nv_args.specs.Kinds.{kind_of}
 use Rattle.nv_args.specs.Args.{typed_arguments}
-use Rattle.nv_args.specs.inside.Held.{first_wrong}
 use Rattle.nv_args.proofs.Refusing.{meets_refused}
 use Rattle.nv_args.proofs.ReadLemmas.{read-refused, read-accepted}
 use Rattle.nv_args.proofs.args.read.Goals as goal
@@ -12,16 +9,16 @@ use Rattle.nv_args.proofs.args.read.Goals as goal
 pub returns-in-Some : goal.returns-in-Some
 returns-in-Some c =
     let kinds = c.kinds-kinds.result.now in
-    let many : length (map content c.args.params.items) ≡ length kinds = omega (arith, length-map c.args.params.items content) in
+    let many : length (map content c.args.params.now) ≡ length kinds = omega (arith, length-map c.args.params.now content) in
     meets_refused typed_arguments c.wrong_type.result _ _ c.wrong_type.ensures
-    (read-refused c.args.method kinds (map content c.args.params.items) c.in-Some.place (c.in-Some.place + 1) _ c.name.result.now c.type_name.result.now
+    (read-refused c.args.method kinds (map content c.args.params.now) c.in-Some.place (c.in-Some.place + 1) _ c.name.result.now c.type_name.result.now
     c.kinds-kinds.ensures.kinds many
-    (c.in-Some.ensures.place ∙ ap (λ (vs : List Value). first_wrong (map kind_of kinds) (map content vs)) c.as_slice.ensures.value)
+    c.in-Some.ensures.place
     c.in-Some.ensures.within refl c.name.ensures.name c.type_name.ensures)
 
 pub returns-in-None : goal.returns-in-None
 returns-in-None c =
     let kinds = c.kinds-kinds.result.now in
-    let many : length (map content c.args.params.items) ≡ length kinds = omega (arith, length-map c.args.params.items content) in
+    let many : length (map content c.args.params.now) ≡ length kinds = omega (arith, length-map c.args.params.now content) in
     read-accepted c.args.method (record { kinds = c.kinds-kinds.result; values = c.args.params }) c.kinds-kinds.ensures.kinds many
-    (c.in-None.ensures.place ∙ ap (λ (vs : List Value). first_wrong (map kind_of kinds) (map content vs)) c.as_slice.ensures.value)
+    c.in-None.ensures.place
