@@ -2,7 +2,7 @@
 //! (`api-types`), the params as MessagePack spells them.
 
 use crate::digits::push_hex;
-use nv_args::{Args, Fail, Method, method_of, read};
+use nv_args::{Fail, Method, call_in, method_of, read};
 use nv_msgpack::{Bounds, Decoded, decode};
 use nv_value::{Items, Value};
 use std::alloc::{AllocError, Global};
@@ -23,14 +23,10 @@ pub fn params(alloc: Global, hex: &str) -> Result<Items, AllocError> {
     }
 }
 
-// A call whose params these digits spell, read.
-fn call(alloc: Global, method: Method, hex: &str) -> Result<Result<Args, Fail>, AllocError> {
-    Ok(read(alloc, method, params(alloc, hex)?))
-}
-
 // What a call comes to: nothing where it is read, or the words of its fault.
 fn outcome(alloc: Global, method: Method, hex: &str) -> Result<Vec<u8>, AllocError> {
-    match call(alloc, method, hex)? {
+    let params = params(alloc, hex)?;
+    match read(alloc, method, params.as_slice()) {
         Ok(_) => Ok(Vec::new(alloc)),
         Err(Fail::Api(fault)) => Vec::from_slice(alloc, fault.words.as_slice()),
         Err(Fail::NoMemory) => Vec::from_slice(alloc, b"no memory"),
@@ -202,63 +198,80 @@ fn methods_are_found_by_their_names(rt: HostRuntime) -> Result<(), Failed> {
     Ok(())
 }
 
-fn arguments(alloc: Global, method: Method, hex: &str) -> Result<Option<Args>, AllocError> {
-    Ok(call(alloc, method, hex)?.ok())
-}
-
-// What the call `[buffer 7, 2, -1, 1, ["a", b"b"]]` gives: its numbers, the first of them again
-// once its lines are taken; its flag; and how many lines are there, are taken and are left.
-fn lines_taken(alloc: Global) -> Result<Option<([i64; 5], bool, [usize; 3])>, AllocError> {
-    match arguments(alloc, Method::BufSetLines, "95d4000702ff0192a161c40162")? {
-        Some(mut args) => {
+// What the call `[buffer 7, 2, -1, 1, ["a", b"b"]]` gives: its numbers; its flag; and how many
+// lines there are.
+fn lines_given(alloc: Global) -> Result<Option<([i64; 4], bool, usize)>, AllocError> {
+    let params = params(alloc, "95d4000702ff0192a161c40162")?;
+    match read(alloc, Method::BufSetLines, params.as_slice()) {
+        Ok(args) => {
             let (first, second) = (args.number(0), args.number(1));
             let (third, none) = (args.number(2), args.number(4));
-            let flag = args.flag(3);
-            let there = args.values(4).len();
-            let taken = args.take_lines(4)?.len();
-            let left = args.values(4).len();
-            let numbers = [first, second, third, none, args.number(0)];
-            Ok(Some((numbers, flag, [there, taken, left])))
+            Ok(Some((
+                [first, second, third, none],
+                args.flag(3),
+                args.lines(4).len(),
+            )))
         }
-        None => Ok(None),
+        Err(_) => Ok(None),
     }
 }
 
 // Of the call `["x", {"a": nil}, "y", {}, []]`: whether its first string is "x", its Dict has one
-// pair, its other string is "y", and nothing is left of that once it is taken.
-fn strings_taken(alloc: Global) -> Result<Option<[bool; 4]>, AllocError> {
-    match arguments(alloc, Method::SetClientInfo, "95a17881a161c0a1798090")? {
-        Some(mut args) => {
+// pair, its other string is "y", and there is none where its Dict is.
+fn strings_given(alloc: Global) -> Result<Option<[bool; 4]>, AllocError> {
+    let params = params(alloc, "95a17881a161c0a1798090")?;
+    match read(alloc, Method::SetClientInfo, params.as_slice()) {
+        Ok(args) => {
             let first = args.string(0) == b"x".as_slice();
-            let pair = args.take_pairs(1).len() == 1;
-            let other = args.take_string(2)?.as_slice() == b"y".as_slice();
-            let gone = args.take_string(2)?.len() == 0;
-            Ok(Some([first, pair, other, gone]))
+            let pair = args.pairs(1).len() == 1;
+            let other = args.bytes(alloc, 2)?.as_slice() == b"y".as_slice();
+            let none = args.bytes(alloc, 3)?.is_empty();
+            Ok(Some([first, pair, other, none]))
         }
-        None => Ok(None),
+        Err(_) => Ok(None),
     }
 }
 
-// Of the call `["x", 5, {}]`: whether its object is there, is 5, and is no list once it is taken.
-fn object_taken(alloc: Global) -> Result<Option<[bool; 3]>, AllocError> {
-    match arguments(alloc, Method::SetOptionValue, "93a1780580")? {
-        Some(mut args) => {
+// Of the call `["x", 5, {}]`: whether its object is there, is 5, and is no Array of Strings.
+fn object_given(alloc: Global) -> Result<Option<[bool; 3]>, AllocError> {
+    let params = params(alloc, "93a1780580")?;
+    match read(alloc, Method::SetOptionValue, params.as_slice()) {
+        Ok(args) => {
             let there = args.object(1).is_some();
-            let five = matches!(args.take_object(1), Value::Int(5));
-            Ok(Some([there, five, args.take_values(1).is_empty()]))
+            let five = matches!(args.object(1), Some(Value::Int(5)));
+            Ok(Some([there, five, args.lines(1).is_empty()]))
         }
-        None => Ok(None),
+        Err(_) => Ok(None),
     }
+}
+
+// The name's bytes of a call as a value, and how many arguments it has.
+fn parts_of(call: Option<&Value>) -> (usize, usize) {
+    match call {
+        Some(call) => {
+            let named = call_in(call);
+            (named.name.len(), named.params.len())
+        }
+        None => (0, 0),
+    }
+}
+
+// What the calls `["abc", [1, 2]]`, `["ab"]` and `5` give.
+fn calls_given(alloc: Global) -> Result<[(usize, usize); 3], AllocError> {
+    let calls = params(alloc, "9392a361626392010291a2616205")?;
+    Ok([
+        parts_of(calls.get(0)),
+        parts_of(calls.get(1)),
+        parts_of(calls.get(2)),
+    ])
 }
 
 #[test]
 fn arguments_are_given_by_their_places(rt: HostRuntime) -> Result<(), Failed> {
     let alloc = rt.alloc();
-    assert_eq!(rt;
-        lines_taken(alloc)?,
-        Some(([7, 2, -1, 0, 7], true, [2, 2, 0]))
-    );
-    assert_eq!(rt; strings_taken(alloc)?, Some([true; 4]));
-    assert_eq!(rt; object_taken(alloc)?, Some([true; 3]));
+    assert_eq!(rt; lines_given(alloc)?, Some(([7, 2, -1, 0], true, 2)));
+    assert_eq!(rt; strings_given(alloc)?, Some([true; 4]));
+    assert_eq!(rt; object_given(alloc)?, Some([true; 3]));
+    assert_eq!(rt; calls_given(alloc)?, [(3, 2), (2, 0), (0, 0)]);
     Ok(())
 }
