@@ -3,7 +3,7 @@ use Rattle.std.proofs.Common.{◌≡◌, ◌≢◌, ℕ, zero, suc, ◌+◌, ◌
 use Rattle.std.proofs.Math.ListN.{drop_of_length-le}
 use Rattle.std.proofs.lemmas.Bool.{cases_eq, cases_lt, false≢true}
 use Rattle.std.proofs.lemmas.Bool.Decides.{nat_tests}
-use Rattle.std.proofs.lemmas.List.{length-map, drop-drop, drop-map, drop-set-lt, get_or-drop, get_or-map, get_or-set_other, get_or-set_same, get_or-take, get_or_append_left, get_or_past, get_or_push, length-drop, length-replicate, length-take, length-take-le, take-append-drop, take_more_set}
+use Rattle.std.proofs.lemmas.List.{length-map, drop-drop, drop-map, drop-set-lt, get_or-drop, get_or-map, get_or-set_other, get_or-set_same, get_or-take, get_or_append_left, get_or_past, get_or_push, length-drop, length-replicate, length-take, take-append-drop, take_more_set}
 use Rattle.std.proofs.lemmas.List.Elements.{All-from_get_or}
 use Rattle.std.specs.List.{AllByRecursion}
 use Rattle.nv_hl.specs.declared.attribute.Attr.{Attr}

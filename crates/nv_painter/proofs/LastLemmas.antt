@@ -1,23 +1,27 @@
 -- The scene that was painted last.
-use Rattle.std.proofs.Common.{◌≡◌, ◌+◌, ◌<◌, ◌≤◌, ℕ, zero, suc, pos, List, [], ◌∷◌, ◌++◌, length, map, drop, get_or, Bool, true, false, not, Option, Some, refl, ap, sym, subst, ◌∙◌, append-nil, arith, ⊎_elim}
+use Rattle.std.proofs.Common.{◌≡◌, ◌<◌, ◌≤◌, ℕ, zero, suc, pos, List, [], ◌∷◌, ◌++◌, length, map, get_or, Bool, true, false, not, Option, Some, refl, ap, sym, subst, ◌∙◌, arith, ⊎_elim}
 use Rattle.std.proofs.lemmas.Bool.{cases_lt}
-use Rattle.std.proofs.lemmas.List.{get_or_append_left, get_or_past, get_or_push}
+use Rattle.std.proofs.lemmas.List.{get_or_past}
 use Rattle.std.specs.List.{AllByRecursion}
 use Rattle.nv_hl.specs.declared.attribute.Attr.{Attr}
 use Rattle.nv_hl.specs.declared.cell.Cell.{Cell}
 use Rattle.nv_linegrid.specs.declared.event.Redraw.{Redraw}
 use Rattle.nv_linegrid.specs.declared.event.Redraw.TheVariants.{DefaultColors, Goto, Flush}
-use Rattle.nv_linegrid.specs.Batch.{attrs_after, attrs_defined, batch, event_if, is_place, is_resized, is_size, same_colours, told_after}
-use Rattle.nv_linegrid.specs.Rows.{lines_of_rows}
-use Rattle.nv_linegrid.specs.Client.{Shown}
-use Rattle.nv_linegrid.specs.Scrolls.{Shift, rows_after_shifts, scroll_of, shifts_between}
-use Rattle.nv_linegrid.specs.Told.{Told, Wanted, known_rows, shown_cell, shown_rows, with_attrs_of_rows}
+use Rattle.nv_linegrid.specs.Batch.{attrs_after, event_if, is_place, is_resized, is_size, same_colours, told_after}
+use Rattle.nv_linegrid.specs.Client.{Shown, ShownRows}
+use Rattle.nv_linegrid.specs.Scrolls.{Shift, rows_after_shifts}
+use Rattle.nv_linegrid.specs.Told.{IsDrawn, IsWhole, Told, View, Wanted, known_rows, shown_cell, shown_rows, with_attrs_of_rows}
 use Rattle.nv_linegrid.proofs.TableLemmas.{rows_have}
+use Rattle.nv_screen.specs.declared.scene.Scene.{Scene}
+use Rattle.nv_screen.specs.Cursor.{cursor_of_scene}
+use Rattle.nv_painter.specs.Pictures.{picture_of, views_of}
+use Rattle.nv_painter.specs.inside.Last.{IsSketchOf}
 use Rattle.nv_painter.specs.inside.Moving.{StaysIn}
+use Rattle.nv_painter.specs.inside.Screens.{IsToldNext, TellsScreen}
 use Rattle.nv_painter.specs.inside.Sketch.{AreDrawn, AreShown, HaveIds, ShowsCells}
 use Rattle.nv_painter.proofs.MoveLemmas.{stays}
 use Rattle.nv_painter.proofs.SketchLemmas.{adds_none}
-use Rattle.nv_painter.proofs.ToldLemmas.{batch_made}
+use Rattle.nv_painter.proofs.ToldLemmas.{told_by}
 
 -- ---- what is told twice
 
@@ -96,17 +100,31 @@ all_drawn flags drawn screen same below k e =
 pub not_resized : (t : Told) (w : Wanted) → is_size t.size w.screen.width w.screen.height ≡ true → is_resized t w ≡ false
 not_resized t w e = ap not e
 
-pub steady_batch : (t : Told) (w : Wanted) (shifts : List Shift) (count : ℕ) (attrs : List Attr) (e2 e3 e5 e6 e7 e8 : List Redraw)
-    → is_size t.size w.screen.width w.screen.height ≡ true → shifts ≡ shifts_between t.views w.views
-    → count ≡ length t.attrs → attrs ≡ attrs_after t w
-    → e2 ≡ event_if (not (same_colours t.colours w.colours)) (DefaultColors w.colours)
-    → e3 ≡ e2 ++ attrs_defined (suc count) (drop count attrs)
-    → e5 ≡ e3 ++ map scroll_of shifts
-    → e6 ≡ e5 ++ lines_of_rows 0 (rows_after_shifts shifts t.rows) (shown_rows attrs w.screen.rows)
-    → e7 ≡ e6 ++ event_if (not (is_place t.cursor w.cursor)) (Goto (pos 1) w.cursor.0 w.cursor.1)
-    → e8 ≡ e7 ++ Flush ∷ []
-    → e8 ≡ batch t w
-steady_batch t w shifts count attrs e2 e3 e5 e6 e7 e8 size moved count_is attrs_is s2 s3 s5 s6 s7 s8 =
-    batch_made t w false count attrs (rows_after_shifts shifts t.rows) t.cursor [] e2 e3 e3 e5 e6 e7 e8 (sym (not_resized t w size)) count_is attrs_is refl
-    (ap (λ s. rows_after_shifts s t.rows) moved) refl s2 s3 (sym (append-nil e3))
-    (s5 ∙ ap (λ s. e3 ++ map scroll_of s) moved) s6 s7 s8
+pub sketch_told : (t : Told) (s : Scene) (shifts : List Shift) (flags : List Bool) (drawn : List (List Cell)) (attrs : List Attr) (rows after : ShownRows)
+    (cursor : ℕ × ℕ) (views : List View) (e2 e6 e8 : List Redraw)
+    → IsWhole t → IsDrawn (picture_of s) → IsSketchOf t shifts flags drawn s → rows ≡ rows_after_shifts shifts t.rows
+    → cursor ≡ cursor_of_scene s → views ≡ views_of s.panes.items
+    → e2 ≡ event_if (not (same_colours t.colours s.colours)) (DefaultColors s.colours)
+    → TellsScreen false shifts (picture_of s).screen.rows t.attrs attrs rows after e2 e6
+    → e8 ≡ e6 ++ event_if (not (is_place t.cursor cursor)) (Goto (pos 1) cursor.0 cursor.1) ++ Flush ∷ []
+    → IsToldNext t (picture_of s) e8 (record {
+      size = Some (s.width, s.height);
+      rows = after;
+      attrs = attrs;
+      colours = Some s.colours;
+      cursor = Some cursor;
+      views = views;
+    })
+sketch_told t s shifts flags drawn attrs rows after cursor views e2 e6 e8 whole is_drawn is rows_are cursor_is views_are s2 tells s8 =
+    let w = picture_of s in
+    subst (λ (q : (ℕ × ℕ) × List View). IsToldNext t w e8 (record {
+      size = Some (s.width, s.height);
+      rows = after;
+      attrs = attrs;
+      colours = Some s.colours;
+      cursor = Some q.0;
+      views = q.1;
+    }))
+    (λ i. (sym cursor_is i, sym views_are i))
+    (told_by t w false (Some (s.width, s.height)) shifts attrs rows after t.cursor [] e2 e6 e8 whole is_drawn (sym (not_resized t w is.size)) refl is.moves rows_are refl refl s2 tells
+    (s8 ∙ (λ i. e6 ++ event_if (not (is_place t.cursor (cursor_is i))) (Goto (pos 1) (cursor_is i).0 (cursor_is i).1) ++ Flush ∷ [])))

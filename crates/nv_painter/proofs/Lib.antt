@@ -6,6 +6,7 @@ pub mod LentLemmas
 pub mod LineLemmas
 pub mod LoneLemmas
 pub mod MoveLemmas
+pub mod MovedLemmas
 pub mod PictureLemmas
 pub mod RunLemmas
 pub mod SketchLemmas

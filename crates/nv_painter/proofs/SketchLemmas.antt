@@ -1,23 +1,21 @@
 -- Rows that are shown already.
-use Rattle.std.proofs.Common.{◌≡◌, ◌≢◌, ℕ, zero, suc, ◌+◌, ◌<◌, ◌≤◌, List, [], ◌∷◌, ◌++◌, length, map, take, drop, get_or, set, Bool, true, false, cond, ◌||◌, Option, Some, None, refl, ap, sym, subst, ◌∙◌, append-nil, arith, ⊎_elim, ◌-◌}
+use Rattle.std.proofs.Common.{◌≡◌, ◌≢◌, ℕ, suc, ◌+◌, ◌<◌, ◌≤◌, List, [], ◌∷◌, ◌++◌, length, map, take, drop, get_or, set, Bool, true, false, cond, ◌||◌, Option, Some, None, refl, ap, sym, subst, ◌∙◌, append-nil, arith}
 use Rattle.std.proofs.Math.ListN.{drop_of_length-le}
-use Rattle.std.proofs.lemmas.Bool.{cases_lt, false≢true}
-use Rattle.std.proofs.lemmas.List.{drop-drop, drop-set-lt, get_or-append_right, get_or-drop, get_or_append_left, take_all, take_more}
+use Rattle.std.proofs.lemmas.Bool.{false≢true}
+use Rattle.std.proofs.lemmas.List.{drop-drop, drop-set-lt, take_all, take_more}
 use Rattle.std.proofs.lemmas.List.Folds.{list_any-append}
 use Rattle.std.specs.List.{list_any}
 use Rattle.nv_hl.specs.declared.attribute.Attr.{Attr}
 use Rattle.nv_hl.specs.declared.cell.Cell.{Cell}
 use Rattle.nv_hl.specs.Attributes.{empty_attr, same_attr}
 use Rattle.nv_hl.proofs.LawLemmas.{same_attrs_are_equal}
-use Rattle.nv_linedraw.proofs.LayLemmas.{drop_at}
 use Rattle.nv_linegrid.specs.declared.event.Redraw.{Redraw}
 use Rattle.nv_linegrid.specs.Client.{Shown, ShownRows, shown_of}
-use Rattle.nv_linegrid.specs.Rows.{line_of_row, lines_of_rows}
-use Rattle.nv_linegrid.specs.Told.{has_id, id_from, id_of, known_rows, shown_cell, shown_rows, with_attrs_of, with_attrs_of_rows}
-use Rattle.nv_linegrid.proofs.TableLemmas.{Grows, rows_grow}
-use Rattle.nv_painter.specs.inside.Sketch.{AreShown, HaveIds, IsIdOf, IsSketch, ShowsCells}
+use Rattle.nv_linegrid.specs.Rows.{lines_of_rows}
+use Rattle.nv_linegrid.specs.Told.{has_id, id_from, id_of, known_rows, shown_cell, shown_rows, with_attrs_of}
+use Rattle.nv_painter.specs.inside.Sketch.{HaveIds, IsIdOf, ShowsCells}
 use Rattle.nv_painter.proofs.IdLemmas.{empty_has_id, id_of_empty, with_known}
-use Rattle.nv_painter.proofs.LineLemmas.{front_step, row_step, shown_has_no_line, shown_more}
+use Rattle.nv_painter.proofs.LineLemmas.{shown_more}
 
 -- ---- attributes that have ids
 

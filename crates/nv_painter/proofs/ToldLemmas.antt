@@ -1,23 +1,23 @@
 -- A batch made of its parts.
-use Rattle.std.proofs.Common.{◌≡◌, ℕ, suc, ◌+◌, pos, eqb, List, [], ◌∷◌, ◌++◌, length, map, drop, Bool, true, false, cond, not, Option, Some, None, refl, ap, sym, subst, ◌∙◌, ◌≤◌, arith}
-use Rattle.std.proofs.lemmas.List.{length-append, length-replicate}
+use Rattle.std.proofs.Common.{◌≡◌, ℕ, suc, ◌+◌, pos, eqb, List, [], ◌∷◌, ◌++◌, length, map, drop, Bool, true, false, cond, not, Option, Some, None, refl, ap, sym, subst, ◌∙◌}
+use Rattle.std.proofs.lemmas.List.{length-replicate}
 use Rattle.std.proofs.lemmas.Bool.{and_parts, eqb-true, false≢true}
 use Rattle.nv_hl.specs.declared.attribute.Attr.{Attr}
-use Rattle.nv_hl.specs.declared.cell.Cell.{Cell}
 use Rattle.nv_hl.specs.declared.colours.Colours.{Colours}
 use Rattle.nv_linegrid.specs.declared.event.Redraw.{Redraw}
 use Rattle.nv_linegrid.specs.declared.event.Redraw.TheVariants.{Resize, DefaultColors, Clear, Goto, Flush}
 use Rattle.nv_linegrid.specs.Client.{ShownRows, ShowsScreen, client_after_all, scrolled_from}
 use Rattle.nv_linegrid.specs.Laws.{ShowsWanted}
-use Rattle.nv_linegrid.proofs.TableLemmas.{rows_grow}
+use Rattle.nv_linegrid.proofs.BatchLemmas.{batch_shows}
 use Rattle.nv_screen.specs.declared.scene.Scene.{Scene}
 use Rattle.nv_painter.specs.Painters.{ShowsScene}
 use Rattle.nv_painter.specs.Pictures.{picture_of}
 use Rattle.nv_linegrid.specs.Batch.{attrs_after, attrs_defined, batch, batch_by, cursor_before, event_if, is_place, is_resized, is_size, rows_before_lines, same_colours, shifts_of, told_after}
 use Rattle.nv_linegrid.specs.Rows.{lines_of_rows}
 use Rattle.nv_linegrid.specs.Scrolls.{Shift, rows_after_shifts, scroll_of, shifts_between}
-use Rattle.nv_linegrid.specs.Told.{IsDrawn, IsWhole, Told, View, Wanted, client_of, known_rows, shown_rows, with_attrs_of_rows}
+use Rattle.nv_linegrid.specs.Told.{IsDrawn, IsWhole, Told, View, Wanted, client_of, known_rows, shown_rows}
 use Rattle.nv_painter.specs.inside.Moving.{moves, rows_to_move}
+use Rattle.nv_painter.specs.inside.Screens.{IsToldNext, TellsScreen}
 
 moves_are : (r : Bool) (t : Told) (w : Wanted) → moves r t.views w.views ≡ shifts_of r t w
 moves_are true t w = refl
@@ -79,12 +79,40 @@ told_made t w size rows attrs colours cursor views size_is attrs_is rows_is colo
       views = views_is i;
     }
 
--- attributes with ids get more
-pub attrs_longer : (attrs : List Attr) (rows : List (List Cell)) (after : List Attr) → after ≡ with_attrs_of_rows attrs rows
-    → length attrs ≤ length after
-attrs_longer attrs rows after is =
-    let grows = rows_grow attrs rows in
-    omega (arith, ap length is, ap length grows.1, length-append attrs grows.0)
+-- a batch whose rows were told as a screen
+pub told_by : (t : Told) (w : Wanted) (r : Bool) (size : Option (ℕ × ℕ)) (shifts : List Shift) (attrs : List Attr) (rows after : ShownRows) (place : Option (ℕ × ℕ))
+    (e1 e2 e6 e8 : List Redraw)
+    → IsWhole t → IsDrawn w → r ≡ is_resized t w → size ≡ Some (w.screen.width, w.screen.height) → shifts ≡ moves r t.views w.views
+    → rows ≡ rows_after_shifts shifts (rows_to_move r t.rows w.screen)
+    → place ≡ cond r None t.cursor
+    → e1 ≡ event_if r (Resize (pos 1) w.screen.width w.screen.height)
+    → e2 ≡ e1 ++ event_if (not (same_colours t.colours w.colours)) (DefaultColors w.colours)
+    → TellsScreen r shifts w.screen.rows t.attrs attrs rows after e2 e6
+    → e8 ≡ e6 ++ event_if (not (is_place place w.cursor)) (Goto (pos 1) w.cursor.0 w.cursor.1) ++ Flush ∷ []
+    → IsToldNext t w e8 (record {
+      size = size;
+      rows = after;
+      attrs = attrs;
+      colours = Some w.colours;
+      cursor = Some w.cursor;
+      views = w.views;
+    })
+told_by t w r size shifts attrs rows after place e1 e2 e6 e8 whole drawn r_is sized moved rows_is place_is s1 s2 tells s8 =
+    let e3 = e2 ++ attrs_defined (suc (length t.attrs)) (drop (length t.attrs) attrs) in
+    let e4 = e3 ++ event_if r (Clear (pos 1)) in
+    let e5 = e4 ++ map scroll_of shifts in
+    let e7 = e6 ++ event_if (not (is_place place w.cursor)) (Goto (pos 1) w.cursor.0 w.cursor.1) in record {
+      events_are = batch_made t w r (length t.attrs) attrs rows place e1 e2 e3 e4 e5 e6 e7 e8 r_is refl tells.attrs_are place_is
+          (rows_is ∙ ap (λ m. rows_after_shifts m (rows_to_move r t.rows w.screen)) moved) s1 s2 refl refl (ap (λ m. e4 ++ map scroll_of m) moved)
+          tells.events_are refl s8;
+      told_is = told_made t w size after attrs (Some w.colours) (Some w.cursor) w.views sized tells.attrs_are
+          tells.rows_are refl refl refl;
+      shows = batch_shows t w whole drawn;
+    }
+
+-- what is told next is whole
+pub next_is_whole : (t : Told) (w : Wanted) (events : List Redraw) (told : Told) → IsWhole t → IsDrawn w → IsToldNext t w events told → IsWhole told
+next_is_whole t w events told whole drawn next = subst IsWhole (sym next.told_is) (batch_shows t w whole drawn).whole
 
 -- a scene is shown
 pub scene_is_shown : (before after : Told) (events : List Redraw) (s : Scene) (w : Wanted) → w ≡ picture_of s

@@ -5,5 +5,6 @@ pub mod Lent
 pub mod Lone
 pub mod Moving
 pub mod SameKeys
+pub mod Screens
 pub mod Sketch
 pub mod Telling

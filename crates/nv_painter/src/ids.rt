@@ -1,6 +1,6 @@
 //! The ids of attributes: 0 is the empty one, and the others count from 1 as they were told.
 
-ghost use Rattle.nv_hl.specs.Attributes.{empty_attr, same_attr};
+ghost use Rattle.nv_hl.specs.Attributes.{empty_attr, same_attr, same_colour, same_flag};
 ghost use Rattle.nv_linegrid.specs.Batch.{attrs_defined};
 ghost use Rattle.nv_hl.specs.declared.cell.Cell.{Cell as SpecCell};
 ghost use Rattle.nv_linegrid.specs.Client.{Shown, ShownRows};
@@ -16,6 +16,42 @@ use crate::shown::{ShownCell, ShownRow};
 use nv_hl::{Attr, Cell, is_same_attr};
 use nv_linegrid::Redraw;
 use std::alloc::{AllocError, Global};
+
+fn has_no_colour(colour: Option<u32>) -> bool
+    ensures { result ≡ same_colour colour None }
+{
+    colour.is_none()
+}
+
+fn has_no_cterm(colour: Option<u8>) -> bool
+    ensures { result ≡ same_colour colour None }
+{
+    colour.is_none()
+}
+
+fn is_off(flag: bool) -> bool
+    ensures { result ≡ same_flag flag false }
+{
+    !flag
+}
+
+// Whether an attribute has no colour and no flag.
+#[tactic(auto, unfolding(nv_hl::specs::Attributes::same_attr))]
+fn is_plain(attr: &Attr) -> bool
+    ensures { result ≡ same_attr attr.now empty_attr }
+{
+    has_no_colour(attr.fg)
+        && has_no_colour(attr.bg)
+        && has_no_colour(attr.sp)
+        && has_no_cterm(attr.ctermfg)
+        && has_no_cterm(attr.ctermbg)
+        && is_off(attr.reverse)
+        && is_off(attr.italic)
+        && is_off(attr.bold)
+        && is_off(attr.underline)
+        && is_off(attr.undercurl)
+        && is_off(attr.strikethrough)
+}
 
 // The place of an attribute among those that have ids, counted from 1, or 0.
 fn id_among(attrs: &[Attr], attr: &Attr) -> u64
@@ -35,7 +71,7 @@ fn id_among(attrs: &[Attr], attr: &Attr) -> u64
 pub fn id_of(attrs: &[Attr], attr: &Attr) -> u64
     ensures { result ≡ id_of attrs.now attr.now }
 {
-    if is_same_attr(attr, &Attr::EMPTY) {
+    if is_plain(attr) {
         return 0;
     }
     id_among(attrs, attr)
@@ -46,19 +82,20 @@ fn next_id(attrs: &[Attr], attr: &Attr, last: &Attr, id: u64) -> u64
     requires { id ≡ id_of attrs.now last.now }
     ensures { result ≡ id_of attrs.now attr.now }
 {
+    if is_plain(attr) {
+        return 0;
+    }
     if is_same_attr(attr, last) {
         return id;
     }
-    id_of(attrs, attr)
+    id_among(attrs, attr)
 }
 
-// The id of an attribute, where it has one.
+// The id of an attribute that isn't empty, where it has one.
 fn known_id(attrs: &[Attr], attr: &Attr) -> Option<u64>
+    requires { same_attr attr.now empty_attr ≡ false }
     ensures { IfSome result (λ id. IsIdOf attrs.now attr.now id) }
 {
-    if is_same_attr(attr, &Attr::EMPTY) {
-        return Some(0);
-    }
     let id = id_among(attrs, attr);
     if id == 0 {
         return None;
@@ -71,6 +108,9 @@ fn next_known_id(attrs: &[Attr], attr: &Attr, last: &Attr, id: u64) -> Option<u6
     requires { IsIdOf attrs.now last.now id }
     ensures { IfSome result (λ next. IsIdOf attrs.now attr.now next) }
 {
+    if is_plain(attr) {
+        return Some(0);
+    }
     if is_same_attr(attr, last) {
         return Some(id);
     }
@@ -93,7 +133,7 @@ fn is_among(attrs: &[Attr], attr: &Attr) -> bool
 fn add_attr(attrs: &mut Vec<Attr>, attr: &Attr) -> Result<(), AllocError>
     ensures { OnOk result (attrs.new.items ≡ with_attr attrs.old.items attr.now) }
 {
-    if is_same_attr(attr, &Attr::EMPTY) {
+    if is_plain(attr) {
         return Ok(());
     }
     if is_among(attrs.as_slice(), attr) {
@@ -108,6 +148,9 @@ fn add_next(attrs: &mut Vec<Attr>, attr: &Attr, last: &Attr) -> Result<(), Alloc
     requires { has_id attrs.old.items last.now ≡ true }
     ensures { OnOk result (attrs.new.items ≡ with_attr attrs.old.items attr.now) }
 {
+    if is_plain(attr) {
+        return Ok(());
+    }
     if is_same_attr(attr, last) {
         return Ok(());
     }
@@ -184,7 +227,6 @@ pub fn add_attrs_of_rows(
 
 /// Tells the ids of attributes, from the one at a place on.
 pub fn push_attrs(events: &mut Vec<Redraw>, attrs: &[Attr], count: usize) -> Result<(), AllocError>
-    requires { count ≤ length attrs.now }
     ensures { OnOk result (events.new.items
         ≡ events.old.items ++ attrs_defined (suc count) (drop count attrs.now)) }
 {

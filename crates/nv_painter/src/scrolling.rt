@@ -2,9 +2,9 @@
 
 ghost use Rattle.nv_linegrid.specs.Client.{cells_from, row_between, row_from};
 ghost use Rattle.nv_linegrid.specs.Scrolls.{is_same_text, rows_after_shift, rows_after_shifts, scroll_of, shift_between, shift_by, shift_in, shifts_between};
-ghost use Rattle.nv_painter.specs.inside.Moving.{EndsInReach, StaysIn, row_after_shift, rows_up};
+ghost use Rattle.nv_painter.specs.inside.Moving.{AreForgotten, AreTurned, AreWide, EndsInReach, StaysIn, row_after_shift, rows_up};
 ghost use Rattle.std.specs.Ordering.{int_eq};
-ghost use Rattle.std.specs.Prelude.{◌≡◌, ◌<◌, ◌≤◌, ◌++◌, ◌∷◌, ◌&&◌, ◌==◌, ℕ, [], All, IfOk, MatchOption, None, OnOk, false, get_or, if◌then◌else◌, length, map, min, nat_le, nat_lt, sum, take, true};
+ghost use Rattle.std.specs.Prelude.{◌≡◌, ◌<◌, ◌≤◌, ◌-◌, ◌++◌, ◌∷◌, ◌&&◌, ◌==◌, ℕ, [], All, IfOk, IsTrue, MatchOption, None, OnOk, false, get_or, if◌then◌else◌, length, map, min, nat_le, nat_lt, sum, take, true};
 
 use crate::shown::{ShownCell, ShownRow};
 use crate::view::PaneView;
@@ -239,12 +239,8 @@ fn row_after_shift(
     copy_row(alloc, &rows[row])
 }
 
-// The rows after a shift.
-fn rows_after_shift(
-    alloc: Global,
-    rows: &[ShownRow],
-    shift: &Shift,
-) -> Result<Vec<ShownRow>, AllocError>
+// The rows after a shift, each a copy.
+fn copied_rows(alloc: Global, rows: &[ShownRow], shift: &Shift) -> Result<Vec<ShownRow>, AllocError>
     ensures { IfOk result (λ after. after.items ≡ rows_after_shift shift.now rows.now) }
 {
     let mut after = Vec::with_capacity(alloc, rows.len())?;
@@ -252,6 +248,80 @@ fn rows_after_shift(
         after.push(row_after_shift(alloc, rows, shift, k)?)?;
     }
     Ok(after)
+}
+
+// Whether all rows have so many cells.
+fn are_wide(rows: &[ShownRow], width: u32) -> bool
+    ensures { IsTrue result → AreWide rows.now width }
+{
+    for k in 0..rows.len() {
+        if rows[k].cells().len() != width as usize {
+            return false;
+        }
+    }
+    true
+}
+
+// Moves the rows from `top` to before `end` up by so many; those that leave come in below.
+fn turn_rows(rows: &mut [ShownRow], top: usize, end: usize, count: usize)
+    requires top { top ≤ end }
+    requires end { end ≤ length rows.old }
+    requires count { count ≤ end - top }
+    ensures { AreTurned rows.old rows.new top end count }
+{
+    rows[top..end].rotate_left(count);
+}
+
+// Makes the rows from one to before another unknown, of so many cells.
+fn forget_rows(
+    alloc: Global,
+    rows: &mut [ShownRow],
+    from: usize,
+    to: usize,
+    width: u32,
+) -> Result<(), AllocError>
+    requires from { from ≤ to }
+    requires to { to ≤ length rows.old }
+    ensures { OnOk result (AreForgotten rows.old rows.new from to width) }
+{
+    for k in from..to {
+        rows[k] = ShownRow::unknown(alloc, width)?;
+    }
+    Ok(())
+}
+
+// Moves whole rows, by a shift that is as wide as they are.
+fn move_rows(alloc: Global, rows: &mut [ShownRow], shift: &Shift) -> Result<(), AllocError>
+    requires left { shift.now.left ≡ 0 }
+    requires wide { AreWide rows.old shift.now.right }
+    ensures { OnOk result (rows.new ≡ rows_after_shift shift.now rows.old) }
+{
+    let end = rows.len().min(shift.bot as usize);
+    let top = end.min(shift.top as usize);
+    let count = (end - top).min(shift.rows as usize);
+    if shift.is_down {
+        turn_rows(rows, top, end, end - top - count);
+        forget_rows(alloc, rows, top, top + count, shift.right)
+    } else {
+        turn_rows(rows, top, end, count);
+        forget_rows(alloc, rows, end - count, end, shift.right)
+    }
+}
+
+// The rows after a shift.
+fn rows_after_shift(
+    alloc: Global,
+    rows: Vec<ShownRow>,
+    shift: &Shift,
+) -> Result<Vec<ShownRow>, AllocError>
+    ensures { IfOk result (λ after. after.items ≡ rows_after_shift shift.now rows.items) }
+{
+    let mut rows = rows;
+    if shift.left == 0 && are_wide(rows.as_slice(), shift.right) {
+        move_rows(alloc, rows.as_mut_slice(), shift)?;
+        return Ok(rows);
+    }
+    copied_rows(alloc, rows.as_slice(), shift)
 }
 
 fn push_scroll(events: &mut Vec<Redraw>, shift: &Shift) -> Result<(), AllocError>
@@ -318,7 +388,7 @@ pub fn rows_after_shifts(
 {
     let mut rows = rows;
     for shift in shifts {
-        rows = rows_after_shift(alloc, rows.as_slice(), shift)?;
+        rows = rows_after_shift(alloc, rows, shift)?;
     }
     Ok(rows)
 }

@@ -3,7 +3,7 @@
 ghost use Rattle.nv_linegrid.specs.Client.{row_with};
 ghost use Rattle.nv_linegrid.specs.Rows.{same_shown};
 ghost use Rattle.nv_linegrid.specs.Told.{blank_shown_rows};
-ghost use Rattle.std.specs.Prelude.{◌≡◌, ◌≤◌, ◌+◌, ◌∷◌, [], IfOk, Some, length, replicate};
+ghost use Rattle.std.specs.Prelude.{◌≡◌, ◌≤◌, ◌+◌, ◌∷◌, [], IfOk, None, Some, length, replicate};
 
 use nv_hl::CellText;
 use std::alloc::{AllocError, Global};
@@ -63,6 +63,16 @@ impl Model for ShownRow {
     ghost view = { λ r. r.cells.items };
 }
 
+fn unknown_cells(alloc: Global, width: u32) -> Result<Vec<Option<ShownCell>>, AllocError>
+    ensures { IfOk result (λ cells. cells.items ≡ replicate width None) }
+{
+    let mut cells = Vec::with_capacity(alloc, width as usize)?;
+    for _ in 0..width {
+        cells.push(None)?;
+    }
+    Ok(cells)
+}
+
 // Puts cells in place of those from a place on, as far as there are some.
 fn put_cells(row: &mut Vec<Option<ShownCell>>, at: usize, cells: Vec<ShownCell>)
     ensures { at + length cells.items ≤ length row.old.items
@@ -103,6 +113,14 @@ impl ShownRow {
             → self.new ≡ row_with self.old col cells.items }
     {
         put_cells(&mut self.cells, col, cells);
+    }
+
+    /// A row of so many unknown cells.
+    pub fn unknown(alloc: Global, width: u32) -> Result<ShownRow, AllocError>
+        ensures { IfOk result (λ row. row ≡ replicate width None) }
+    {
+        let cells = unknown_cells(alloc, width)?;
+        Ok(ShownRow { cells })
     }
 
     /// A row of spaces without an attribute.

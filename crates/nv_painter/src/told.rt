@@ -1,5 +1,7 @@
 //! What a client was told.
 
+ghost use Rattle.nv_hl.specs.declared.cell.Cell.{Cell as SpecCell};
+ghost use Rattle.nv_linegrid.specs.declared.event.Redraw.TheVariants.{DefaultColors, Flush, Goto};
 ghost use Rattle.nv_linegrid.specs.Batch.{batch, event_if, is_place, is_size, same_colours, told_after};
 ghost use Rattle.nv_linegrid.specs.Laws.{ShowsWanted};
 ghost use Rattle.nv_linegrid.specs.Told.{AreSized, IsDrawn, nothing_told};
@@ -8,8 +10,10 @@ ghost use Rattle.nv_painter.specs.Pictures.{picture_of, views_of};
 ghost use Rattle.nv_painter.specs.inside.Last.{IsSketchOf};
 ghost use Rattle.nv_painter.specs.inside.Lent.{lent_rows};
 ghost use Rattle.nv_painter.specs.inside.Moving.{EndsInReach, moves, rows_to_move};
+ghost use Rattle.nv_painter.specs.inside.Screens.{IsToldNext, TellsScreen};
+ghost use Rattle.nv_painter.specs.inside.Sketch.{IsSketch};
 ghost use Rattle.nv_screen.specs.Cursor.{cursor_of_scene};
-ghost use Rattle.std.specs.Prelude.{◌≡◌, ◌++◌, [], true, All, IfOk, IsTrue, None, OnOk, if◌then◌else◌};
+ghost use Rattle.std.specs.Prelude.{◌≡◌, ◌<◌, ◌^◌, ◌++◌, ◌∷◌, [], true, All, IfOk, IsTrue, List, None, OnOk, if◌then◌else◌, length, not, pos};
 
 use crate::ids::{add_attrs_of_rows, dues_of, push_attrs};
 use crate::lent::{LentRow, lend};
@@ -175,6 +179,76 @@ fn rows_to_move(
     Ok(rows)
 }
 
+// Tells a colour where it differs.
+fn push_colours(
+    events: &mut Vec<Redraw>,
+    old: Option<Colours>,
+    colours: Colours,
+) -> Result<(), AllocError>
+    ensures { OnOk result (events.new.items ≡ events.old.items
+        ++ event_if (not (same_colours old colours)) (DefaultColors colours)) }
+{
+    let is_recoloured = !are_same_colours(old, colours);
+    push_if(events, is_recoloured, Redraw::DefaultColors { colours })
+}
+
+// Tells the new attributes of a screen, how rows moved, and the rows that differ.
+fn push_screen(
+    alloc: Global,
+    events: &mut Vec<Redraw>,
+    rows: &mut Vec<ShownRow>,
+    attrs: &mut Vec<Attr>,
+    is_resized: bool,
+    shifts: &[Shift],
+    flags: &[bool],
+    drawn: &[LentRow],
+) -> Result<(), AllocError>
+    requires high { length rows.old.items ≡ length drawn.now }
+    requires rows { length drawn.now < 2 ^ 32 }
+    requires cells { All (λ row. length row < 2 ^ 32) (lent_rows drawn.now) }
+    ensures { OnOk result ((screen : List (List SpecCell))
+        → IsSketch flags.now (lent_rows drawn.now) attrs.old.items rows.old.items screen
+        → TellsScreen is_resized shifts.now screen attrs.old.items attrs.new.items rows.old.items
+        rows.new.items events.old.items events.new.items) }
+{
+    let dues = dues_of(alloc, attrs.as_slice(), flags, drawn, rows.as_slice())?;
+    let count = attrs.len();
+    add_attrs_of_rows(attrs, dues.as_slice(), drawn)?;
+    push_attrs(events, attrs.as_slice(), count)?;
+    push_if(events, is_resized, Redraw::Clear { grid: 1 })?;
+    push_scrolls(events, shifts)?;
+    push_rows(
+        alloc,
+        events,
+        rows,
+        attrs.as_slice(),
+        dues.as_slice(),
+        drawn,
+    )?;
+    Ok(())
+}
+
+// Tells the cursor, where it differs, and the flush.
+fn push_end(
+    events: &mut Vec<Redraw>,
+    old: Option<(u32, u32)>,
+    cursor: (u32, u32),
+) -> Result<(), AllocError>
+    ensures { OnOk result (events.new.items ≡ events.old.items
+        ++ event_if (not (is_place old cursor)) (Goto (pos 1) cursor.0 cursor.1)
+        ++ Flush ∷ []) }
+{
+    let is_moved = !is_place(old, cursor);
+    let place = Redraw::Goto {
+        grid: 1,
+        row: cursor.0,
+        col: cursor.1,
+    };
+    push_if(events, is_moved, place)?;
+    events.push(Redraw::Flush)?;
+    Ok(())
+}
+
 // Tells what differs, and gives what was told then.
 fn told_next(
     alloc: Global,
@@ -182,17 +256,11 @@ fn told_next(
     picture: Picture,
 ) -> Result<(Vec<Redraw>, ToldScreen), AllocError>
     requires drawn { IsDrawn picture }
-    ensures events { IfOk result (λ next. next.0.items ≡ batch old picture) }
-    ensures told { IfOk result (λ next. next.1 ≡ told_after old picture) }
-    ensures shows { IfOk result (λ next. ShowsWanted old picture) }
+    ensures { IfOk result (λ next. IsToldNext old picture next.0.items next.1) }
 {
-    let (old_size, old_colours, old_cursor) = (old.size, old.colours, old.cursor);
-    let old_views = old.views;
-    let old_rows = old.rows;
-    let mut attrs = old.attrs;
     let width = picture.screen.width();
     let height = picture.screen.height();
-    let is_resized = !is_size(old_size, width, height);
+    let is_resized = !is_size(old.size, width, height);
     let mut events = Vec::new(alloc);
     let size = Redraw::Resize {
         grid: 1,
@@ -200,47 +268,32 @@ fn told_next(
         height,
     };
     push_if(&mut events, is_resized, size)?;
-    let colours = picture.colours;
-    let is_recoloured = !are_same_colours(old_colours, colours);
-    push_if(
-        &mut events,
-        is_recoloured,
-        Redraw::DefaultColors { colours },
-    )?;
-    let shifts = moves(alloc, is_resized, old_views.as_slice(), &picture)?;
-    let before = rows_to_move(alloc, is_resized, old_rows, &picture)?;
-    let mut rows = rows_after_shifts(alloc, before, shifts.as_slice())?;
-    let (cursor, views) = (picture.cursor, picture.views);
+    push_colours(&mut events, old.colours, picture.colours)?;
+    let moved = moves(alloc, is_resized, old.views.as_slice(), &picture)?;
+    let shifts = moved.as_slice();
+    let before = rows_to_move(alloc, is_resized, old.rows, &picture)?;
+    let mut rows = rows_after_shifts(alloc, before, shifts)?;
+    let mut attrs = old.attrs;
+    let views = picture.views;
     let lent = lend(alloc, picture.screen.rows())?;
-    let drawn = lent.as_slice();
-    let dues = dues_of(alloc, attrs.as_slice(), &[], drawn, rows.as_slice())?;
-    let count = attrs.len();
-    add_attrs_of_rows(&mut attrs, dues.as_slice(), drawn)?;
-    push_attrs(&mut events, attrs.as_slice(), count)?;
-    push_if(&mut events, is_resized, Redraw::Clear { grid: 1 })?;
-    push_scrolls(&mut events, shifts.as_slice())?;
-    push_rows(
+    push_screen(
         alloc,
         &mut events,
         &mut rows,
-        attrs.as_slice(),
-        dues.as_slice(),
-        drawn,
+        &mut attrs,
+        is_resized,
+        shifts,
+        &[],
+        lent.as_slice(),
     )?;
-    let is_moved = !is_place(cursor_before(is_resized, old_cursor), cursor);
-    let place = Redraw::Goto {
-        grid: 1,
-        row: cursor.0,
-        col: cursor.1,
-    };
-    push_if(&mut events, is_moved, place)?;
-    events.push(Redraw::Flush)?;
+    let cursor = cursor_before(is_resized, old.cursor);
+    push_end(&mut events, cursor, picture.cursor)?;
     let told = ToldScreen {
         size: Some((width, height)),
         rows,
         attrs,
-        colours: Some(colours),
-        cursor: Some(cursor),
+        colours: Some(picture.colours),
+        cursor: Some(picture.cursor),
         views,
     };
     Ok((events, told))
@@ -260,50 +313,29 @@ fn told_of_sketch(
     requires views { views.items ≡ views_of scene.now.panes.items }
     requires sketch { IsSketchOf old sketch.now.shifts.items sketch.now.flags.items
         (lent_rows sketch.now.drawn.items) scene.now }
-    ensures events { IfOk result (λ next. next.0.items ≡ batch old (picture_of scene.now)) }
-    ensures told { IfOk result (λ next. next.1 ≡ told_after old (picture_of scene.now)) }
-    ensures shows { IfOk result (λ next. ShowsWanted old (picture_of scene.now)) }
+    ensures { IfOk result (λ next. IsToldNext old (picture_of scene.now) next.0.items next.1) }
 {
-    let (old_colours, old_cursor) = (old.colours, old.cursor);
     let shifts = sketch.shifts.as_slice();
     let mut rows = rows_after_shifts(alloc, old.rows, shifts)?;
     let mut attrs = old.attrs;
-    let flags = sketch.flags.as_slice();
-    let drawn = sketch.drawn.as_slice();
     let mut events = Vec::new(alloc);
-    let colours = scene.colours;
-    let is_recoloured = !are_same_colours(old_colours, colours);
-    push_if(
-        &mut events,
-        is_recoloured,
-        Redraw::DefaultColors { colours },
-    )?;
-    let dues = dues_of(alloc, attrs.as_slice(), flags, drawn, rows.as_slice())?;
-    let count = attrs.len();
-    add_attrs_of_rows(&mut attrs, dues.as_slice(), drawn)?;
-    push_attrs(&mut events, attrs.as_slice(), count)?;
-    push_scrolls(&mut events, shifts)?;
-    push_rows(
+    push_colours(&mut events, old.colours, scene.colours)?;
+    push_screen(
         alloc,
         &mut events,
         &mut rows,
-        attrs.as_slice(),
-        dues.as_slice(),
-        drawn,
+        &mut attrs,
+        false,
+        shifts,
+        sketch.flags.as_slice(),
+        sketch.drawn.as_slice(),
     )?;
-    let is_moved = !is_place(old_cursor, cursor);
-    let place = Redraw::Goto {
-        grid: 1,
-        row: cursor.0,
-        col: cursor.1,
-    };
-    push_if(&mut events, is_moved, place)?;
-    events.push(Redraw::Flush)?;
+    push_end(&mut events, old.cursor, cursor)?;
     let told = ToldScreen {
         size: Some((scene.width, scene.height)),
         rows,
         attrs,
-        colours: Some(colours),
+        colours: Some(scene.colours),
         cursor: Some(cursor),
         views,
     };

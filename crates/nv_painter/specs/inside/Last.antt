@@ -1,5 +1,5 @@
 -- inside: the scene that was painted last, and what a later one keeps of it.
-use Rattle.std.specs.Prelude.{◌≡◌, ◌<◌, ◌^◌, Bool, true, List, [], All, length, Option, Some, None}
+use Rattle.std.specs.Prelude.{◌≡◌, ◌<◌, ◌^◌, Bool, true, List, All, length, Option, Some, None}
 use Rattle.nv_hl.specs.declared.cell.Cell.{Cell}
 use Rattle.nv_linegrid.specs.Batch.{is_size, told_after}
 use Rattle.nv_linegrid.specs.Scrolls.{Shift, rows_after_shifts, shifts_between}

@@ -1,5 +1,5 @@
 -- inside: windows whose text moved.
-use Rattle.std.specs.Prelude.{◌≡◌, ℕ, ℤ, pos, neg_ℤ, ◌+◌, ◌^◌, ◌<◌, Bool, false, ◌&&◌, nat_le, nat_lt, if◌then◌else◌, List, [], ◌∷◌, get_or, Option}
+use Rattle.std.specs.Prelude.{◌≡◌, ℕ, ℤ, pos, neg_ℤ, ◌+◌, ◌-◌, ◌^◌, ◌<◌, Bool, false, ◌&&◌, nat_le, nat_lt, if◌then◌else◌, List, [], ◌∷◌, get_or, length, replicate, Option, None}
 use Rattle.nv_hl.specs.Cells.{Screen}
 use Rattle.nv_linegrid.specs.Client.{Shown, ShownRows, cells_from, row_between, row_from}
 use Rattle.nv_linegrid.specs.Scrolls.{Shift, shifts_between}
@@ -23,6 +23,29 @@ row_after_shift s rows k =
     row_between s.left s.right (cells_from rows (row_from s.top s.bot s.rows k)) 0
     (get_or rows k [])
     else get_or rows k []
+
+-- inside: each row has so many cells
+abbrev pub AreWide : ShownRows → ℕ → Type 0
+AreWide rows width = (k : ℕ) → k < length rows → length (get_or rows k []) ≡ width
+
+-- inside: the place of the row that comes to row k where those from top to before end move up by n,
+-- and those that leave come in below
+abbrev pub turned_from : ℕ → ℕ → ℕ → ℕ → ℕ
+turned_from top end n k =
+    if nat_le top k && nat_lt k end
+    then if nat_lt (k + n) end then k + n else k + n - (end - top)
+    else k
+
+-- inside: rows after such a turn
+pub record AreTurned (rows turned : ShownRows) (top end n : ℕ) : Type 0 where
+  pub count : length turned ≡ length rows
+  pub comes : (k : ℕ) → get_or turned k [] ≡ get_or rows (turned_from top end n k) []
+
+-- inside: rows of which those from one to before another are unknown
+pub record AreForgotten (rows after : ShownRows) (from to width : ℕ) : Type 0 where
+  pub count : length after ≡ length rows
+  pub cells : (k : ℕ) → get_or after k []
+      ≡ (if nat_le from k && nat_lt k to then replicate width None else get_or rows k [])
 
 -- inside: no shift moves a row
 abbrev pub StaysIn : List Shift → ℕ → Type 0

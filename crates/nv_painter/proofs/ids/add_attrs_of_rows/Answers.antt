@@ -1,4 +1,4 @@
-use Rattle.std.proofs.Common.{◌≡◌, ◌∙◌, [], None, arith, get_or}
+use Rattle.std.proofs.Common.{arith, get_or}
 use Rattle.std.proofs.lemmas.List.{length-map}
 use Rattle.nv_linegrid.specs.Told.{with_attrs_of_rows}
 use Rattle.nv_painter.specs.inside.Lent.{lent_cells, lent_rows}

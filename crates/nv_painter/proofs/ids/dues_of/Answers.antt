@@ -1,4 +1,4 @@
-use Rattle.std.proofs.Common.{◌≡◌, ◌++◌, ◌∷◌, ◌+◌, ◌∙◌, List, Option, [], None, ap, arith, get_or, length, length-append, rules, subst, sym}
+use Rattle.std.proofs.Common.{◌≡◌, ◌++◌, ◌∷◌, ◌+◌, ◌∙◌, List, Option, [], ap, arith, get_or, length, length-append, rules, subst, sym}
 use Rattle.std.proofs.lemmas.List.{length-map, get_or_default}
 use Rattle.nv_hl.specs.declared.cell.Cell.{Cell}
 use Rattle.nv_linegrid.specs.Client.{Shown}

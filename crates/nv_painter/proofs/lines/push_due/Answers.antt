@@ -1,7 +1,6 @@
-use Rattle.std.proofs.Common.{◌≡◌, ◌<◌, ◌≤◌, ◌+◌, ◌-◌, ◌++◌, ◌∷◌, [], ◌∙◌, append-nil, ap, arith, drop, length, map, min, rules, subst, sym, take}
+use Rattle.std.proofs.Common.{◌≡◌, ◌<◌, ◌≤◌, ◌+◌, ◌-◌, ◌++◌, ◌∙◌, append-nil, ap, arith, drop, length, map, min, rules, subst, sym, take}
 use Rattle.std.proofs.lemmas.List.{length-map, length-drop, length-take-le}
-use Rattle.nv_linegrid.specs.Client.{row_with}
-use Rattle.nv_linegrid.specs.Rows.{end_due, first_due, line_of_row}
+use Rattle.nv_linegrid.specs.Rows.{end_due, first_due}
 use Rattle.nv_linegrid.specs.Told.{shown_cell}
 use Rattle.nv_painter.proofs.DueLemmas.{due_end, due_first, due_line, due_row, none_due_line, none_due_row}
 use Rattle.nv_painter.proofs.lines.push_due.Goals as goal

@@ -1,4 +1,4 @@
-use Rattle.std.proofs.Common.{◌≡◌, ℕ, ◌++◌, ◌∙◌, List, Option, Some, append-nil, ap, map, subst, sym}
+use Rattle.std.proofs.Common.{ℕ, ◌++◌, ◌∙◌, List, Option, Some, append-nil, ap, map, subst, sym}
 use Rattle.nv_hl.specs.declared.cell.Cell.{Cell}
 use Rattle.nv_linegrid.specs.Rows.{line_of_row}
 use Rattle.nv_linegrid.specs.Told.{shown_cell}

@@ -1,4 +1,4 @@
-use Rattle.std.proofs.Common.{◌≡◌, ◌≤◌, ◌<◌, ◌&&◌, ltb, leb, ℕ, true, false, get_or, length}
+use Rattle.std.proofs.Common.{◌≡◌, ◌&&◌, ltb, leb, ℕ, true, false, get_or, length}
 use Rattle.nv_painter.proofs.scrolling.clear_rows.Given as goal
 
 abbrev pub invariant-loop-k : goal.invariant-loop-k

@@ -1,8 +1,7 @@
-use Rattle.std.proofs.Common.{◌≡◌, ◌<◌, ◌≤◌, ◌^◌, ◌∙◌, ℕ, [], All, Bool, List, ap, arith, false, get_or, length, rules, subst, sym, true}
+use Rattle.std.proofs.Common.{◌≡◌, ◌<◌, ◌^◌, ◌∙◌, ℕ, [], All, ap, arith, false, get_or, length, rules, subst, sym, true}
 use Rattle.std.proofs.lemmas.List.{length-map}
-use Rattle.nv_hl.specs.declared.cell.Cell.{Cell}
 use Rattle.nv_linegrid.specs.Batch.{is_size}
-use Rattle.nv_linegrid.specs.Scrolls.{Shift, rows_after_shifts, shifts_between}
+use Rattle.nv_linegrid.specs.Scrolls.{rows_after_shifts, shifts_between}
 use Rattle.nv_linegrid.specs.Told.{AreSized}
 use Rattle.nv_screen.specs.Drawing.{drawn_rows}
 use Rattle.nv_screen.proofs.WholeScreens.{screens_are_whole}

@@ -1,7 +1,7 @@
 use Rattle.std.proofs.Common.{◌≡◌, ◌++◌, drop}
 use Rattle.nv_linegrid.specs.Client.{scrolled_from}
 use Rattle.nv_linegrid.specs.Scrolls.{rows_after_shift}
-use Rattle.nv_painter.proofs.scrolling.rows_after_shift.Given as goal
+use Rattle.nv_painter.proofs.scrolling.copied_rows.Given as goal
 
 abbrev pub invariant-loop-k : goal.invariant-loop-k
 invariant-loop-k l =
