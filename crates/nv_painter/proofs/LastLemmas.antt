@@ -1,7 +1,7 @@
 -- The scene that was painted last.
-use Rattle.std.proofs.Common.{◌≡◌, ◌<◌, ◌≤◌, ℕ, zero, suc, pos, List, [], ◌∷◌, ◌++◌, length, map, get_or, Bool, true, false, not, Option, Some, refl, ap, sym, subst, ◌∙◌, arith, ⊎_elim}
+use Rattle.std.proofs.Common.{◌≡◌, ◌<◌, ◌≤◌, ℕ, zero, suc, pos, List, [], ◌∷◌, ◌++◌, length, map, get_or, Bool, true, false, not, Option, Some, refl, ap, sym, subst, ◌∙◌, arith, ◌⊎◌, ⊎_elim}
 use Rattle.std.proofs.lemmas.Bool.{cases_lt}
-use Rattle.std.proofs.lemmas.List.{get_or_past}
+use Rattle.std.proofs.lemmas.List.{length-map, get_or_past}
 use Rattle.std.specs.List.{AllByRecursion}
 use Rattle.nv_hl.specs.declared.attribute.Attr.{Attr}
 use Rattle.nv_hl.specs.declared.cell.Cell.{Cell}
@@ -10,13 +10,15 @@ use Rattle.nv_linegrid.specs.declared.event.Redraw.TheVariants.{DefaultColors, G
 use Rattle.nv_linegrid.specs.Batch.{attrs_after, event_if, is_place, is_resized, is_size, same_colours, told_after}
 use Rattle.nv_linegrid.specs.Client.{Shown, ShownRows}
 use Rattle.nv_linegrid.specs.Scrolls.{Shift, rows_after_shifts}
-use Rattle.nv_linegrid.specs.Told.{IsDrawn, IsWhole, Told, View, Wanted, known_rows, shown_cell, shown_rows, with_attrs_of_rows}
+use Rattle.nv_linegrid.specs.Told.{AreSized, IsDrawn, IsWhole, Told, View, Wanted, known_rows, shown_cell, shown_rows, with_attrs_of_rows}
 use Rattle.nv_linegrid.proofs.TableLemmas.{rows_have}
 use Rattle.nv_screen.specs.declared.scene.Scene.{Scene}
 use Rattle.nv_screen.specs.Cursor.{cursor_of_scene}
 use Rattle.nv_painter.specs.Pictures.{picture_of, views_of}
 use Rattle.nv_painter.specs.inside.Last.{IsSketchOf}
-use Rattle.nv_painter.specs.inside.Moving.{StaysIn}
+use Rattle.nv_painter.specs.inside.Lent.{AreLent}
+use Rattle.nv_painter.specs.inside.Moving.{ComesWhole, StaysIn}
+use Rattle.nv_painter.proofs.MovedLemmas.{brought_is, there_is}
 use Rattle.nv_painter.specs.inside.Screens.{IsToldNext, TellsScreen}
 use Rattle.nv_painter.specs.inside.Sketch.{AreDrawn, AreShown, HaveIds, ShowsCells}
 use Rattle.nv_painter.proofs.MoveLemmas.{stays}
@@ -78,6 +80,32 @@ pub steady_are_shown : (t : Told) (w : Wanted) (shifts : List Shift) (flags : Li
 steady_are_shown t w shifts flags screen same steady k e =
     subst (λ (q : List Cell × List (Option Shown)). ShowsCells t.attrs q.0 q.1) (λ i. ((steady k e).0 i, sym (stays shifts t.rows k (steady k e).1) i))
     (last_shows t w k same)
+
+-- so are rows that the only shift brings as they are
+brought_are_shown : (t : Told) (w : Wanted) (shifts : List Shift) (width height k : ℕ) (drawn screen : List (List Cell)) → t ≡ told_after t w
+    → AreSized width height t.rows → length drawn ≡ height → AreLent drawn screen → ComesWhole shifts width w.screen.rows drawn k
+    → ShowsCells t.attrs (get_or screen k []) (get_or (rows_after_shifts shifts t.rows) k [])
+brought_are_shown t w shifts width height k drawn screen same sized high lent c =
+    let row = c.row in
+    let shown = last_shows t w row.from same in
+    let cells : get_or w.screen.rows row.from [] ≡ get_or screen k [] = row.same ∙ lent k row.some in
+    let count : length (get_or t.rows row.from []) ≡ length (get_or drawn k []) =
+    ap length shown.row_is ∙ length-map (map (shown_cell t.attrs) (get_or w.screen.rows row.from [])) Some
+    ∙ length-map (get_or w.screen.rows row.from []) (shown_cell t.attrs) ∙ ap length row.same in
+    let below : k < height = omega (arith, there_is drawn k row.some, high) in
+    let brought = brought_is c.shift width height t.rows k row.from sized c.left c.right row.is below (omega (arith, count, row.some)) in
+    subst (λ (q : List Cell × List (Option Shown)). ShowsCells t.attrs q.0 q.1)
+    (λ i. (cells i, sym (ap (λ ss. get_or (rows_after_shifts ss t.rows) k []) c.only ∙ brought) i)) shown
+
+pub all_are_shown : (t : Told) (w : Wanted) (shifts : List Shift) (width height : ℕ) (before flags : List Bool) (drawn screen : List (List Cell))
+    → t ≡ told_after t w → AreSized width height t.rows → length drawn ≡ height → AreLent drawn screen
+    → ((k : ℕ) → get_or flags k false ≡ true → (get_or before k false ≡ true) ⊎ ComesWhole shifts width w.screen.rows drawn k)
+    → ((k : ℕ) → get_or before k false ≡ true → (get_or w.screen.rows k [] ≡ get_or screen k []) × StaysIn shifts k)
+    → AreShown flags t.attrs screen (rows_after_shifts shifts t.rows)
+all_are_shown t w shifts width height before flags drawn screen same sized high lent either steady k e =
+    ⊎_elim (λ (b : get_or before k false ≡ true). steady_are_shown t w shifts before screen same steady k b)
+    (λ (c : ComesWhole shifts width w.screen.rows drawn k). brought_are_shown t w shifts width height k drawn screen same sized high lent c)
+    (either k e)
 
 pub last_size : (t : Told) (w : Wanted) → t ≡ told_after t w → t.size ≡ Some (w.screen.width, w.screen.height)
 unfolding told_after

@@ -1,5 +1,11 @@
 -- Rows of lines that are lent.
-use Rattle.std.proofs.Common.{◌≡◌, ◌<◌, ◌≤◌, ◌+◌, ◌-◌, ◌*◌, ◌/◌, ◌∙◌, ℕ, List, [], ◌∷◌, get_or, length, take, drop, ap, sym, arith}
+use Rattle.std.specs.Prelude.{IfSome}
+use Rattle.nv_painter.specs.Keys.{cells_of_key, same_line_key}
+use Rattle.nv_painter.specs.declared.key.LentKey.{LentKey}
+use Rattle.nv_painter.specs.declared.lent.LentRow.{LentRow}
+use Rattle.nv_painter.specs.inside.Lent.{IsOfLine, lent_cells, lent_content}
+use Rattle.nv_painter.specs.inside.SameKeys.{key_decides}
+use Rattle.std.proofs.Common.{Some, true, subst, ◌≡◌, ◌<◌, ◌≤◌, ◌+◌, ◌-◌, ◌*◌, ◌/◌, ◌∙◌, ℕ, List, [], ◌∷◌, get_or, length, take, drop, ap, sym, arith}
 use Rattle.nv_hl.specs.declared.cell.Cell.{Cell}
 use Rattle.nv_linedraw.specs.declared.looks.Looks.{Looks}
 use Rattle.nv_screen.specs.declared.scene.Pane.{Pane}
@@ -43,3 +49,18 @@ wide_rows_are s sound plain i p d lt is col width k below =
     ap (λ j. get_or (pane_rows s.looks p) j []) (sym back)
     ∙ wide_text s sound plain i p d lt is (p.rect.row + k)
     (record { col = col; width = width; top = omega arith; bottom = omega (arith, below) })
+
+-- ---- rows of the same line
+
+cells_of_line : (r : LentRow) (k : LentKey) → IsOfLine r → r.line ≡ Some k
+    → lent_cells r ≡ take k.width (drop (r.number * k.width) (cells_of_key (lent_content k)))
+cells_of_line r k of is =
+    subst (λ o. IfSome o (λ k. lent_cells r ≡ take k.width (drop (r.number * k.width) (cells_of_key (lent_content k))))) is of
+
+pub same_rows : (a b : LentRow) (old new : LentKey) → IsOfLine a → IsOfLine b → a.line ≡ Some old → b.line ≡ Some new → a.number ≡ b.number
+    → same_line_key (lent_content old) (lent_content new) ≡ true → lent_cells a ≡ lent_cells b
+same_rows a b old new of_a of_b is_a is_b numbers same =
+    let keys : lent_content old ≡ lent_content new = (key_decides (lent_content old) (lent_content new)).0 same in
+    cells_of_line a old of_a is_a
+    ∙ (λ i. take (keys i).width (drop (numbers i * (keys i).width) (cells_of_key (keys i))))
+    ∙ sym (cells_of_line b new of_b is_b)

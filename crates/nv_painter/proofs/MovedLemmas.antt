@@ -1,5 +1,6 @@
 -- Rows that are moved whole.
-use Rattle.std.proofs.Common.{◌≡◌, ℕ, zero, suc, pos, neg_ℤ, ◌+◌, ◌-◌, ◌<◌, ◌≤◌, ltb, leb, List, [], ◌∷◌, length, drop, get_or, min, replicate, Bool, true, false, cond, ◌&&◌, Option, None, refl, ap, sym, ◌∙◌, arith, inl, inr}
+use Rattle.std.proofs.Common.{◌≡◌, ℕ, zero, suc, pos, neg_ℤ, ◌+◌, ◌-◌, ◌<◌, ◌≤◌, ltb, leb, List, [], ◌∷◌, length, drop, get_or, min, replicate, Bool, true, false, cond, ◌&&◌, Option, None, refl, ap, subst, sym, ◌∙◌, arith, inl, inr}
+use Rattle.std.specs.List.{AllByRecursion}
 use Rattle.std.specs.Result.{OnOk}
 use Rattle.std.specs.declared.result.Result.{Result}
 use Rattle.std.specs.declared.result.Result.TheVariants.{Ok, Err}
@@ -9,7 +10,8 @@ use Rattle.std.proofs.lemmas.List.{drop_all, get_or_default, same_lists}
 use Rattle.nv_linedraw.proofs.LayLemmas.{drop_at}
 use Rattle.nv_linegrid.specs.Client.{Shown, ShownRows, cells_from, row_between, row_from, scrolled_from}
 use Rattle.nv_linegrid.specs.Scrolls.{Shift, rows_after_shift}
-use Rattle.nv_painter.specs.inside.Moving.{AreForgotten, AreTurned, AreWide, row_after_shift}
+use Rattle.nv_linegrid.specs.Told.{AreSized}
+use Rattle.nv_painter.specs.inside.Moving.{AreForgotten, AreTurned, AreWide, ComesFrom, row_after_shift}
 use Rattle.nv_painter.proofs.MoveLemmas.{comes_down, comes_down_none, comes_up, comes_up_none, past_rows}
 
 -- ---- a row between its first column and its last
@@ -54,6 +56,13 @@ scrolled_at s all i (r ∷ rows) (suc k) lt =
     scrolled_at s all (i + 1) rows k (omega (arith, lt))
     ∙ ap (λ j. cond (leb s.top j && ltb j s.bot) (row_between s.left s.right (cells_from all (row_from s.top s.bot s.rows j)) 0 row) row) next
 
+pub after_at : (s : Shift) (rows : ShownRows) (k : ℕ) → k < length rows → get_or (rows_after_shift s rows) k [] ≡ row_after_shift s rows k
+after_at s rows k lt =
+    let here : 0 + k ≡ k = omega arith in
+    let row = get_or rows k [] in
+    scrolled_at s rows 0 rows k lt
+    ∙ ap (λ j. cond (leb s.top j && ltb j s.bot) (row_between s.left s.right (cells_from rows (row_from s.top s.bot s.rows j)) 0 row) row) here
+
 -- rows that are at each place what a shift brings there are those after the shift
 shifted_is : (s : Shift) (rows after : ShownRows) → length after ≡ length rows
     → ((k : ℕ) → k < length rows → get_or after k [] ≡ row_after_shift s rows k) → after ≡ rows_after_shift s rows
@@ -65,10 +74,7 @@ shifted_is s rows after count all =
     at k d lt =
         let there : k < length rows = omega (arith, lt, count) in
         let below : k < length (rows_after_shift s rows) = omega (arith, there, scrolled_count s rows 0 rows) in
-        let zero_on : 0 + k ≡ k = omega arith in
-        let row = get_or rows k [] in
-        get_or_default after k d [] lt ∙ all k there
-        ∙ sym (scrolled_at s rows 0 rows k there ∙ ap (λ j. cond (leb s.top j && ltb j s.bot) (row_between s.left s.right (cells_from rows (row_from s.top s.bot s.rows j)) 0 row) row) zero_on)
+        get_or_default after k d [] lt ∙ all k there ∙ sym (after_at s rows k there)
         ∙ get_or_default (rows_after_shift s rows) k [] d below
 
 -- ---- which row it is
@@ -303,3 +309,22 @@ moved_down s rows turned after (suc n) top end c left wide down last first count
 pub on_ok_then : {T E P Q : Type 0} (r : Result T E) → (P → Q) → OnOk r P → OnOk r Q
 on_ok_then (Ok x) f p = f p
 on_ok_then (Err e) f p = p
+
+-- ---- a row that a shift brings as it is
+
+wide_at : (width : ℕ) (rows : ShownRows) → AllByRecursion (λ r. length r ≡ width) rows → AreWide rows width
+wide_at width [] all k lt = absurd (omega (arith, lt))
+wide_at width (r ∷ rows) all zero lt = all.0
+wide_at width (r ∷ rows) all (suc k) lt = wide_at width rows all.1 k (omega (arith, lt))
+
+pub there_is : {A : Type 0} (xs : List (List A)) (k : ℕ) → 0 < length (get_or xs k []) → k < length xs
+there_is [] k some = absurd (omega (arith, some))
+there_is (x ∷ xs) zero some = omega arith
+there_is (x ∷ xs) (suc k) some = let more = there_is xs k some in omega (arith, more)
+
+pub brought_is : (s : Shift) (width height : ℕ) (rows : ShownRows) (k from : ℕ) → AreSized width height rows → s.left ≡ 0 → s.right ≡ width
+    → ComesFrom s k from → k < height → 0 < length (get_or rows from []) → get_or (rows_after_shift s rows) k [] ≡ get_or rows from []
+brought_is s width height rows k from sized left right is lt some =
+    let here : k < length rows = omega (arith, lt, sized.high) in
+    let whole : IsWhole s rows = record { left = left; wide = subst (AreWide rows) (sym right) (wide_at width rows sized.wide) } in
+    after_at s rows k here ∙ sym (comes_whole s rows k from whole here (there_is rows from some) is.within (ap (cells_from rows) is.comes))

@@ -1,12 +1,14 @@
 //! Rows of cells that are lent.
 
-ghost use Rattle.nv_painter.specs.inside.Lent.{AreLent, lent_rows};
+ghost use Rattle.nv_painter.specs.Keys.{cells_of_key};
+ghost use Rattle.nv_painter.specs.inside.Lent.{AreLent, IsOfLine, lent_cells, lent_content, lent_rows};
 ghost use Rattle.nv_hl.specs.declared.cell.Cell.{Cell as SpecCell};
 ghost use Rattle.nv_screen.specs.Drawing.{drawn_rows, pane_rows};
 ghost use Rattle.nv_screen.specs.Sound.{IsDrawable, IsSoundScene};
-ghost use Rattle.std.specs.Prelude.{◌≡◌, ◌<◌, ◌≤◌, ◌+◌, ◌*◌, [], List, ℕ, IfOk, drop, get_or, length, take};
+ghost use Rattle.std.specs.Prelude.{◌≡◌, ◌<◌, ◌≤◌, ◌+◌, ◌*◌, [], All, List, ℕ, IfOk, IsTrue, drop, get_or, length, take};
 
 use crate::kept::{KeptLines, lent_key};
+use crate::key::LentKey;
 use nv_hl::{Cell, Row};
 use nv_linedraw::Looks;
 use nv_screen::{Pane, Scene};
@@ -16,6 +18,29 @@ use std::alloc::{AllocError, Global};
 #[derive(Clone, Copy)]
 pub struct LentRow<'a> {
     pub cells: &'a [Cell],
+    /// The line that it is of, where it is of one that is kept.
+    pub line: Option<LentKey<'a>>,
+    /// Its number among the rows of the line.
+    pub number: usize,
+}
+
+/// Whether both are the same row of the same line, and have cells.
+pub fn is_same_row(a: &LentRow, b: &LentRow) -> bool
+    requires a { IsOfLine a.now }
+    requires b { IsOfLine b.now }
+    ensures same { IsTrue result → lent_cells a.now ≡ lent_cells b.now }
+    ensures some { IsTrue result → 0 < length (lent_cells b.now) }
+{
+    if b.cells.is_empty() || a.number != b.number {
+        return false;
+    }
+    let Some(old) = a.line else {
+        return false;
+    };
+    let Some(new) = b.line else {
+        return false;
+    };
+    old == new
 }
 
 /// Rows, lent.
@@ -24,7 +49,11 @@ pub fn lend(alloc: Global, rows: &[Row]) -> Result<Vec<LentRow<'_>>, AllocError>
 {
     let mut lent = Vec::with_capacity(alloc, rows.len())?;
     for row in rows {
-        lent.push(LentRow { cells: row.cells() })?;
+        lent.push(LentRow {
+            cells: row.cells(),
+            line: None,
+            number: 0,
+        })?;
     }
     Ok(lent)
 }
@@ -34,41 +63,51 @@ fn no_rows<'a>(alloc: Global, count: u32) -> Result<Vec<LentRow<'a>>, AllocError
     ensures count { IfOk result (λ rows. length rows.items ≡ count) }
     ensures none { IfOk result (λ rows. (screen : List (List SpecCell))
         → AreLent (lent_rows rows.items) screen) }
+    ensures lines { IfOk result (λ rows. All IsOfLine rows.items) }
 {
     let mut rows = Vec::with_capacity(alloc, count as usize)?;
     for _ in 0..count {
-        rows.push(LentRow { cells: &[] })?;
+        rows.push(LentRow {
+            cells: &[],
+            line: None,
+            number: 0,
+        })?;
     }
     Ok(rows)
 }
 
-// Lends the rows of a line from a row of the screen on, each so many cells wide.
+// Lends the rows of a line from a row of the screen on.
 fn lend_line<'a>(
     rows: &mut Vec<LentRow<'a>>,
+    key: LentKey<'a>,
     cells: &'a [Cell],
-    width: usize,
     at: usize,
     count: usize,
 )
-    requires { count * width ≤ length cells.now }
+    requires { count * key.width ≤ length cells.now }
     ensures count { length rows.new.items ≡ length rows.old.items }
     ensures lent { (screen : List (List SpecCell))
         → ((k : ℕ) → k < count
-        → take width (drop (k * width) cells.now) ≡ get_or screen (at + k) [])
+        → take key.entry.width (drop (k * key.entry.width) cells.now) ≡ get_or screen (at + k) [])
         → AreLent (lent_rows rows.old.items) screen
         → AreLent (lent_rows rows.new.items) screen }
+    ensures lines { cells.now ≡ cells_of_key (lent_content key.entry)
+        → All IsOfLine rows.old.items → All IsOfLine rows.new.items }
 {
+    let width = key.width as usize;
     let end = count.min(rows.len().saturating_sub(at));
     for k in 0..end {
         let from = k * width;
         rows[at + k] = LentRow {
             cells: &cells[from..from + width],
+            line: Some(key),
+            number: k,
         };
     }
 }
 
 // Lends the rows of a window's text as far as its lines are kept and all rows of them fit.
-fn lend_pane<'a>(rows: &mut Vec<LentRow<'a>>, kept: &'a KeptLines, pane: &Pane, looks: &Looks)
+fn lend_pane<'a>(rows: &mut Vec<LentRow<'a>>, kept: &'a KeptLines, pane: &'a Pane, looks: &'a Looks)
     requires { IsDrawable pane.now }
     ensures count { length rows.new.items ≡ length rows.old.items }
     ensures lent { (screen : List (List SpecCell))
@@ -76,6 +115,7 @@ fn lend_pane<'a>(rows: &mut Vec<LentRow<'a>>, kept: &'a KeptLines, pane: &Pane, 
         → get_or (pane_rows looks.now pane.now) k [] ≡ get_or screen (pane.now.rect.row + k) [])
         → AreLent (lent_rows rows.old.items) screen
         → AreLent (lent_rows rows.new.items) screen }
+    ensures lines { All IsOfLine rows.old.items → All IsOfLine rows.new.items }
 {
     let width = pane.rect.width as usize;
     let mut room = pane.rect.height;
@@ -89,7 +129,7 @@ fn lend_pane<'a>(rows: &mut Vec<LentRow<'a>>, kept: &'a KeptLines, pane: &Pane, 
             return;
         }
         let at = pane.rect.row as usize + (pane.rect.height - room) as usize;
-        lend_line(rows, cells, width, at, count);
+        lend_line(rows, key, cells, at, count);
         room -= count as u32;
     }
 }
@@ -99,8 +139,8 @@ fn lend_wide<'a>(
     rows: &mut Vec<LentRow<'a>>,
     kept: &'a KeptLines,
     width: u32,
-    pane: &Pane,
-    looks: &Looks,
+    pane: &'a Pane,
+    looks: &'a Looks,
 )
     requires { IsDrawable pane.now }
     ensures count { length rows.new.items ≡ length rows.old.items }
@@ -110,6 +150,7 @@ fn lend_wide<'a>(
         → get_or (pane_rows looks.now pane.now) k [] ≡ get_or screen (pane.now.rect.row + k) [])
         → AreLent (lent_rows rows.old.items) screen
         → AreLent (lent_rows rows.new.items) screen }
+    ensures lines { All IsOfLine rows.old.items → All IsOfLine rows.new.items }
 {
     if pane.rect.col != 0 {
         return;
@@ -125,11 +166,12 @@ fn lend_wide<'a>(
 pub fn lent_rows<'a>(
     alloc: Global,
     kept: &'a KeptLines,
-    scene: &Scene,
+    scene: &'a Scene,
 ) -> Result<Vec<LentRow<'a>>, AllocError>
     requires { IsSoundScene scene.now }
     ensures count { IfOk result (λ rows. length rows.items ≡ scene.now.height) }
     ensures lent { IfOk result (λ rows. AreLent (lent_rows rows.items) (drawn_rows scene.now)) }
+    ensures lines { IfOk result (λ rows. All IsOfLine rows.items) }
 {
     let mut rows = no_rows(alloc, scene.height)?;
     if !scene.patches.is_empty() {

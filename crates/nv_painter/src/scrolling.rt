@@ -2,9 +2,9 @@
 
 ghost use Rattle.nv_linegrid.specs.Client.{cells_from, row_between, row_from};
 ghost use Rattle.nv_linegrid.specs.Scrolls.{is_same_text, rows_after_shift, rows_after_shifts, scroll_of, shift_between, shift_by, shift_in, shifts_between};
-ghost use Rattle.nv_painter.specs.inside.Moving.{AreForgotten, AreTurned, AreWide, EndsInReach, StaysIn, row_after_shift, rows_up};
+ghost use Rattle.nv_painter.specs.inside.Moving.{AreForgotten, AreTurned, AreWide, ComesFrom, EndsInReach, StaysIn, row_after_shift, rows_up};
 ghost use Rattle.std.specs.Ordering.{int_eq};
-ghost use Rattle.std.specs.Prelude.{◌≡◌, ◌<◌, ◌≤◌, ◌-◌, ◌++◌, ◌∷◌, ◌&&◌, ◌==◌, ℕ, [], All, IfOk, IsTrue, MatchOption, None, OnOk, false, get_or, if◌then◌else◌, length, map, min, nat_le, nat_lt, sum, take, true};
+ghost use Rattle.std.specs.Prelude.{◌≡◌, ◌<◌, ◌≤◌, ◌-◌, ◌++◌, ◌∷◌, ◌&&◌, ◌==◌, ℕ, [], All, IfOk, IfSome, IsTrue, MatchOption, None, OnOk, false, get_or, if◌then◌else◌, length, map, min, nat_le, nat_lt, sum, take, true};
 
 use crate::shown::{ShownCell, ShownRow};
 use crate::view::PaneView;
@@ -355,6 +355,34 @@ pub fn shifts_between(
         }
     }
     Ok(shifts)
+}
+
+/// Whether a shift is as wide as a screen.
+pub fn is_whole(shift: &Shift, width: u32) -> bool
+    ensures left { IsTrue result → shift.now.left ≡ 0 }
+    ensures right { IsTrue result → shift.now.right ≡ width }
+{
+    shift.left == 0 && shift.right == width
+}
+
+/// From which row the one at a place comes, where a shift moves both.
+pub fn origin_of(shift: &Shift, row: usize) -> Option<usize>
+    ensures { IfSome result (λ from. ComesFrom shift.now row from) }
+{
+    if !has_row(shift, row) {
+        return None;
+    }
+    let count = shift.rows as usize;
+    if shift.is_down && count > 0 {
+        if shift.top as usize + count <= row {
+            return Some(row - count);
+        }
+        return None;
+    }
+    if row + count < shift.bot as usize {
+        return Some(row + count);
+    }
+    None
 }
 
 // Clears the flags of rows, from one to before another.

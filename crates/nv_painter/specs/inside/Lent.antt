@@ -1,10 +1,10 @@
 -- inside: keys and rows that are lent.
-use Rattle.std.specs.Prelude.{◌≡◌, ◌<◌, ℕ, List, [], ◌∷◌, get_or, length, map}
+use Rattle.std.specs.Prelude.{◌≡◌, ◌<◌, ◌*◌, ℕ, IfSome, List, [], ◌∷◌, drop, get_or, length, map, take}
 use Rattle.std.specs.Hash.{u32}
 use Rattle.nv_hl.specs.declared.cell.Cell.{Cell}
 use Rattle.nv_painter.specs.declared.key.LentKey.{LentKey}
 use Rattle.nv_painter.specs.declared.lent.LentRow.{LentRow}
-use Rattle.nv_painter.specs.Keys.{LineKey}
+use Rattle.nv_painter.specs.Keys.{LineKey, cells_of_key}
 
 -- inside: the key that is lent
 abbrev pub lent_content : LentKey → LineKey
@@ -27,6 +27,12 @@ lent_cells r = r.cells.now
 -- inside: the cells of rows that are lent
 abbrev pub lent_rows : List LentRow → List (List Cell)
 lent_rows rows = map lent_cells rows
+
+-- inside: a row that is of a line is the row of it that has this number
+abbrev pub IsOfLine : LentRow → Type 0
+IsOfLine r =
+    IfSome r.line
+    (λ k. lent_cells r ≡ take k.width (drop (r.number * k.width) (cells_of_key (lent_content k))))
 
 -- inside: each row that has cells is the screen's
 abbrev pub AreLent : List (List Cell) → List (List Cell) → Type 0

@@ -1,5 +1,6 @@
 -- inside: windows whose text moved.
-use Rattle.std.specs.Prelude.{◌≡◌, ℕ, ℤ, pos, neg_ℤ, ◌+◌, ◌-◌, ◌^◌, ◌<◌, Bool, false, ◌&&◌, nat_le, nat_lt, if◌then◌else◌, List, [], ◌∷◌, get_or, length, replicate, Option, None}
+use Rattle.std.specs.Prelude.{◌≡◌, ℕ, ℤ, pos, neg_ℤ, ◌+◌, ◌-◌, ◌^◌, ◌<◌, Bool, false, true, ◌&&◌, nat_le, nat_lt, if◌then◌else◌, List, [], ◌∷◌, get_or, length, replicate, Option, Some, None}
+use Rattle.nv_hl.specs.declared.cell.Cell.{Cell}
 use Rattle.nv_hl.specs.Cells.{Screen}
 use Rattle.nv_linegrid.specs.Client.{Shown, ShownRows, cells_from, row_between, row_from}
 use Rattle.nv_linegrid.specs.Scrolls.{Shift, shifts_between}
@@ -23,6 +24,11 @@ row_after_shift s rows k =
     row_between s.left s.right (cells_from rows (row_from s.top s.bot s.rows k)) 0
     (get_or rows k [])
     else get_or rows k []
+
+-- inside: a shift moves a row to a place
+pub record ComesFrom (s : Shift) (k from : ℕ) : Type 0 where
+  pub within : (nat_le s.top k && nat_lt k s.bot) ≡ true
+  pub comes : row_from s.top s.bot s.rows k ≡ Some from
 
 -- inside: each row has so many cells
 abbrev pub AreWide : ShownRows → ℕ → Type 0
@@ -61,3 +67,19 @@ moves Bool.false olds news = shifts_between olds news
 abbrev pub rows_to_move : Bool → ShownRows → Screen → ShownRows
 rows_to_move Bool.true rows s = blank_shown_rows s.width s.height
 rows_to_move Bool.false rows s = rows
+
+-- inside: the row at a place is that which a shift brings there, and it has cells
+pub record ComesAsIs (s : Shift) (before drawn : List (List Cell)) (k : ℕ) : Type 0 where
+  pub from : ℕ
+  pub is : ComesFrom s k from
+  pub same : get_or before from [] ≡ get_or drawn k []
+  pub some : 0 < length (get_or drawn k [])
+
+-- inside: the same of the only shift, which is as wide as the screen
+pub record ComesWhole (shifts : List Shift) (width : ℕ) (before drawn : List (List Cell)) (k : ℕ)
+    : Type 0 where
+  pub shift : Shift
+  pub only : shifts ≡ shift ∷ []
+  pub left : shift.left ≡ 0
+  pub right : shift.right ≡ width
+  pub row : ComesAsIs shift before drawn k

@@ -1,6 +1,7 @@
-use Rattle.std.proofs.Common.{◌≡◌, ◌≤◌, ◌+◌, ◌-◌, ◌∙◌, ◌/◌, ◌∷◌, [], refl, sym, ap, drop, get_or, length, rules, arith}
+use Rattle.std.proofs.Common.{◌≡◌, ◌≤◌, ◌+◌, ◌-◌, ◌*◌, ◌∙◌, ◌/◌, take, ◌∷◌, [], refl, sym, ap, drop, get_or, length, rules, arith}
 use Rattle.std.proofs.lemmas.List.{drop_more}
 use Rattle.nv_screen.specs.Drawing.{pane_rows, scene_cells}
+use Rattle.nv_painter.specs.Keys.{LineKey}
 use Rattle.nv_painter.proofs.LentLemmas.{line_rows_are, rows_below_are}
 use Rattle.nv_painter.proofs.lent.lend_pane.Goals as goal
 
@@ -21,15 +22,18 @@ loop-line-preserved c =
     let split : drop k lines ≡ line ∷ drop (k + 1) lines =
     drop_more lines k line c.loop-line-test.true ∙ ap (λ l. l ∷ drop (k + 1) lines) (sym c.line-item.is) in
     let rest = drop (k + 1) lines in
+    let width_is : c.lent_key-key.result.width ≡ w = ap (λ (k : LineKey). k.width) c.lent_key-key.ensures in
     record {
       count = c.lend_line.ensures.count ∙ at.invariant.count;
       room = omega (arith, at.invariant.room);
       left = rows_below_are w p.tabstop looks p.rect.height room n line rest (drop k lines) cells (pane_rows looks p) split is refl fits
           at.invariant.room at.invariant.left;
       lent = λ screen all old. c.lend_line.ensures.lent screen
-          (λ j lt. line_rows_are w p.tabstop looks p.rect.height room n line rest (drop k lines) cells (pane_rows looks p) split is refl fits
+          (λ j lt. (λ i. take (width_is i) (drop (j * width_is i) cells))
+          ∙ line_rows_are w p.tabstop looks p.rect.height room n line rest (drop k lines) cells (pane_rows looks p) split is refl fits
           at.invariant.room at.invariant.left j lt
           ∙ all (p.rect.height - room + j) (omega (arith, lt, fits, at.invariant.room))
           ∙ ap (λ i. get_or screen i []) (omega arith))
           (at.invariant.lent screen all old);
+      lines = λ all. c.lend_line.ensures.lines (search rules) (at.invariant.lines all);
     }

@@ -20,4 +20,5 @@ loop-pane-preserved c =
       lent = c.lend_wide.ensures.lent (drawn_rows s)
           (λ col width k below. wide_rows_are s c.requires (empty_list s.patches.items none) n p p lt there col width k below)
           at.invariant.lent;
+      lines = c.lend_wide.ensures.lines at.invariant.lines;
     }

@@ -9,7 +9,7 @@ use Rattle.nv_painter.specs.Pictures.{picture_of, views_of}
 use Rattle.nv_painter.specs.inside.Lent.{lent_cells, lent_rows}
 use Rattle.nv_painter.specs.inside.Moving.{EndsInReach, StaysIn}
 use Rattle.nv_painter.proofs.DueLemmas.{lent_are_short, same_width, shifts_keep_sized}
-use Rattle.nv_painter.proofs.LastLemmas.{all_drawn, steady_are_shown}
+use Rattle.nv_painter.proofs.LastLemmas.{all_are_shown, all_drawn}
 use Rattle.nv_painter.proofs.PictureLemmas.{sound_is_shown, views_end_in_reach}
 use Rattle.nv_painter.proofs.sketch.sketch_after.Goals as goal
 
@@ -27,7 +27,8 @@ returns c =
     let t = c.args.told.now in
     let screen = drawn_rows s in
     let whole = screens_are_whole s in
-    let flags = c.clear_moved.new.flags.items in
+    let cleared = c.clear_moved.new.flags.items in
+    let flags = c.flag_moved.new.flags.items in
     let shifts = c.in_ok-shifts.shifts.items in
     let drawn = c.in_ok-drawn.drawn.items in
     let size : is_size t.size s.width s.height ≡ true = search rules in
@@ -38,7 +39,7 @@ returns c =
     let count : length (lent_rows drawn) ≡ length screen =
     length-map drawn lent_cells ∙ c.in_ok-drawn.ensures.count ∙ sym whole.high in
     let there : (k : ℕ) → k < length drawn → get_or flags k false ≡ false → 0 < length (get_or (lent_rows drawn) k []) = search rules in
-    let steady : (k : ℕ) → get_or flags k false ≡ true → (get_or c.in_ok-flags.flags.items k false ≡ true) × StaysIn shifts k = search rules in
+    let steady : (k : ℕ) → get_or cleared k false ≡ true → (get_or c.in_ok-flags.flags.items k false ≡ true) × StaysIn shifts k = search rules in
     record {
       size = size;
       moves = moved;
@@ -46,7 +47,8 @@ returns c =
         high = sym count;
         drawn_is = all_drawn flags (lent_rows drawn) screen count
             (λ k lt e. c.in_ok-drawn.ensures.lent k (there k (omega (arith, lt, length-map drawn lent_cells)) e));
-        shown = steady_are_shown t (picture_of c.args.last.now) shifts flags screen c.requires.last.same
+        shown = all_are_shown t (picture_of c.args.last.now) shifts s.width s.height cleared flags (lent_rows drawn) screen c.requires.last.same
+            sized (count ∙ whole.high) c.in_ok-drawn.ensures.lent (search rules)
             (λ k e. (c.in_ok-flags.ensures.steady k (steady k e).0, (steady k e).1));
         wide = same_width s.width s.height (rows_after_shifts shifts t.rows) screen (shifts_keep_sized s.width s.height shifts t.rows sized)
             whole.high whole.wide;
