@@ -6,6 +6,7 @@ pub mod Newlines
 pub mod Digits
 pub mod Long
 pub mod Splices
+pub mod Strings
 pub mod Passing
 pub mod Deciding
 pub mod Placing

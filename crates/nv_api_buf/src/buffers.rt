@@ -285,16 +285,16 @@ fn may_name(editor: &Editor, live: Live, name: &[u8]) -> Result<(), Fail>
 /// `nvim_buf_set_name`: the name, which no other buffer has unless it is empty.
 pub fn nvim_buf_set_name(
     editor: &mut Editor,
-    args: &mut Args,
+    args: &Args,
     happened: &mut Happened,
 ) -> Result<Value, Fail>
     ensures row { (session : ℕ) → GivesAnswer (nvim_buf_set_name (seen_now editor.old) session
-        (typed_arguments args.old)) result editor.old editor.new happened.old happened.new }
+        (typed_arguments args.now)) result editor.old editor.new happened.old happened.new }
     ensures spelled { IfOk result (λ value. HasSpelling (content value)) }
 {
     let _ = happened.len();
     let live = live_given(editor, args)?;
-    let name = args.take_string(1)?;
+    let name = args.bytes(editor.alloc(), 1)?;
     may_name(editor, live, name.as_slice())?;
     editor.put_name(live.handle, Line::from_bytes(name));
     Ok(Value::Nil)

@@ -1,5 +1,5 @@
 //! The methods by the table of their names.
-ghost use Rattle.std.specs.Prelude.{◌≡◌, IfNone, IfOk, IfSome};
+ghost use Rattle.std.specs.Prelude.{IfOk, IfSome};
 ghost use Rattle.nv_value.specs.View.{content};
 ghost use Rattle.nv_msgpack.specs.Shortest.{HasSpelling};
 ghost use Rattle.nv_args.specs.Args.{typed_arguments};
@@ -30,15 +30,14 @@ pub fn call_method(
     method: Method,
     editor: &mut Editor,
     session: u64,
-    args: &mut Args,
+    args: &Args,
     happened: &mut Happened,
 ) -> Option<Result<Value, Fail>>
-    requires light { AreLightArgs (typed_arguments args.old) }
+    requires light { AreLightArgs (typed_arguments args.now) }
     ensures row { AnswersRow (row_among buffer_rows (method_name method)) (seen_now editor.old)
-        session (typed_arguments args.old) result editor.old editor.new happened.old
+        session (typed_arguments args.now) result editor.old editor.new happened.old
         happened.new }
     ensures spelled { IfSome result (λ given. IfOk given (λ value. HasSpelling (content value))) }
-    ensures kept { IfNone result (args.new ≡ args.old) }
 {
     let _ = happened.len();
     match method {

@@ -145,16 +145,16 @@ fn rows_in_order(alloc: Global, buffer: &Buffer, args: &Args) -> Result<Rows, Fa
 /// `nvim_buf_set_lines`: puts lines in place of those of a range.
 pub fn nvim_buf_set_lines(
     editor: &mut Editor,
-    args: &mut Args,
+    args: &Args,
     happened: &mut Happened,
 ) -> Result<Value, Fail>
     ensures row { (session : ℕ) → GivesAnswer (nvim_buf_set_lines (seen_now editor.old) session
-        (typed_arguments args.old)) result editor.old editor.new happened.old happened.new }
+        (typed_arguments args.now)) result editor.old editor.new happened.old happened.new }
     ensures spelled { IfOk result (λ value. HasSpelling (content value)) }
 {
     let live = live_given(editor, args)?;
     let rows = rows_in_order(editor.alloc(), buffer_at(editor, live), args)?;
-    let strings = args.take_lines(4)?;
+    let strings = args.lines(4);
     let new = new_lines(editor.alloc(), strings)?;
     put_rows(editor, live, rows, new, happened)
 }

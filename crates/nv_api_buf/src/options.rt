@@ -171,7 +171,7 @@ fn live_by(editor: &Editor, pairs: &[Pair]) -> Result<Live, Fail>
 }
 
 /// The name in the first argument, which a fault can tell.
-pub fn name_given(args: &Args) -> &[u8]
+pub fn name_given<'a>(args: &'a Args) -> &'a [u8]
     requires { AreLightArgs (typed_arguments args.now) }
     ensures name { result.now ≡ string_at (typed_arguments args.now) 0 }
     ensures short { length result.now < 2 ^ 31 }

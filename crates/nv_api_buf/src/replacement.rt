@@ -1,6 +1,7 @@
 //! Lines that are put in place of rows, and whether they may be.
-ghost use Rattle.std.specs.Prelude.{◌≡◌, ◌≤◌, ◌<◌, ◌^◌, ◌+◌, ◌<ℤ◌, ◌↔◌, [], true, false, All, length, IfOk, IfSome, IfNone, IsTrue};
+ghost use Rattle.std.specs.Prelude.{◌≡◌, ◌≤◌, ◌<◌, ◌^◌, ◌+◌, ◌<ℤ◌, ◌↔◌, [], true, false, All, length, map, IfOk, IfSome, IfNone, IsTrue};
 ghost use Rattle.std.specs.List.{list_any};
+ghost use Rattle.nv_value.specs.View.{content};
 ghost use Rattle.nv_places.specs.Flat.{flat, lines_of};
 ghost use Rattle.nv_buffer.specs.Splices.{IsNarrowLine};
 ghost use Rattle.nv_args.specs.Texts.{has_newline, lines_put};
@@ -9,25 +10,28 @@ ghost use Rattle.nv_model.specs.Answering.{event_of_splice};
 ghost use Rattle.nv_model.specs.Buffers.{rows_splice, text_after};
 ghost use Rattle.nv_model.specs.Standing.{seen_buffer_now};
 ghost use Rattle.nv_api_buf.specs.Texts.{event_passes};
-ghost use Rattle.nv_api_buf.specs.inside.Parts.{is_longer};
+ghost use Rattle.nv_api_buf.specs.inside.Parts.{is_longer, texts_of};
 ghost use Rattle.nv_api_buf.specs.inside.Deciding.{Leaves, unless_barred, unless_newline};
 
 use crate::limits::{any_of, tick_passes, too_many};
-use nv_args::{Fail, limit_reached, newline_inside, not_modifiable};
+use nv_args::{Fail, bytes_of, limit_reached, newline_inside, not_modifiable};
 use nv_buffer::{Buffer, Line, LineList, Lines};
 use nv_lines::is_line;
 use nv_model::Limits;
-use nv_value::Bytes;
+use nv_value::Value;
 use std::alloc::{AllocError, Global};
 
 // The strings as lines, or nothing where one of them holds a line feed.
-fn lines_from(alloc: Global, strings: Vec<Bytes>) -> Result<Option<LineList>, AllocError>
+fn lines_from(alloc: Global, strings: &[Value]) -> Result<Option<LineList>, AllocError>
     ensures some { IfOk result (λ found. IfSome found
-        (λ lines. (lines ≡ strings.items) × (list_any has_newline strings.items ≡ false))) }
-    ensures none { IfOk result (λ found. IfNone found (list_any has_newline strings.items ≡ true)) }
+        (λ lines. (lines ≡ texts_of (map content strings.now))
+        × (list_any has_newline (texts_of (map content strings.now)) ≡ false))) }
+    ensures none { IfOk result (λ found. IfNone found
+        (list_any has_newline (texts_of (map content strings.now)) ≡ true)) }
 {
     let mut lines = Vec::with_capacity(alloc, strings.len())?;
-    for string in strings {
+    for value in strings {
+        let string = bytes_of(alloc, value)?;
         if !is_line(string.as_slice()) {
             return Ok(None);
         }
@@ -37,10 +41,10 @@ fn lines_from(alloc: Global, strings: Vec<Bytes>) -> Result<Option<LineList>, Al
 }
 
 /// The strings as lines. One that holds a line feed is refused.
-pub fn new_lines(alloc: Global, strings: Vec<Bytes>) -> Result<LineList, Fail>
-    ensures row { (answer : Answer) → Leaves (unless_newline strings.items answer) (λ _. answer)
-        result }
-    ensures lines { IfOk result (λ lines. lines ≡ strings.items) }
+pub fn new_lines(alloc: Global, strings: &[Value]) -> Result<LineList, Fail>
+    ensures row { (answer : Answer) → Leaves
+        (unless_newline (texts_of (map content strings.now)) answer) (λ _. answer) result }
+    ensures lines { IfOk result (λ lines. lines ≡ texts_of (map content strings.now)) }
 {
     match lines_from(alloc, strings)? {
         Some(lines) => Ok(lines),

@@ -208,17 +208,17 @@ fn put_between(
 /// `nvim_buf_set_text`: puts lines between two places, the end column exclusive.
 pub fn nvim_buf_set_text(
     editor: &mut Editor,
-    args: &mut Args,
+    args: &Args,
     happened: &mut Happened,
 ) -> Result<Value, Fail>
     ensures row { (session : ℕ) → GivesAnswer (nvim_buf_set_text (seen_now editor.old) session
-        (typed_arguments args.old)) result editor.old editor.new happened.old happened.new }
+        (typed_arguments args.now)) result editor.old editor.new happened.old happened.new }
     ensures spelled { IfOk result (λ value. HasSpelling (content value)) }
 {
     let alloc = editor.alloc();
     let live = live_given(editor, args)?;
     let span = span_of(alloc, buffer_at(editor, live), args)?;
-    let strings = args.take_lines(5)?;
+    let strings = args.lines(5);
     let new = new_lines(alloc, strings)?;
     put_between(editor, live, span, new, happened)
 }

@@ -1,6 +1,9 @@
--- inside: single lines of text that lies between two places, and lines that are too long.
-use Rattle.std.specs.Prelude.{ℕ, ◌+◌, ◌==◌, Bool, nat_lt, if◌then◌else◌, List, [], ◌++◌, length, take, drop}
+-- inside: single lines of text that lies between two places, lines that are too long, and the
+-- strings of values.
+use Rattle.std.specs.Prelude.{ℕ, ◌+◌, ◌==◌, Bool, nat_lt, if◌then◌else◌, List, [], ◌++◌, length, map, take, drop, unwrap_or}
+use Rattle.nv_value.specs.Content.{Tree}
 use Rattle.nv_places.specs.declared.place.Pos.{Pos}
+use Rattle.nv_args.specs.Arguments.{string_in}
 
 -- what of the line of a row stands between two places
 abbrev pub part_of : List ℕ → ℕ → Pos → Pos → List ℕ
@@ -15,3 +18,10 @@ joined_line line place count front back =
 -- whether a line has more bytes than this
 abbrev pub is_longer : ℕ → List ℕ → Bool
 is_longer most line = nat_lt most (length line)
+
+-- the strings of values; the empty one for a value that is none
+abbrev pub text_in : Tree → List ℕ
+text_in t = unwrap_or (string_in t) []
+
+abbrev pub texts_of : List Tree → List (List ℕ)
+texts_of = map text_in

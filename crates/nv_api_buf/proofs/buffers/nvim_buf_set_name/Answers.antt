@@ -26,7 +26,7 @@ returns-in_err-may_name-clause-row c session =
     let e = c.args.editor.now in
     let n = c.in_ok-live.live.handle in
     let name = string_at (typed_arguments c.args.args.now) 1 in
-    let same : name ≡ c.as_slice.result.now = sym c.in_ok-name.ensures.string ∙ sym c.as_slice.ensures in
+    let same : name ≡ c.as_slice.result.now = sym c.in_ok-name.ensures ∙ sym c.as_slice.ensures in
     let answer : Answer = replied nil (name_put n name ∷ []) [] in
     let p = err_from_is_err_and c.from_residual-in_err-may_name.result c.from_residual-in_err-may_name.ensures.1 in
     rw (p.1, p.2) (gives_refused _ _ c.in_err-may_name.field-0.0 e c.args.happened.now
@@ -38,10 +38,10 @@ returns-clause-row c session =
     let e = c.args.editor.now in
     let n = c.in_ok-live.live.handle in
     let name = string_at (typed_arguments c.args.args.now) 1 in
-    let same : name ≡ c.as_slice.result.now = sym c.in_ok-name.ensures.string ∙ sym c.as_slice.ensures in
+    let same : name ≡ c.as_slice.result.now = sym c.in_ok-name.ensures ∙ sym c.as_slice.ensures in
     let answer : Answer = replied nil (name_put n name ∷ []) [] in
     let fits : FitsSigned w64 n = search rules in
-    let line : c.from_bytes.result ≡ name = c.from_bytes.ensures ∙ c.in_ok-name.ensures.string in
+    let line : c.from_bytes.result ≡ name = c.from_bytes.ensures ∙ c.in_ok-name.ensures in
     gives_quiet _ _ e c.put_name.new.self c.args.happened.now
     (c.in_ok-live.ensures.row (next (seen_now e) name) ∙ ap (λ (x : List ℕ). unless_unnamed (seen_now e) n x answer) same
     ∙ c.in_ok-may_name.ensures.row answer

@@ -14,6 +14,7 @@ use Rattle.nv_editor.specs.Sound.{content_at}
 use Rattle.nv_api_buf.specs.TextRows.{on_places, put_answer}
 use Rattle.nv_api_buf.specs.inside.Deciding.{unless_barred, unless_newline}
 use Rattle.nv_api_buf.proofs.Deciding.{gives_refused, gives_on}
+use Rattle.nv_api_buf.proofs.Strings.{texts-are}
 use Rattle.nv_args.specs.Reading.{Arg}
 use Rattle.nv_model.specs.Standing.{PresentEditor}
 use Rattle.nv_api_buf.proofs.text.nvim_buf_set_text.Goals as goal
@@ -49,7 +50,7 @@ returns-in_err-new-clause-row c session =
     let n = c.in_ok-live.live.handle in
     let b = seen_buffer_now (content_at e n) in
     let span = c.in_ok-span.span in
-    let new = c.in_ok-strings.ensures.lines in
+    let new = texts-are c.lines-strings.result.now _ c.lines-strings.ensures in
     let splice = text_splice b.lines span.start span.stop (or_empty (lines_at args 5)) in
     let rest : Answer = unless_barred e.stage.limits b splice (splice_answer n b splice) in
     let p = err_from_is_err_and c.from_residual-in_err-new.result c.from_residual-in_err-new.ensures.1 in
@@ -66,7 +67,7 @@ returns-clause-row c session =
     let n = c.in_ok-live.live.handle in
     let b = seen_buffer_now (content_at e n) in
     let span = c.in_ok-span.span in
-    let new = c.in_ok-strings.ensures.lines in
+    let new = texts-are c.lines-strings.result.now _ c.lines-strings.ensures in
     let same : c.in_ok-new.new ≡ lines_at args 5 = c.in_ok-new.ensures.lines ∙ new in
     let splice = text_splice b.lines span.start span.stop (or_empty (lines_at args 5)) in
     let rest : Answer = unless_barred e.stage.limits b splice (splice_answer n b splice) in
