@@ -55,7 +55,7 @@ fn rows_of(alloc: Global, buffer: &Buffer, args: &Args) -> Result<Rows, Fail>
 fn strings_from(alloc: Global, lines: LineList) -> Result<Items, AllocError>
     ensures { IfOk result (λ items. contents items.items ≡ strings lines) }
 {
-    let lines = lines.into_vec();
+    let lines = lines.into_vec()?;
     let mut items = Vec::with_capacity(alloc, lines.len())?;
     for line in lines {
         items.push(Value::Text(line.into_bytes()))?;

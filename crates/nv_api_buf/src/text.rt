@@ -138,7 +138,7 @@ fn strings_between(alloc: Global, text: &Lines, start: Pos, stop: Pos) -> Result
     let lines = text.share_rows(start.row as usize, stop.row as usize + 1)?;
     let mut items = Vec::with_capacity(alloc, lines.len())?;
     let mut row = start.row as usize;
-    for line in lines.into_vec() {
+    for line in lines.into_vec()? {
         items.push(Value::Text(part_string(alloc, line, row, start, stop)?))?;
         row += 1;
     }
