@@ -1,5 +1,5 @@
 -- Lemmas on texts and the rows that indices name.
-use Rattle.std.proofs.Common.{◌≡◌, ℕ, suc, ◌+◌, ◌-◌, ◌<◌, ◌≤◌, List, [], ◌∷◌, length, take, drop, map, refl, ap, sym, ◌∙◌, inl, inr, arith}
+use Rattle.std.proofs.Common.{◌≡◌, ℕ, suc, ◌+◌, ◌-◌, ◌<◌, ◌≤◌, List, [], ◌∷◌, length, take, drop, map, refl, ap, sym, ◌∙◌, inl, inr, arith, get_or}
 use Rattle.std.proofs.Math.Seq.{drop-cons}
 use Rattle.std.proofs.lemmas.Bool.{cases_lt}
 use Rattle.std.specs.List.{slice_range}
@@ -40,3 +40,9 @@ range_last lines row to within e = elim (cases_lt row to) [
   | inl less ↦ absurd (let none : suc (length (slice_range lines (row + 1) to)) ≡ 0 = ap (length {A = List ℕ}) (sym (range_cons lines row to less within) ∙ e) in omega arith)
   | inr over ↦ over
 ]
+
+-- a list of one element, which was looked up there
+pub sole : {X : Type 0} (xs : List X) (x : X) → length xs ≡ 1 → x ≡ get_or xs 0 x → x ∷ [] ≡ xs
+sole [] x h is = absurd (let no_number : 0 ≡ 1 = h in omega arith)
+sole (y ∷ []) x h is = ap (λ z. z ∷ []) is
+sole (y ∷ z ∷ zs) x h is = absurd (let no_number : suc (suc (length zs)) ≡ 1 = h in omega arith)

@@ -1,5 +1,5 @@
 //! Lines that are put in place of rows, and whether they may be.
-ghost use Rattle.std.specs.Prelude.{◌≡◌, ◌≤◌, ◌<◌, ◌^◌, ◌+◌, ◌<ℤ◌, ◌↔◌, [], true, false, All, length, map, IfOk, IfSome, IfNone, IsTrue};
+ghost use Rattle.std.specs.Prelude.{◌≡◌, ◌≤◌, ◌<◌, ◌^◌, ◌+◌, ◌<ℤ◌, ◌↔◌, [], ◌∷◌, true, false, All, length, map, IfOk, IfSome, IfNone, IsTrue};
 ghost use Rattle.std.specs.List.{list_any};
 ghost use Rattle.nv_value.specs.View.{content};
 ghost use Rattle.nv_places.specs.Flat.{flat, lines_of};
@@ -10,7 +10,7 @@ ghost use Rattle.nv_model.specs.Answering.{event_of_splice};
 ghost use Rattle.nv_model.specs.Buffers.{rows_splice, text_after};
 ghost use Rattle.nv_model.specs.Standing.{seen_buffer_now};
 ghost use Rattle.nv_api_buf.specs.Texts.{event_passes};
-ghost use Rattle.nv_api_buf.specs.inside.Parts.{is_longer, texts_of};
+ghost use Rattle.nv_api_buf.specs.inside.Parts.{is_longer, text_of_value, texts_of};
 ghost use Rattle.nv_api_buf.specs.inside.Deciding.{Leaves, unless_barred, unless_newline};
 
 use crate::limits::{any_of, tick_passes, too_many};
@@ -40,12 +40,28 @@ fn lines_from(alloc: Global, strings: &[Value]) -> Result<Option<LineList>, Allo
     Ok(Some(LineList::from_vec(lines)))
 }
 
+// The string of a value as a line.
+fn one_line(alloc: Global, value: &Value) -> Result<LineList, Fail>
+    ensures row { (answer : Answer) → Leaves
+        (unless_newline (text_of_value (content value.now) ∷ []) answer) (λ _. answer) result }
+    ensures lines { IfOk result (λ lines. lines ≡ text_of_value (content value.now) ∷ []) }
+{
+    let string = bytes_of(alloc, value)?;
+    if !is_line(string.as_slice()) {
+        return Err(newline_inside(alloc));
+    }
+    Ok(LineList::one(alloc, Line::from_bytes(string)))
+}
+
 /// The strings as lines. One that holds a line feed is refused.
 pub fn new_lines(alloc: Global, strings: &[Value]) -> Result<LineList, Fail>
     ensures row { (answer : Answer) → Leaves
         (unless_newline (texts_of (map content strings.now)) answer) (λ _. answer) result }
     ensures lines { IfOk result (λ lines. lines ≡ texts_of (map content strings.now)) }
 {
+    if let [value] = strings {
+        return one_line(alloc, value);
+    }
     match lines_from(alloc, strings)? {
         Some(lines) => Ok(lines),
         None => Err(newline_inside(alloc)),
@@ -73,7 +89,7 @@ pub fn left_with(
     if lines.len() > 0 {
         return Ok(lines);
     }
-    Ok(LineList::from_vec(vec![in alloc; Line::new(alloc)?]?))
+    Ok(LineList::one(alloc, Line::new(alloc)?))
 }
 
 // Whether one of the lines has more bytes than this.

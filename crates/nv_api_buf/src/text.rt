@@ -151,7 +151,7 @@ fn or_empty(alloc: Global, lines: LineList) -> Result<LineList, AllocError>
     ensures some { IfOk result (λ new. 0 < length new) }
 {
     if lines.is_empty() {
-        return Ok(LineList::from_vec(vec![in alloc; Line::new(alloc)?]?));
+        return Ok(LineList::one(alloc, Line::new(alloc)?));
     }
     Ok(lines)
 }

@@ -20,8 +20,8 @@ abbrev pub is_longer : ℕ → List ℕ → Bool
 is_longer most line = nat_lt most (length line)
 
 -- the strings of values; the empty one for a value that is none
-abbrev pub text_in : Tree → List ℕ
-text_in t = unwrap_or (string_in t) []
+abbrev pub text_of_value : Tree → List ℕ
+text_of_value t = unwrap_or (string_in t) []
 
 abbrev pub texts_of : List Tree → List (List ℕ)
-texts_of = map text_in
+texts_of = map text_of_value

@@ -5,7 +5,7 @@ use Rattle.std.specs.Prelude.{get_or}
 use Rattle.nv_value.specs.View.{content}
 use Rattle.nv_value.specs.declared.value.Value.{Value}
 use Rattle.nv_args.specs.Texts.{has_newline}
-use Rattle.nv_api_buf.specs.inside.Parts.{text_in, texts_of}
+use Rattle.nv_api_buf.specs.inside.Parts.{text_of_value, texts_of}
 use Rattle.nv_api_buf.proofs.Newlines.{search-of_no_line, search-of_line, found_at, clean_push}
 use Rattle.nv_api_buf.proofs.replacement.lines_from.Goals as goal
 
@@ -17,10 +17,10 @@ returns-then-not-is_line-clause-none c =
     let same : c.as_slice.result.now ≡ string = c.as_slice.ensures in
     let found : has_newline string ≡ true =
     ap has_newline (sym same) ∙ search-of_no_line c.as_slice.result.now c.is_line.result c.is_line.ensures c.if-not-is_line.true in
-    let step : texts_of (map content (drop place values)) ≡ text_in (content (get_or values place c.value-item.result)) ∷ texts_of (map content (drop (place + 1) values)) =
+    let step : texts_of (map content (drop place values)) ≡ text_of_value (content (get_or values place c.value-item.result)) ∷ texts_of (map content (drop (place + 1) values)) =
     at_drop_more (λ (vs : List Value). texts_of (map content vs)) values place c.value-item.result (omega arith) in
-    let here : text_in (content (get_or values place c.value-item.result)) ≡ string =
-    ap (λ (v : Value). text_in (content v)) (sym c.value-item.is) ∙ sym c.in_ok-string.ensures in
+    let here : text_of_value (content (get_or values place c.value-item.result)) ≡ string =
+    ap (λ (v : Value). text_of_value (content v)) (sym c.value-item.is) ∙ sym c.in_ok-string.ensures in
     let whole : c.loop-value.lines.items ++ string ∷ texts_of (map content (drop (place + 1) values)) ≡ texts_of (map content values) =
     ap (λ (t : List ℕ). c.loop-value.lines.items ++ t ∷ texts_of (map content (drop (place + 1) values))) (sym here)
     ∙ ap (λ (ts : List (List ℕ)). c.loop-value.lines.items ++ ts) (sym step)
@@ -38,10 +38,10 @@ loop-value-preserved c =
     let clean : has_newline c.from_bytes.result ≡ false =
     ap has_newline (line ∙ sym same) ∙ search-of_line c.as_slice.result.now (c.is_line.ensures.0 c.if-not-is_line.false) in
     let grown : c.push.new.self.items ≡ c.loop-value.lines.items ++ c.from_bytes.result ∷ [] = c.in_ok-push.ensures.items in
-    let step : texts_of (map content (drop place values)) ≡ text_in (content (get_or values place c.value-item.result)) ∷ rest =
+    let step : texts_of (map content (drop place values)) ≡ text_of_value (content (get_or values place c.value-item.result)) ∷ rest =
     at_drop_more (λ (vs : List Value). texts_of (map content vs)) values place c.value-item.result (omega arith) in
-    let here : text_in (content (get_or values place c.value-item.result)) ≡ string =
-    ap (λ (v : Value). text_in (content v)) (sym c.value-item.is) ∙ sym c.in_ok-string.ensures in
+    let here : text_of_value (content (get_or values place c.value-item.result)) ≡ string =
+    ap (λ (v : Value). text_of_value (content v)) (sym c.value-item.is) ∙ sym c.in_ok-string.ensures in
     record {
       all =
           ap (λ (front : List (List ℕ)). front ++ rest) grown
