@@ -215,9 +215,25 @@ fn are_lines() -> [bool; 4] {
 type Given = ((usize, Option<u64>, bool, bool), [bool; 4]);
 
 fn given_back(alloc: Global) -> Result<Given, AllocError> {
-    let lines = list(alloc, b"ab\n\n")?.into_vec();
+    let lines = list(alloc, b"ab\n\n")?.into_vec()?;
     let list = LineList::from_vec(lines).share()?;
     Ok((list_told(&list), first_is_ab(&list)?))
+}
+
+// A list of the line "b" with "a" put before it.
+fn put_before_one(alloc: Global) -> Result<Vec<u8>, AllocError> {
+    let mut list = LineList::one(alloc, line_of(alloc, b'b')?);
+    let _none = list.replace(0, 0, LineList::one(alloc, line_of(alloc, b'a')?))?;
+    flat(alloc, &list)
+}
+
+// A share of a list of the line "b" with "c" put behind it, and a table of the line "a" before it.
+fn put_behind_one(alloc: Global) -> Result<Vec<u8>, AllocError> {
+    let mut list = LineList::one(alloc, line_of(alloc, b'b')?).share()?;
+    list.push(line_of(alloc, b'c')?)?;
+    let table = LineList::one(alloc, line_of(alloc, b'a')?).into_vec()?;
+    let _none = list.replace(0, 0, LineList::from_vec(table))?;
+    flat(alloc, &list)
 }
 
 #[test]
@@ -228,6 +244,14 @@ fn lists_give_back_what_they_were_given(rt: HostRuntime) -> Result<(), Fail> {
         ((2, Some(4), false, false), [true; 4])
     );
     assert_eq!(rt; lines_hold(rt.alloc())?, [true; 2]);
+    assert_eq!(rt;
+        put_before_one(rt.alloc())?.as_slice(),
+        b"a\nb\n".as_slice()
+    );
+    assert_eq!(rt;
+        put_behind_one(rt.alloc())?.as_slice(),
+        b"a\nb\nc\n".as_slice()
+    );
     Ok(())
 }
 

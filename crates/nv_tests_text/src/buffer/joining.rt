@@ -82,7 +82,7 @@ pub(crate) fn lines_between(
     ensures { IfOk result (λ lines. lines ≡ lines_between text.now start stop new.now) }
 {
     let (front, back) = (before(text, start), behind(text, stop));
-    let mut lines = new.share()?.into_vec();
+    let mut lines = new.share()?.into_vec()?;
     let alloc = *lines.allocator();
     if lines.len() == 1 {
         lines[0] = line_between(alloc, front, lines[0].as_slice(), back)?;
