@@ -1,5 +1,5 @@
 //! The methods of this crate by their names.
-ghost use Rattle.std.specs.Prelude.{◌≡◌, IfNone, IfOk, IfSome};
+ghost use Rattle.std.specs.Prelude.{IfOk, IfSome};
 ghost use Rattle.nv_value.specs.View.{content};
 ghost use Rattle.nv_msgpack.specs.Shortest.{HasSpelling};
 ghost use Rattle.nv_args.specs.Args.{typed_arguments};
@@ -20,14 +20,13 @@ pub fn call_method(
     method: Method,
     editor: &mut Editor,
     session: u64,
-    args: &mut Args,
+    args: &Args,
     happened: &mut Happened,
 ) -> Option<Result<Value, Fail>>
     ensures row { AnswersRow (row_among ui_rows (method_name method)) (seen_now editor.old)
-        session (typed_arguments args.old) result editor.old editor.new
+        session (typed_arguments args.now) result editor.old editor.new
         happened.old happened.new }
     ensures spelled { IfSome result (λ given. IfOk given (λ value. HasSpelling (content value))) }
-    ensures kept { IfNone result (args.new ≡ args.old) }
 {
     match method {
         Method::Strwidth => Some(nvim_strwidth(args)),
