@@ -1,6 +1,7 @@
 -- Calls as values: their parts, and how much these weigh.
-use Rattle.std.proofs.Common.{◌≡◌, ℕ, ◌+◌, ◌≤◌, List, [], ◌∷◌, ◌++◌, map, length, refl, ap, arith}
-use Rattle.std.specs.Prelude.{unwrap_or}
+use Rattle.std.proofs.Common.{◌≡◌, ℕ, ◌+◌, ◌<◌, ◌≤◌, List, [], ◌∷◌, ◌++◌, map, drop, length, refl, sym, ap, ◌∙◌, arith}
+use Rattle.std.proofs.lemmas.List.{at_drop_more}
+use Rattle.std.specs.Prelude.{get_or, unwrap_or}
 use Rattle.nv_value.specs.Content.{Tree, Trees, nil, truth, integer, big, text, bin, list, pairs, ext, opaque, no_more, one, trees_of}
 use Rattle.nv_value.specs.View.{content, contents}
 use Rattle.nv_value.specs.declared.value.Value.{Value}
@@ -14,6 +15,13 @@ use Rattle.nv_dispatch.specs.inside.Weights.{list_weight}
 pub tree_list-contents : (values : List Value) → tree_list (contents values) ≡ map content values
 tree_list-contents [] = refl
 tree_list-contents (value ∷ values) = ap (λ (ts : List Tree). content value ∷ ts) (tree_list-contents values)
+
+-- the calls from a place on
+pub calls-left : (calls : List Value) (place : ℕ) (call : Value) → place < length calls → call ≡ get_or calls place call
+    → drop place calls ≡ call ∷ drop (place + 1) calls
+calls-left calls place call within is =
+    at_drop_more (λ (vs : List Value). vs) calls place call within
+    ∙ ap (λ (v : Value). v ∷ drop (place + 1) calls) (sym is)
 
 -- values weigh what they weigh one by one
 pub weights-contents : (values : List Value) → weights (contents values) ≡ list_weight (map content values)

@@ -29,7 +29,7 @@ use crate::done::Done;
 use crate::table::{has_row, is_seen};
 use nv_args::{Args, Fail, Method, NamedCall, call_in, method_of, read, unknown_method};
 use nv_editor::{Editor, Happened};
-use nv_value::{Items, Value};
+use nv_value::Value;
 use std::alloc::AllocError;
 
 // The method of a name, where it has a row.
@@ -48,11 +48,11 @@ fn last_row_of(
     editor: &mut Editor,
     session: u64,
     method: Method,
-    args: &mut Args,
+    args: &Args,
     happened: &mut Happened,
 ) -> Option<Result<Value, Fail>>
     ensures row { AnswersRow (row_among (window_rows ++ ui_rows) (method_name method))
-        (seen_now editor.old) session (typed_arguments args.old) result editor.old editor.new
+        (seen_now editor.old) session (typed_arguments args.now) result editor.old editor.new
         happened.old happened.new }
     ensures spelled { IfSome result (λ given. IfOk given (λ value. HasSpelling (content value))) }
 {
@@ -67,11 +67,11 @@ fn later_row_of(
     editor: &mut Editor,
     session: u64,
     method: Method,
-    args: &mut Args,
+    args: &Args,
     happened: &mut Happened,
 ) -> Option<Result<Value, Fail>>
     ensures row { AnswersRow (row_among (mark_rows ++ (window_rows ++ ui_rows))
-        (method_name method)) (seen_now editor.old) session (typed_arguments args.old) result
+        (method_name method)) (seen_now editor.old) session (typed_arguments args.now) result
         editor.old editor.new happened.old happened.new }
     ensures spelled { IfSome result (λ given. IfOk given (λ value. HasSpelling (content value))) }
 {
@@ -86,12 +86,12 @@ fn row_of(
     editor: &mut Editor,
     session: u64,
     method: Method,
-    args: &mut Args,
+    args: &Args,
     happened: &mut Happened,
 ) -> Option<Result<Value, Fail>>
-    requires light { AreLightArgs (typed_arguments args.old) }
+    requires light { AreLightArgs (typed_arguments args.now) }
     ensures row { AnswersRow (row_named (method_name method)) (seen_now editor.old) session
-        (typed_arguments args.old) result editor.old editor.new happened.old happened.new }
+        (typed_arguments args.now) result editor.old editor.new happened.old happened.new }
     ensures spelled { IfSome result (λ given. IfOk given (λ value. HasSpelling (content value))) }
 {
     match nv_api_buf::call_method(method, editor, session, args, happened) {
@@ -105,18 +105,18 @@ fn call_method(
     editor: &mut Editor,
     session: u64,
     method: Method,
-    mut args: Args,
+    args: &Args,
     happened: &mut Happened,
 ) -> Result<Done, Fail>
-    requires light { AreLightArgs (typed_arguments args) }
+    requires light { AreLightArgs (typed_arguments args.now) }
     ensures outcome { GivesOutcome (λ m. outcome_of_row m session (signature_of method).is_seen
-        (method_name method) (row_named (method_name method)) (typed_arguments args))
+        (method_name method) (row_named (method_name method)) (typed_arguments args.now))
         result editor.old editor.new happened.old happened.new }
     ensures refused { RefusedKeeps result editor.new editor.old }
     ensures quiet { RefusedKeeps result happened.new happened.old }
     ensures sendable { CanBeSent result }
 {
-    match row_of(editor, session, method, &mut args, happened) {
+    match row_of(editor, session, method, args, happened) {
         Some(Ok(result)) => Ok(Done {
             result,
             is_seen: is_seen(method),
@@ -131,13 +131,13 @@ fn call_named(
     editor: &mut Editor,
     session: u64,
     name: &[u8],
-    params: Items,
+    params: &[Value],
     happened: &mut Happened,
 ) -> Result<Done, Fail>
     requires name { length name.now < 2 ^ 31 }
-    requires light { AreLight (contents params.items) }
+    requires light { AreLight (contents params.now) }
     ensures outcome { GivesOutcome
-        (λ m. outcome_of_method m session name.now (map content params.items))
+        (λ m. outcome_of_method m session name.now (map content params.now))
         result editor.old editor.new happened.old happened.new }
     ensures refused { RefusedKeeps result editor.new editor.old }
     ensures quiet { RefusedKeeps result happened.new happened.old }
@@ -149,7 +149,7 @@ fn call_named(
         return Err(unknown_method(alloc, name));
     };
     match read(alloc, method, params) {
-        Ok(args) => call_method(editor, session, method, args, happened),
+        Ok(args) => call_method(editor, session, method, &args, happened),
         Err(fail) => Err(fail),
     }
 }
@@ -158,31 +158,31 @@ fn call_named(
 fn call_value(
     editor: &mut Editor,
     session: u64,
-    call: Value,
+    call: &Value,
     happened: &mut Happened,
 ) -> Result<Done, Fail>
-    requires light { weight (content call) < 2 ^ 31 }
-    ensures outcome { GivesOutcome (λ m. outcome_of_value m session (content call))
+    requires light { weight (content call.now) < 2 ^ 31 }
+    ensures outcome { GivesOutcome (λ m. outcome_of_value m session (content call.now))
         result editor.old editor.new happened.old happened.new }
     ensures refused { RefusedKeeps result editor.new editor.old }
     ensures quiet { RefusedKeeps result happened.new happened.old }
-    ensures named { OnOk result (0 < weight (content call)) }
+    ensures named { OnOk result (0 < weight (content call.now)) }
     ensures sendable { CanBeSent result }
 {
-    let NamedCall { name, params } = call_in(editor.alloc(), call)?;
-    call_named(editor, session, name.as_slice(), params, happened)
+    let NamedCall { name, params } = call_in(call);
+    call_named(editor, session, name, params, happened)
 }
 
 // Calls one after another, up to the first that is refused.
 fn call_each(
     editor: &mut Editor,
     session: u64,
-    calls: Items,
+    calls: &[Value],
     happened: &mut Happened,
 ) -> Result<Results, AllocError>
-    requires light { AreLight (contents calls.items) }
+    requires light { AreLight (contents calls.now) }
     ensures batch { IfOk result (λ made. (m : ModelEditor) → Stands editor.old m
-        → IsBatch (batch_of_values 0 m session (map content calls.items)) m made editor.new
+        → IsBatch (batch_of_values 0 m session (map content calls.now)) m made editor.new
         happened.old happened.new) }
     ensures listed { IfOk result (λ made. CanBeListed made) }
 {
@@ -201,12 +201,12 @@ fn call_each(
 fn call_atomic(
     editor: &mut Editor,
     session: u64,
-    params: Items,
+    params: &[Value],
     happened: &mut Happened,
 ) -> Result<Done, Fail>
-    requires light { AreLight (contents params.items) }
+    requires light { AreLight (contents params.now) }
     ensures outcome { GivesOutcome (λ m. atomic_outcome m session
-        (read (signature_of CallAtomic) (map content params.items)))
+        (read (signature_of CallAtomic) (map content params.now)))
         result editor.old editor.new happened.old happened.new }
     ensures refused { RefusedKeeps result editor.new editor.old }
     ensures quiet { RefusedKeeps result happened.new happened.old }
@@ -214,7 +214,7 @@ fn call_atomic(
 {
     let alloc = editor.alloc();
     match read(alloc, Method::CallAtomic, params) {
-        Ok(args) => call_read(editor, session, args, happened),
+        Ok(args) => call_read(editor, session, &args, happened),
         Err(fail) => Err(fail),
     }
 }
@@ -223,17 +223,17 @@ fn call_atomic(
 fn call_read(
     editor: &mut Editor,
     session: u64,
-    mut args: Args,
+    args: &Args,
     happened: &mut Happened,
 ) -> Result<Done, Fail>
-    requires light { AreLightArgs (typed_arguments args) }
-    ensures outcome { GivesOutcome (λ m. atomic_outcome m session (Ok (typed_arguments args)))
+    requires light { AreLightArgs (typed_arguments args.now) }
+    ensures outcome { GivesOutcome (λ m. atomic_outcome m session (Ok (typed_arguments args.now)))
         result editor.old editor.new happened.old happened.new }
     ensures refused { RefusedKeeps result editor.new editor.old }
     ensures quiet { RefusedKeeps result happened.new happened.old }
     ensures sendable { CanBeSent result }
 {
-    let made = call_each(editor, session, args.take_values(0), happened)?;
+    let made = call_each(editor, session, args.values(0), happened)?;
     let is_seen = made.is_seen;
     let result = made.into_value(editor.alloc())?;
     Ok(Done { result, is_seen })
@@ -244,13 +244,13 @@ fn call_unsealed(
     editor: &mut Editor,
     session: u64,
     name: &[u8],
-    params: Items,
+    params: &[Value],
     happened: &mut Happened,
 ) -> Result<Done, Fail>
     requires name { length name.now < 2 ^ 31 }
-    requires light { AreLight (contents params.items) }
+    requires light { AreLight (contents params.now) }
     ensures outcome { GivesOutcome
-        (λ m. outcome_before_seal m session name.now (map content params.items))
+        (λ m. outcome_before_seal m session name.now (map content params.now))
         result editor.old editor.new happened.old happened.new }
     ensures refused { RefusedKeeps result editor.new editor.old }
     ensures quiet { RefusedKeeps result happened.new happened.old }
@@ -270,14 +270,14 @@ pub fn call(
     editor: &mut Editor,
     session: u64,
     name: &[u8],
-    params: Items,
+    params: &[Value],
     happened: &mut Happened,
 ) -> Result<Done, Fail>
     requires name { length name.now < 2 ^ 31 }
-    requires light { AreLight (contents params.items) }
+    requires light { AreLight (contents params.now) }
     requires sealed { AllSealed editor.old }
     ensures outcome { GivesOutcome
-        (λ m. outcome_of_call m session name.now (map content params.items))
+        (λ m. outcome_of_call m session name.now (map content params.now))
         result editor.old editor.new happened.old happened.new }
     ensures refused { RefusedKeeps result editor.new editor.old }
     ensures quiet { RefusedKeeps result happened.new happened.old }

@@ -9,6 +9,6 @@ use Rattle.nv_dispatch.proofs.calling.call_atomic.Goals as goal
 
 pub call_read-requires : goal.call_read-requires
 call_read-requires c = record {
-  light = args_light (signature_of CallAtomic) (map content c.args.params.items) (typed_arguments c.in-Ok.args)
-      (omega (arith, weights-contents c.args.params.items, c.requires.light)) c.in-Ok.ensures;
+  light = args_light (signature_of CallAtomic) (map content c.args.params.now) (typed_arguments c.in-Ok.args)
+      (omega (arith, weights-contents c.args.params.now, c.requires.light)) c.in-Ok.ensures;
 }

@@ -1,9 +1,6 @@
-use Rattle.std.proofs.Common.{subst}
 use Rattle.nv_args.specs.Args.{typed_arguments}
 use Rattle.nv_args.specs.Methods.{method_name}
-use Rattle.nv_args.specs.declared.args.Args.{Args}
 use Rattle.nv_model.specs.Standing.{seen_now}
-use Rattle.nv_editor.specs.Doing.{AnswersRow, row_among}
 use Rattle.nv_api_win.specs.Rows.{window_rows}
 use Rattle.nv_api_ui.specs.Rows.{ui_rows}
 use Rattle.nv_dispatch.proofs.RowLemmas.{among_first, among_others}
@@ -19,8 +16,4 @@ returns-in-None-clause-row c =
     among_others window_rows ui_rows (method_name c.args.method) c.args.session (typed_arguments c.args.args.now) c.call_method-in-None.result
     c.args.editor.now c.call_method.new.editor c.call_method-in-None.new.editor c.args.happened.now c.call_method.new.happened c.call_method-in-None.new.happened
     c.in-None.ensures.row
-    (subst
-    (λ (args : Args).
-    AnswersRow (row_among ui_rows (method_name c.args.method)) (seen_now c.call_method.new.editor) c.args.session (typed_arguments args) c.call_method-in-None.result
-    c.call_method.new.editor c.call_method-in-None.new.editor c.call_method.new.happened c.call_method-in-None.new.happened)
-    c.in-None.ensures.kept c.call_method-in-None.ensures.row)
+    c.call_method-in-None.ensures.row

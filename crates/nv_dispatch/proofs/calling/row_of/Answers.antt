@@ -1,9 +1,7 @@
-use Rattle.std.proofs.Common.{◌++◌, subst}
+use Rattle.std.proofs.Common.{◌++◌}
 use Rattle.nv_args.specs.Args.{typed_arguments}
 use Rattle.nv_args.specs.Methods.{method_name}
-use Rattle.nv_args.specs.declared.args.Args.{Args}
 use Rattle.nv_model.specs.Standing.{seen_now}
-use Rattle.nv_editor.specs.Doing.{AnswersRow, row_among}
 use Rattle.nv_api_buf.specs.Rows.{buffer_rows}
 use Rattle.nv_api_mark.specs.Rows.{mark_rows}
 use Rattle.nv_api_win.specs.Rows.{window_rows}
@@ -24,8 +22,4 @@ returns-in-None-clause-row c =
     among_others buffer_rows (mark_rows ++ (window_rows ++ ui_rows)) (method_name c.args.method) c.args.session (typed_arguments c.args.args.now) c.later_row_of.result
     c.args.editor.now c.call_method.new.editor c.later_row_of.new.editor c.args.happened.now c.call_method.new.happened c.later_row_of.new.happened
     c.in-None.ensures.row
-    (subst
-    (λ (args : Args).
-    AnswersRow (row_among (mark_rows ++ (window_rows ++ ui_rows)) (method_name c.args.method)) (seen_now c.call_method.new.editor) c.args.session (typed_arguments args) c.later_row_of.result
-    c.call_method.new.editor c.later_row_of.new.editor c.call_method.new.happened c.later_row_of.new.happened)
-    c.in-None.ensures.kept c.later_row_of.ensures.row)
+    c.later_row_of.ensures.row
