@@ -24,13 +24,13 @@ came_to_outcome o p m result is_seen after told now facts same facts_is none gav
       stands = gave.stands;
     })
 
--- a call with copies of the arguments is one with them
-pub came_to : (m : ModelEditor) (session : ℕ) (name : List ℕ) (copies params : List Value) (result : Result Tree ApiFault) (is_seen : Bool)
+-- a call with these values
+pub came_to : (m : ModelEditor) (session : ℕ) (name : List ℕ) (params : List Value) (result : Result Tree ApiFault) (is_seen : Bool)
     (after : PresentEditor) (told now facts : List Fact)
-    → contents copies ≡ contents params → facts ≡ now → told ≡ []
-    → IsOutcome (outcome_of_call m session name (map content copies)) m result is_seen after told now
+    → facts ≡ now → told ≡ []
+    → IsOutcome (outcome_of_call m session name (map content params)) m result is_seen after told now
     → CameTo (outcome_of_call m session name (tree_list (contents params))) m result is_seen facts after
-came_to m session name copies params result is_seen after told now facts same facts_is none gave =
+came_to m session name params result is_seen after told now facts facts_is none gave =
     came_to_outcome _ _ m result is_seen after told now facts
-    (ap (λ (l : List Tree). outcome_of_call m session name l) (sym (tree_list-contents copies) ∙ ap tree_list same))
+    (ap (λ (l : List Tree). outcome_of_call m session name l) (sym (tree_list-contents params)))
     facts_is none gave

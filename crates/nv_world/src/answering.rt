@@ -15,7 +15,7 @@ use nv_args::Fail;
 use nv_dispatch::call;
 use nv_editor::{Editor, Fact, Happened};
 use nv_rpc::{Frame, Message};
-use nv_value::{ApiFault, Items, Value};
+use nv_value::{ApiFault, Value};
 use std::alloc::{AllocError, Global};
 
 /// What a call came to: its result or its fault, whether it may have changed what is seen, and what
@@ -36,36 +36,24 @@ pub struct Answered {
     pub facts: Vec<Fact>,
 }
 
-// The same values: their strings are shared.
-fn copies(alloc: Global, values: &Items) -> Result<Items, AllocError>
-    ensures { IfOk result (λ copies. contents copies.items ≡ contents values.now.items) }
-{
-    let mut copies = Vec::with_capacity(alloc, values.len())?;
-    for value in values {
-        copies.push(value.copy(alloc)?)?;
-    }
-    Ok(copies)
-}
-
 // Calls a method for a session.
 fn call_method(
     alloc: Global,
     editor: &mut Editor,
     session: u64,
     name: &[u8],
-    params: &Items,
+    params: &[Value],
 ) -> Result<Called, AllocError>
     requires name { length name.now < 2 ^ 31 }
-    requires light { AreLight (contents params.now.items) }
+    requires light { AreLight (contents params.now) }
     requires sealed { AllSealed editor.old }
-    ensures called { IfOk result (λ c. CallsMethod session name.now (contents params.now.items)
+    ensures called { IfOk result (λ c. CallsMethod session name.now (contents params.now)
         (result_content c.result) c.is_seen (facts_of c.facts.items) editor.old editor.new) }
     ensures sendable { IfOk result (λ c. CanBeReplied c.result) }
     ensures sealed { OnOk result (AllSealed editor.new) }
 {
-    let given = copies(alloc, params)?;
     let mut happened = Happened::new(alloc);
-    match call(editor, session, name, given, &mut happened) {
+    match call(editor, session, name, params, &mut happened) {
         Ok(done) => Ok(Called {
             result: Ok(done.result),
             is_seen: done.is_seen,
@@ -120,10 +108,10 @@ pub fn answer(
 {
     let called = match frame {
         Frame::Request { method, params, .. } => {
-            call_method(alloc, editor, session, method.as_slice(), params)?
+            call_method(alloc, editor, session, method.as_slice(), params.as_slice())?
         }
         Frame::Notice { method, params } => {
-            call_method(alloc, editor, session, method.as_slice(), params)?
+            call_method(alloc, editor, session, method.as_slice(), params.as_slice())?
         }
     };
     Ok(Answered {
