@@ -87,7 +87,8 @@ fn called(
     params: &[u8],
     happened: &mut Happened,
 ) -> Result<Vec<u8>, AllocError> {
-    let mut args = match read(alloc, method, params_of(alloc, params)?) {
+    let params = params_of(alloc, params)?;
+    let args = match read(alloc, method, params.as_slice()) {
         Ok(args) => args,
         Err(fail) => return words_of(alloc, fail),
     };
@@ -95,9 +96,9 @@ fn called(
         Method::SetCurrentBuf => told(alloc, nvim_set_current_buf(editor, &args, happened)),
         Method::CreateBuf => told(alloc, nvim_create_buf(editor, &args, happened)),
         Method::BufDelete => told(alloc, nvim_buf_delete(editor, &args, happened)),
-        Method::BufSetName => told(alloc, nvim_buf_set_name(editor, &mut args, happened)),
-        Method::BufSetLines => told(alloc, nvim_buf_set_lines(editor, &mut args, happened)),
-        Method::BufSetText => told(alloc, nvim_buf_set_text(editor, &mut args, happened)),
+        Method::BufSetName => told(alloc, nvim_buf_set_name(editor, &args, happened)),
+        Method::BufSetLines => told(alloc, nvim_buf_set_lines(editor, &args, happened)),
+        Method::BufSetText => told(alloc, nvim_buf_set_text(editor, &args, happened)),
         Method::BufAttach => told(alloc, nvim_buf_attach(editor, &args, happened)),
         Method::BufDetach => told(alloc, nvim_buf_detach(editor, &args, happened)),
         _ => answered(alloc, editor, method, &args),
@@ -117,10 +118,10 @@ fn command_params(alloc: Global, command: &[u8]) -> Result<Items, AllocError>
 fn commanded(
     alloc: Global,
     editor: &mut Editor,
-    params: Items,
+    params: &[Value],
     happened: &mut Happened,
 ) -> Result<Vec<u8>, AllocError>
-    requires { AreLight (contents params.items) }
+    requires { AreLight (contents params.now) }
 {
     match read(alloc, Method::Command, params) {
         Ok(args) => told(alloc, nvim_command(editor, &args, happened)),
@@ -139,7 +140,8 @@ fn played(
     let answer = match method_of(name.as_bytes()) {
         Some(method) => called(alloc, editor, method, words, &mut happened)?,
         None if words.len() < 65_536 => {
-            commanded(alloc, editor, command_params(alloc, words)?, &mut happened)?
+            let params = command_params(alloc, words)?;
+            commanded(alloc, editor, params.as_slice(), &mut happened)?
         }
         None => Vec::from_slice(alloc, b"too long")?,
     };

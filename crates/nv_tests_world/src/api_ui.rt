@@ -69,22 +69,14 @@ fn called(
     editor: &mut Editor,
     session: u64,
     name: &str,
-    params: Items,
+    params: &[Value],
 ) -> Option<Result<Value, Fail>>
     ensures { IfSome result (λ given. IfOk given (λ value. HasSpelling (content value))) }
 {
     let alloc = editor.alloc();
     let method = method_of(name.as_bytes())?;
     match read(alloc, method, params) {
-        Ok(mut args) => {
-            call_method(
-                method,
-                editor,
-                session,
-                &mut args,
-                &mut Happened::new(alloc),
-            )
-        }
+        Ok(args) => { call_method(method, editor, session, &args, &mut Happened::new(alloc)) }
         Err(_) => None,
     }
 }
@@ -106,7 +98,7 @@ fn outcome(
 ) -> Result<Vec<u8>, AllocError> {
     let alloc = editor.alloc();
     let params = params(alloc, hex)?;
-    match called(editor, session, name, params) {
+    match called(editor, session, name, params.as_slice()) {
         Some(Ok(value)) => spelled(alloc, &value),
         Some(Err(Fail::Api(fault))) => Vec::from_slice(alloc, fault.words.as_slice()),
         Some(Err(Fail::NoMemory)) => Vec::from_slice(alloc, b"no memory"),

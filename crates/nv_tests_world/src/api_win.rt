@@ -65,13 +65,13 @@ fn digits(alloc: Global, bytes: &[u8]) -> Result<Vec<u8>, AllocError> {
     Ok(hex)
 }
 
-fn called(editor: &mut Editor, name: &str, params: Items) -> Option<Result<Value, Fail>>
+fn called(editor: &mut Editor, name: &str, params: &[Value]) -> Option<Result<Value, Fail>>
     ensures { IfSome result (λ given. IfOk given (λ value. HasSpelling (content value))) }
 {
     let alloc = editor.alloc();
     let method = method_of(name.as_bytes())?;
     match read(alloc, method, params) {
-        Ok(mut args) => call_method(method, editor, 1, &mut args, &mut Happened::new(alloc)),
+        Ok(args) => call_method(method, editor, 1, &args, &mut Happened::new(alloc)),
         Err(_) => None,
     }
 }
@@ -88,7 +88,7 @@ fn spelled(alloc: Global, value: &Value) -> Result<Vec<u8>, AllocError>
 fn outcome(editor: &mut Editor, name: &str, hex: &str) -> Result<Vec<u8>, AllocError> {
     let alloc = editor.alloc();
     let params = params(alloc, hex)?;
-    match called(editor, name, params) {
+    match called(editor, name, params.as_slice()) {
         Some(Ok(value)) => spelled(alloc, &value),
         Some(Err(Fail::Api(fault))) => Vec::from_slice(alloc, fault.words.as_slice()),
         Some(Err(Fail::NoMemory)) => Vec::from_slice(alloc, b"no memory"),

@@ -54,9 +54,9 @@ fn small_editor(alloc: Global) -> Result<Editor, AllocError>
 }
 
 // The number of the fault of a call; 0 where it gives a result.
-fn fault_of(editor: &mut Editor, name: &str, params: Items) -> Result<u16, AllocError>
+fn fault_of(editor: &mut Editor, name: &str, params: &[Value]) -> Result<u16, AllocError>
     requires name { length name.now < 2 ^ 16 }
-    requires light { AreLight (contents params.items) }
+    requires light { AreLight (contents params.now) }
     requires sealed { AllSealed editor.old }
     ensures { OnOk result (AllSealed editor.new) }
 {
@@ -75,7 +75,7 @@ fn put_fault(editor: &mut Editor, end: i64, line: &[u8]) -> Result<u16, AllocErr
     ensures { OnOk result (AllSealed editor.new) }
 {
     let params = one_line(editor.alloc(), end, line)?;
-    fault_of(editor, "nvim_buf_set_lines", params)
+    fault_of(editor, "nvim_buf_set_lines", params.as_slice())
 }
 
 // The faults of lines that are put, of a buffer that is made, and of no method.
@@ -87,8 +87,8 @@ fn faults(alloc: Global, editor: &mut Editor) -> Result<[u16; 6], AllocError>
     let further = put_fault(editor, 0, b"a")?;
     let fits = put_fault(editor, -1, b"abcd")?;
     let later = put_fault(editor, -1, b"a")?;
-    let buffer = fault_of(editor, "nvim_create_buf", flags)?;
-    let unknown = fault_of(editor, "nvim_nope", Vec::new(alloc))?;
+    let buffer = fault_of(editor, "nvim_create_buf", flags.as_slice())?;
+    let unknown = fault_of(editor, "nvim_nope", &[])?;
     Ok([long, further, fits, later, buffer, unknown])
 }
 

@@ -9,5 +9,5 @@ use Rattle.nv_tests_world.proofs.api_buf.commanded.Goals as goal
 
 pub nvim_command-requires : goal.nvim_command-requires
 nvim_command-requires c =
-    args_light (signature_of Command) (map content c.args.params.items) (typed_arguments c.in-Ok.args)
-    (omega (arith, weights-contents c.args.params.items, c.requires)) c.in-Ok.ensures
+    args_light (signature_of Command) (map content c.args.params.now) (typed_arguments c.in-Ok.args)
+    (omega (arith, weights-contents c.args.params.now, c.requires)) c.in-Ok.ensures
