@@ -1,46 +1,32 @@
 -- What a painter speaks of a batch, in the words of what a session is sent.
-use Rattle.std.proofs.Common.{◌≡◌, ℕ, zero, suc, ◌<◌, Bool, true, false, length, get_or, arith, List, [], ◌∷◌, ◌++◌, map, Option, Some, None, refl, sym, ap, ap₂, ◌∙◌, subst}
+use Rattle.std.proofs.Common.{◌≡◌, ℕ, zero, suc, ◌+◌, ◌<◌, Bool, true, false, length, get_or, arith, List, [], ◌∷◌, ◌++◌, map, Option, Some, None, refl, sym, ap, ap₂, append_assoc, ◌∙◌, subst}
 use Rattle.std.proofs.lemmas.Bool.Decides.{nat_tests}
-use Rattle.std.specs.Prelude.{All, ◌==◌, slice_set, if◌then◌else◌}
-use Rattle.std.proofs.lemmas.List.Elements.{All-head, All-tail}
-use Rattle.nv_msgpack.specs.Shortest.{shortest}
-use Rattle.nv_rpc.specs.Messages.{Sent, message_tree, IsSendable}
-use Rattle.nv_rpc.specs.MessageView.{sent_of}
-use Rattle.nv_rpc.specs.declared.message.Message.{Message}
+use Rattle.std.specs.Prelude.{◌==◌, slice_set, if◌then◌else◌}
+use Rattle.nv_rpc.specs.Messages.{Sent}
 use Rattle.nv_screen.specs.declared.scene.Scene.{Scene}
 use Rattle.nv_linegrid.specs.Told.{Told}
 use Rattle.nv_painter.specs.Painters.{Painting, first_painting}
-use Rattle.nv_painter.specs.Spoken.{AreSendable, spoken_messages, spoken_scene, painting_after}
+use Rattle.nv_painter.specs.Spoken.{spoken_scene, painting_after}
 use Rattle.nv_history.specs.Spoken.{bytes_of_messages, bytes_of_scene, told_with}
 use Rattle.nv_book.specs.inside.Playing.{bytes_of_given, told_at, SpeaksFor}
 use Rattle.nv_book.specs.Outputs.{ToldBy, told_once_more}
-
-spoken_plain : (ms : List Message) → spoken_messages ms ≡ bytes_of_messages (map sent_of ms)
-spoken_plain [] = refl
-spoken_plain (m ∷ ms) = ap (λ (l : List ℕ). shortest (message_tree (sent_of m)) ++ l) (spoken_plain ms)
 
 scene_plain : (told : Told) (scene : Option Scene) → spoken_scene told scene ≡ bytes_of_scene told scene
 scene_plain told None = refl
 scene_plain told (Some scene) = refl
 
--- the bytes of messages that were made, and of a scene
-pub spoken_alike : (ms : List Message) (sent : List Sent) (told : Told) (scene : Option Scene) → map sent_of ms ≡ sent
-    → spoken_messages ms ++ spoken_scene told scene ≡ bytes_of_given told sent scene
-spoken_alike ms sent told scene e =
-    ap₂ (λ (a b : List ℕ). a ++ b) (spoken_plain ms ∙ ap bytes_of_messages e) (scene_plain told scene)
+-- the bytes of a scene behind those of messages, which stand behind others
+pub scene_after : (before bytes : List ℕ) (sent : List Sent) (told : Told) (scene : Option Scene)
+    → bytes ≡ before ++ bytes_of_messages sent
+    → bytes ++ spoken_scene told scene ≡ before ++ bytes_of_given told sent scene
+scene_after before bytes sent told scene e =
+    ap₂ (λ (a b : List ℕ). a ++ b) e (scene_plain told scene)
+    ∙ append_assoc before (bytes_of_messages sent) (bytes_of_scene told scene)
 
 -- what the client was told then
 pub told_alike : (p : Painting) (scene : Option Scene) → (painting_after p scene).told ≡ told_with p.told scene
 told_alike p None = refl
 told_alike p (Some scene) = refl
-
-sendable_plain : (ms : List Message) → All IsSendable (map sent_of ms) → AreSendable ms
-sendable_plain [] h = tt
-sendable_plain (m ∷ ms) h =
-    (All-head IsSendable (sent_of m) (map sent_of ms) h, sendable_plain ms (All-tail IsSendable (sent_of m) (map sent_of ms) h))
-
-pub sendable_alike : (ms : List Message) (sent : List Sent) → map sent_of ms ≡ sent → All IsSendable sent → AreSendable ms
-sendable_alike ms sent e h = sendable_plain ms (subst (λ (l : List Sent). All IsSendable l) (sym e) h)
 
 -- ---- painters by the numbers of sessions
 

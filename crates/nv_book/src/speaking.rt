@@ -1,28 +1,14 @@
 //! What the clients of the sessions of a history are sent.
 ghost use Rattle.std.specs.Prelude.{◌≡◌, ◌<◌, ◌++◌, ℕ, [], length, map, All, IfOk, OnOk};
 ghost use Rattle.nv_rpc.specs.Messages.{IsSendable};
-ghost use Rattle.nv_rpc.specs.MessageView.{sent_of};
 ghost use Rattle.nv_painter.specs.Spoken.{IsSoundIfThere};
 ghost use Rattle.nv_history.specs.Spoken.{told_with};
 ghost use Rattle.nv_world.specs.Contents.{sent_of_shared};
 ghost use Rattle.nv_book.specs.inside.Playing.{SpeaksFor, bytes_of_given, told_at};
 
 use nv_painter::{Batch as SpokenBatch, Painter};
-use nv_rpc::Message;
-use nv_world::{Batch, SharedMessage};
+use nv_world::{Batch, put_messages};
 use std::alloc::{AllocError, Global};
-
-// Each message by itself.
-fn own_messages(alloc: Global, shared: Vec<SharedMessage>) -> Result<Vec<Message>, AllocError>
-    ensures { IfOk result (λ messages. map sent_of messages.items
-        ≡ map sent_of_shared shared.items) }
-{
-    let mut messages = Vec::with_capacity(alloc, shared.len())?;
-    for message in shared {
-        messages.push(message.into_message(alloc)?)?;
-    }
-    Ok(messages)
-}
 
 // Puts a batch behind what `into` holds: its messages, each in its shortest spelling, and then the
 // redraw notification that shows its scene, where it has one.
@@ -39,8 +25,15 @@ fn speak_batch(
     ensures told { OnOk result (painter.new.told ≡ told_with painter.old.told batch.scene) }
 {
     let Batch { messages, scene } = batch;
-    let messages = own_messages(alloc, messages)?;
-    painter.speak(alloc, SpokenBatch { messages, scene }, into)
+    put_messages(alloc, messages, into)?;
+    painter.speak(
+        alloc,
+        SpokenBatch {
+            messages: Vec::new(alloc),
+            scene,
+        },
+        into,
+    )
 }
 
 // Painters for the sessions up to this number. A client without one was told nothing.

@@ -3,7 +3,6 @@ ghost use Rattle.std.specs.Prelude.{◌≡◌, ◌≤◌, ◌++◌, map, take, �
 ghost use Rattle.std.specs.Io.KnownBytes.{append_known};
 ghost use Rattle.nv_io.specs.Faults.{Rose};
 ghost use Rattle.nv_rpc.specs.Messages.{IsSendable};
-ghost use Rattle.nv_rpc.specs.MessageView.{sent_of};
 ghost use Rattle.nv_painter.specs.Spoken.{IsSoundIfThere};
 ghost use Rattle.nv_history.specs.Spoken.{told_with};
 ghost use Rattle.nv_world.specs.Contents.{sent_of_shared};
@@ -13,22 +12,9 @@ use crate::ends::WriterEnd;
 use crate::voice::Voice;
 use nv_io::{Sink, put_all};
 use nv_painter::Batch as SpokenBatch;
-use nv_rpc::Message;
-use nv_world::{Batch, SharedMessage};
+use nv_world::{Batch, put_messages};
 use std::alloc::{AllocError, Global};
 use std::net::{Net, TcpListener, TcpStream};
-
-// Each message by itself.
-fn own_messages(alloc: Global, shared: Vec<SharedMessage>) -> Result<Vec<Message>, AllocError>
-    ensures { IfOk result (λ messages. map sent_of messages.items
-        ≡ map sent_of_shared shared.items) }
-{
-    let mut messages = Vec::with_capacity(alloc, shared.len())?;
-    for message in shared {
-        messages.push(message.into_message(alloc)?)?;
-    }
-    Ok(messages)
-}
 
 // Puts the bytes of a batch in place of what `room` held: the shortest spellings of its messages,
 // and then the redraw notification that shows its scene, where it has one.
@@ -45,9 +31,16 @@ fn spell<V: Voice>(
     ensures told { OnOk result (V.told voice.new ≡ told_with (V.told voice.old) batch.scene) }
 {
     let Batch { messages, scene } = batch;
-    let messages = own_messages(alloc, messages)?;
     room.clear();
-    voice.speak(alloc, SpokenBatch { messages, scene }, room)
+    put_messages(alloc, messages, room)?;
+    voice.speak(
+        alloc,
+        SpokenBatch {
+            messages: Vec::new(alloc),
+            scene,
+        },
+        room,
+    )
 }
 
 /// Writes a batch to `output`, as one piece: its messages in order, each in its shortest spelling,

@@ -4,7 +4,6 @@ ghost use Rattle.std.specs.Bool.{OnTrue, OnFalse};
 ghost use Rattle.std.specs.Io.KnownBytes.{append_known};
 ghost use Rattle.nv_io.specs.Faults.{Rose};
 ghost use Rattle.nv_rpc.specs.Messages.{IsSendable};
-ghost use Rattle.nv_rpc.specs.MessageView.{sent_of};
 ghost use Rattle.nv_painter.specs.Spoken.{IsSoundIfThere};
 ghost use Rattle.nv_history.specs.Spoken.{told_with};
 ghost use Rattle.nv_world.specs.Contents.{sent_of_shared};
@@ -13,8 +12,7 @@ ghost use Rattle.nv_session.specs.inside.Serving.{WroteSome};
 
 use nv_io::{Sink, put_all};
 use nv_painter::{Batch as SpokenBatch, Painter};
-use nv_rpc::Message;
-use nv_world::{Batch, SharedMessage};
+use nv_world::{Batch, put_messages};
 use std::alloc::{AllocError, Global};
 use std::mem;
 use std::net::{Net, TcpListener, TcpStream};
@@ -29,18 +27,6 @@ pub struct Outgoing {
     waiting: Vec<u8>,
     // Memory for the bytes of a batch, that is used again from one to the next.
     room: Vec<u8>,
-}
-
-// Each message by itself.
-fn own_messages(alloc: Global, shared: Vec<SharedMessage>) -> Result<Vec<Message>, AllocError>
-    ensures { IfOk result (λ messages. map sent_of messages.items
-        ≡ map sent_of_shared shared.items) }
-{
-    let mut messages = Vec::with_capacity(alloc, shared.len())?;
-    for message in shared {
-        messages.push(message.into_message(alloc)?)?;
-    }
-    Ok(messages)
 }
 
 // Puts the bytes of a batch in place of what `room` held: the shortest spellings of its messages,
@@ -58,9 +44,16 @@ fn spell(
     ensures told { OnOk result (painter.new.told ≡ told_with painter.old.told batch.scene) }
 {
     let Batch { messages, scene } = batch;
-    let messages = own_messages(alloc, messages)?;
     room.clear();
-    painter.speak(alloc, SpokenBatch { messages, scene }, room)
+    put_messages(alloc, messages, room)?;
+    painter.speak(
+        alloc,
+        SpokenBatch {
+            messages: Vec::new(alloc),
+            scene,
+        },
+        room,
+    )
 }
 
 impl Outgoing {

@@ -21,7 +21,7 @@ pub use effect::{Batch, Cause, Effect, Stop};
 pub use entry::{Entry, Event};
 pub use history::History;
 pub use laws::world_laws;
-pub use shared::{LinesEvent, SharedMessage};
+pub use shared::{LinesEvent, SharedMessage, put_messages};
 pub use step::{BufferSplice, Step};
 pub use story::Start;
 pub use world::World;

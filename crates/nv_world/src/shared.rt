@@ -1,16 +1,17 @@
 //! Messages as they wait, whose lines are shared by all who are told them.
-ghost use Rattle.std.specs.Prelude.{◌≡◌, ◌<◌, ◌^◌, ◌↔◌, pos, negsuc, nat_abs, length, All, IsTrue, IfOk, Some, None};
+ghost use Rattle.std.specs.Prelude.{◌≡◌, ◌<◌, ◌^◌, ◌++◌, ◌↔◌, pos, negsuc, nat_abs, length, map, All, IsTrue, IfOk, OnOk, Some, None};
 ghost use Rattle.std.specs.Arc.{arc_value};
 ghost use Rattle.nv_value.specs.View.{contents};
 ghost use Rattle.nv_rpc.specs.Messages.{IsSendable, lines_event};
 ghost use Rattle.nv_rpc.specs.MessageView.{sent_of};
 ghost use Rattle.nv_args.specs.Texts.{strings};
 ghost use Rattle.nv_history.specs.Sessions.{first_message, splice_message};
+ghost use Rattle.nv_history.specs.Spoken.{bytes_of_messages};
 ghost use Rattle.nv_world.specs.Contents.{sent_of_lines, sent_of_shared};
 ghost use Rattle.nv_world.specs.inside.Notices.{sent_of_notice};
 
 use nv_buffer::{LineList, Spliced};
-use nv_rpc::Message;
+use nv_rpc::{Message, put_message};
 use nv_value::{Items, Value};
 use std::alloc::{AllocError, Global};
 use std::sync::Arc;
@@ -67,6 +68,22 @@ impl SharedMessage {
             SharedMessage::Lines(event) => lines_message(alloc, &event),
         }
     }
+}
+
+/// Puts messages behind what `into` holds, each in its shortest spelling.
+pub fn put_messages(
+    alloc: Global,
+    messages: Vec<SharedMessage>,
+    into: &mut Vec<u8>,
+) -> Result<(), AllocError>
+    requires { All IsSendable (map sent_of_shared messages.items) }
+    ensures { OnOk result (into.new.items ≡ into.old.items
+        ++ bytes_of_messages (map sent_of_shared messages.items)) }
+{
+    for message in messages {
+        put_message(alloc, message.into_message(alloc)?, into)?;
+    }
+    Ok(())
 }
 
 // A lines event as a message.
