@@ -53,19 +53,19 @@ pub fn shift_starts(starts: &mut Vec<Start>, by: Shift)
     shift_each(starts.as_mut_slice(), by);
 }
 
-// Keeps the start of each 64th chunk, where there is memory for it.
+// Keeps the start of each 32nd chunk, where there is memory for it.
 fn keep_start(starts: &mut Vec<Start>, chunks: &[Chunk], at: Start)
     requires starts { All (IsStart chunks.now) starts.old.items }
     requires start { IsStart chunks.now at }
     ensures { All (IsStart chunks.now) starts.new.items }
 {
     let _ = chunks;
-    if at.chunk % 64 == 0 {
+    if at.chunk % 32 == 0 {
         let _ = starts.push(at);
     }
 }
 
-/// Makes the starts anew: one of each 64th chunk, or fewer where memory is wanting.
+/// Makes the starts anew: one of each 32nd chunk, or fewer where memory is wanting.
 pub fn make_starts(starts: &mut Vec<Start>, chunks: &[Chunk])
     requires each { All IsChunk chunks.now }
     requires small { length (flat (chunk_lines chunks.now)) < 2 ^ 64 }

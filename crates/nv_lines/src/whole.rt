@@ -135,6 +135,9 @@ impl Lines {
         requires within { to ≤ length self.now }
         ensures { row_start self.now from + result ≡ row_start self.now to }
     {
+        if from == to {
+            return 0;
+        }
         self.offset(to) - self.offset(from)
     }
 
