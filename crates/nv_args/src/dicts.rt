@@ -21,7 +21,19 @@ use std::collections::BTreeSet;
 const LONGEST_NAME: usize = 2_147_483_647;
 
 /// The value of a key, where it is there.
+#[inline(always)]
 pub fn value_of<'a>(pairs: &'a [Pair], name: &str) -> Option<&'a Value>
+    ensures { option_map (λ v. content v.now) result
+        ≡ value_of name.now (last_pairs (map pair_content pairs.now)) }
+{
+    match pairs {
+        [] => None,
+        _ => last_value_of(pairs, name),
+    }
+}
+
+// The same, by a look at each pair, the last one first.
+fn last_value_of<'a>(pairs: &'a [Pair], name: &str) -> Option<&'a Value>
     ensures { option_map (λ v. content v.now) result
         ≡ value_of name.now (last_pairs (map pair_content pairs.now)) }
 {

@@ -1,7 +1,7 @@
 use Rattle.std.proofs.Common.{◌≡◌, ◌≤◌, map, drop, length, None}
 use Rattle.nv_value.specs.View.{pair_content}
 use Rattle.nv_args.proofs.DictLemmas.{last_value}
-use Rattle.nv_args.proofs.dicts.value_of.Given as goal
+use Rattle.nv_args.proofs.dicts.last_value_of.Given as goal
 
 abbrev pub invariant-loop-left : goal.invariant-loop-left
 invariant-loop-left l =

@@ -1,7 +1,7 @@
 use Rattle.std.proofs.Common.{◌≡◌, ◌-◌, ◌<◌, sym, ◌∙◌, arith}
 use Rattle.std.proofs.lemmas.Bool.Decides.{nat_tests}
 use Rattle.nv_args.proofs.DictLemmas.{value-here, value-nowhere}
-use Rattle.nv_args.proofs.dicts.value_of.Goals as goal
+use Rattle.nv_args.proofs.dicts.last_value_of.Goals as goal
 
 pub returns-then-has_name : goal.returns-then-has_name
 returns-then-has_name c =
