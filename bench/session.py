@@ -233,14 +233,14 @@ def figures(words):
     return found
 
 
-def beside(program, figures):
+def beside(program, figures, times):
     busy = os.getloadavg()[0] > 1
     print(f"load {os.getloadavg()[0]:.1f}" + (": the machine is busy, so the figures are not to be relied on" if busy else ""))
     ours, theirs = [], []
-    for _ in range(3):
+    for _ in range(times):
         theirs.append(figures(["nvim", "--embed", "--headless", "-u", "NONE", "-i", "NONE", "-n"]))
         ours.append(figures([program, "embed"]))
-    print(f"    {'medians of three runs':36} {'Neovim':>9} {'nvimd':>9} {'ratio':>6}")
+    print(f"    {f'medians of {times} runs':36} {'Neovim':>9} {'nvimd':>9} {'ratio':>6}")
     for name in theirs[0]:
         one = statistics.median(run[name] for run in theirs)
         other = statistics.median(run[name] for run in ours)
@@ -249,8 +249,8 @@ def beside(program, figures):
 
 def main():
     if len(sys.argv) > 1 and sys.argv[1] in ("beside", "marks"):
-        asked = figures if sys.argv[1] == "beside" else all_mark_figures
-        return beside(sys.argv[2] if len(sys.argv) > 2 else PROGRAM, asked)
+        asked, times = (figures, 3) if sys.argv[1] == "beside" else (all_mark_figures, 7)
+        return beside(sys.argv[2] if len(sys.argv) > 2 else PROGRAM, asked, times)
     program = sys.argv[1] if len(sys.argv) > 1 else PROGRAM
     if not os.path.exists(program):
         raise SystemExit("build it first: ./nvimd embed </dev/null")
