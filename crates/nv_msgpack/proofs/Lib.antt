@@ -9,6 +9,7 @@ pub mod Loop
 pub mod Partial
 pub mod Places
 pub mod Readings
+pub mod Requests
 pub mod Sound
 pub mod Items
 pub mod Writing

@@ -61,7 +61,7 @@ after-after m n (whole a k) = ap (λ (x : ℕ). whole a x) (omega arith)
 after-after m n more = refl
 after-after m n (flawed x k) = ap (λ (y : ℕ). flawed x y) (omega arith)
 
-after-zero : {A : Type 0} (r : Reading A) → after 0 r ≡ r
+pub after-zero : {A : Type 0} (r : Reading A) → after 0 r ≡ r
 after-zero (whole a k) = ap (λ (x : ℕ). whole a x) (omega arith)
 after-zero more = refl
 after-zero (flawed x k) = ap (λ (y : ℕ). flawed x y) (omega arith)
@@ -328,12 +328,17 @@ plain_by i (alone t) room rest h = refl
 plain_by i (raw r s) room rest h = refl
 plain_by i (many m s) room rest h = absurd h
 
+-- what lies inside is one less deep
+pub value_inside : (depth room at : ℕ) (bytes : List ℕ) (f : Form) → 0 < depth → at < length bytes → f ≡ form (get_or bytes at 0)
+    → value_at depth room (drop at bytes) ≡ read_by (some (items_at (value_at (depth - 1)))) f room (drop (at + 1) bytes)
+value_inside depth room at bytes f h l e =
+    let d : depth ≡ suc (depth - 1) = omega arith in
+    ap (λ (x : ℕ). value_at x room (drop at bytes)) d ∙ value_first (suc (depth - 1)) room at bytes f l e
+
 -- a list or map, one less deep inside
 pub value_many : (depth room at : ℕ) (bytes : List ℕ) (m : Many) (s : Size) → 0 < depth → at < length bytes → many m s ≡ form (get_or bytes at 0)
     → value_at depth room (drop at bytes) ≡ many_at (items_at (value_at (depth - 1))) m s room (drop (at + 1) bytes)
-value_many depth room at bytes m s h l e =
-    let d : depth ≡ suc (depth - 1) = omega arith in
-    ap (λ (x : ℕ). value_at x room (drop at bytes)) d ∙ value_first (suc (depth - 1)) room at bytes (many m s) l e
+value_many depth room at bytes m s h l e = value_inside depth room at bytes (many m s) h l e
 
 -- what is no list or map, or lies at depth 0
 plain_at : (depth : ℕ) (f : Form) (room : ℕ) (rest : List ℕ) → (0 < depth → IsPlain f) → read_by (inside_of depth) f room rest ≡ read_by none f room rest

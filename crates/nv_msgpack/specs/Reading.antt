@@ -1,6 +1,6 @@
 -- The value at the front of a text, read from the left. It is what bounds a text that comes in
 -- pieces: which byte is the first that no spelling allows.
-use Rattle.std.specs.Prelude.{ℕ, ◌+◌, ◌-◌, nat_lt, if◌then◌else◌, List, [], ◌∷◌, length, take, drop, zero, suc}
+use Rattle.std.specs.Prelude.{ℕ, ◌≡◌, ◌+◌, ◌-◌, nat_lt, if◌then◌else◌, List, [], ◌∷◌, length, take, drop, zero, suc}
 use Rattle.nv_value.specs.Content.{Tree, Trees, no_more, one}
 use Rattle.nv_msgpack.specs.Spelling.{Size, Raw, Many, Form, unused, alone, raw, many, form, width, number_in, extra, raw_value, values, many_value}
 
@@ -85,3 +85,8 @@ read_with inside room (b ∷ rest) = read_by inside (form b) room rest
 unfoldable pub value_at : ℕ → ℕ → List ℕ → Reading Tree
 value_at zero = read_with none
 value_at (suc depth) = read_with (some (items_at (value_at depth)))
+
+-- This value stands at a place of the bytes, ends before the limit, and that place is behind it.
+abbrev pub IsReadAt : ℕ → ℕ → List ℕ → ℕ → Tree → ℕ → Type 0
+IsReadAt depth limit bytes at t end =
+    after at (value_at depth (limit - at) (drop at bytes)) ≡ whole t end

@@ -9,6 +9,7 @@ mod heads;
 mod integer;
 mod laws;
 mod numbers;
+mod pieces;
 mod reader;
 mod stop;
 mod writer;
@@ -21,5 +22,6 @@ pub use laws::{
     encoded_is_read, shortest_is_least, shortest_is_spelling, spelled_has_spelling,
     spellings_are_apart, streams_have_one_cut,
 };
+pub use pieces::{list_at, number_at, text_at};
 pub use reader::decode;
 pub use writer::encode;

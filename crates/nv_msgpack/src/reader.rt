@@ -20,7 +20,7 @@ const FEW: u64 = 8;
 
 /// The bytes behind a length, and `extra` more. The value begins at `at` and ends before `limit`.
 #[inline(always)]
-fn payload_of(
+pub fn payload_of(
     bytes: &[u8],
     at: usize,
     size: Length,
@@ -48,7 +48,7 @@ fn payload_of(
 
 /// The length of a list or map, whose every entry is `each` values, and where the values begin.
 #[inline(always)]
-fn head_of(
+pub fn head_of(
     bytes: &[u8],
     at: usize,
     size: Length,
@@ -219,7 +219,7 @@ fn map_of(
 
 /// So many values from `start` on.
 #[cycle(decode)]
-fn items_of(
+pub fn items_of(
     alloc: Global,
     bytes: &[u8],
     start: usize,
