@@ -5,3 +5,4 @@ pub mod Inverse
 pub mod OtherLengths
 pub mod Sendable
 pub mod Spelled
+pub mod WholeRequests

@@ -1,3 +1,4 @@
 -- What private contracts alone cite.
 pub mod Outlines
 pub mod Heads
+pub mod Parts

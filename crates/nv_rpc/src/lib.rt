@@ -1,6 +1,7 @@
 //! The messages of MessagePack-RPC: what a client sends, and what the server answers and tells.
 #![tactic(auto)]
 
+mod arriving;
 mod frame;
 mod laws;
 mod message;
@@ -10,6 +11,7 @@ mod sending;
 mod shortest;
 mod spelling;
 
+pub use arriving::decode_call;
 pub use frame::{Frame, call_of};
 pub use laws::{read_is_told, told_is_read};
 pub use message::Message;
