@@ -3,4 +3,5 @@ pub mod Heads
 pub mod Places
 pub mod Scans
 pub mod Single
+pub mod Skipped
 pub mod Taken

@@ -1,6 +1,7 @@
 -- What a stream answers when it is asked for the next value. How values are spelled is the
 -- MessagePack specification's; bounds, flaws and places are own rules.
 use Rattle.std.specs.Prelude.{ℕ, ◌+◌, ◌≡◌, ◌⊎◌, List, [], ◌++◌, length, Some, None}
+use Rattle.nv_value.specs.Content.{Tree}
 use Rattle.nv_value.specs.View.{content}
 use Rattle.nv_msgpack.specs.Reading as reading
 use Rattle.nv_msgpack.specs.Reading.{value_at, flawed, bad, too_deep, too_long}
@@ -33,15 +34,19 @@ IsFlawAt depth most start held (NoCall number) = ⊥
 abbrev pub NeedsMore : State → Type 0
 NeedsMore s = (s.held ≡ []) ⊎ IsPartial s.depth s.most s.held
 
--- What a stream may answer from one state to the next: the value whose spelling stands at the front
--- of what is held, which it takes away;
+-- A value is taken from a stream: its spelling stands at the front of what is held, and is taken
+-- away.
+abbrev pub TakesTree : Tree → State → State → Type 0
+TakesTree t old new =
+    (front : List ℕ) × (old.flaw ≡ None) × SpellsWithin old.depth old.most t front
+    × (old.held ≡ front ++ new.held)
+    × (new ≡ behind_value old (length front) new.held) × HasSpelling t
+
+-- What a stream may answer from one state to the next: the value that it takes from what is held;
 -- `More` where what is held is empty or the proper beginning of a value's spelling; the flaw that
 -- was met, or else that of what is held.
 abbrev pub IsAnswer : Next → State → State → Type 0
-IsAnswer (TheValue v) old new =
-    (front : List ℕ) × (old.flaw ≡ None) × SpellsWithin old.depth old.most (content v) front
-    × (old.held ≡ front ++ new.held)
-    × (new ≡ behind_value old (length front) new.held) × HasSpelling (content v)
+IsAnswer (TheValue v) old new = TakesTree (content v) old new
 IsAnswer AskMore old new = (new ≡ old) × (old.flaw ≡ None) × NeedsMore old
 IsAnswer (TheFlaw f) old new =
     (new ≡ with_flaw old f) × ((old.flaw ≡ Some f) ⊎

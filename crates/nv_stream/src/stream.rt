@@ -1,9 +1,11 @@
 //! The stream: what was fed and not yet given.
-ghost use Rattle.std.specs.Prelude.{◌≡◌, ◌+◌, ◌^◌, ◌<◌, ◌≤◌, true, drop, length, vec_len, IfOk, OnOk, OnErr};
+ghost use Rattle.std.specs.Prelude.{◌≡◌, ◌+◌, ◌^◌, ◌<◌, ◌≤◌, true, drop, length, vec_len, IfOk, IfSome, OnOk, OnErr};
 ghost use Rattle.nv_stream.specs.State.{empty_state, with_piece, behind_value, with_flaw, stream_end};
+ghost use Rattle.nv_value.specs.Content.{Tree};
 ghost use Rattle.nv_msgpack.specs.Decoded.{IsRight, HasSpellingIfWhole, decoded_seen};
-ghost use Rattle.nv_msgpack.specs.Reading.{value_at};
-ghost use Rattle.nv_stream.specs.Answers.{IsAnswer, NeedsMore};
+ghost use Rattle.nv_msgpack.specs.Reading.{whole, value_at};
+ghost use Rattle.nv_msgpack.specs.Shortest.{HasSpelling};
+ghost use Rattle.nv_stream.specs.Answers.{IsAnswer, NeedsMore, TakesTree};
 
 use crate::scan::Scan;
 use nv_io::Flaw;
@@ -118,6 +120,31 @@ impl Stream {
         }
         let found = decode(self.alloc, self.held(), self.bounds)?;
         Ok(self.answer(found))
+    }
+
+    /// What is held, for a caller that knows how to read the value at its front. `None` where a
+    /// flaw was met, or where that value was found unfinished already.
+    pub fn untried(&self) -> Option<&[u8]>
+        ensures held { IfSome result (λ bytes. bytes.now ≡ self.now.held) }
+        ensures no_flaw { IfSome result (λ bytes. self.now.flaw ≡ None) }
+    {
+        if self.is_unfinished || self.flaw.is_some() {
+            return None;
+        }
+        Some(self.held())
+    }
+
+    /// Takes the value at the front of what is held, which the caller has read: so many bytes spell
+    /// it.
+    pub fn skip(&mut self, taken: usize)
+        requires no_flaw { self.old.flaw ≡ None }
+        requires whole { (t : Tree)
+            × (value_at self.old.depth self.old.most self.old.held ≡ whole t taken) }
+        ensures { (t : Tree) → value_at self.old.depth self.old.most self.old.held ≡ whole t taken
+            → HasSpelling t → TakesTree t self.old self.new }
+    {
+        let _ = &self.alloc;
+        self.give(taken);
     }
 
     // Whether it shows without decoding that more bytes are needed.
