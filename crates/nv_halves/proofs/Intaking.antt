@@ -1,19 +1,17 @@
 -- How bytes become calls, step by step.
 use Rattle.std.proofs.Common.{Result, Ok, Err, ◌≡◌, ◌⊎◌, ℕ, ◌+◌, ◌<◌, ◌≤◌, List, [], ◌∷◌, ◌++◌, length, Option, Some, None, refl, sym, ap, ◌∙◌, subst, arith, length-append, append_assoc, append-nil, inl, inr, ⊎_elim}
 use Rattle.std.specs.Option.{option_or}
-use Rattle.std.specs.Io.KnownBytes.{append_known, prepend_known, IsAtEnd}
+use Rattle.std.specs.Io.KnownBytes.{append_known, prepend_known}
 use Rattle.nv_io.specs.Streams.{Gave}
 use Rattle.nv_io.specs.declared.ending.Flaw.{Flaw}
 use Rattle.nv_io.specs.declared.ending.Flaw.TheVariants.{Bad, TooDeep, TooLong, Inside, NoCall}
 use Rattle.nv_value.specs.Content.{Tree}
-use Rattle.nv_value.specs.View.{content}
-use Rattle.nv_value.specs.declared.value.Value.{Value}
 use Rattle.nv_msgpack.specs.Within.{SpellsWithin, IsPartial}
 use Rattle.nv_msgpack.proofs.Complete.{has_byte-in}
 use Rattle.nv_stream.specs.State.{State, with_piece, behind_value, with_flaw, end_at, stream_end}
 use Rattle.nv_stream.specs.State as stream
-use Rattle.nv_stream.specs.Answers.{NeedsMore, IsAnswer, IsFlawAt}
-use Rattle.nv_stream.specs.declared.stream.Next.TheVariants.{Value as TheValue, Flaw as TheFlaw}
+use Rattle.nv_stream.specs.Answers.{NeedsMore, IsAnswer, IsFlawAt, TakesTree}
+use Rattle.nv_stream.specs.declared.stream.Next.TheVariants.{Flaw as TheFlaw}
 use Rattle.nv_turn.specs.Passes.{IsSamePass}
 use Rattle.nv_rpc.specs.Calls.{Call, call_in}
 use Rattle.nv_world.specs.Contents.{plain_cause}
@@ -21,7 +19,7 @@ use Rattle.nv_halves.specs.Passes.{WorldPass}
 use Rattle.nv_halves.specs.Reading.{most_depth, most_bytes, Calls, EndsAt, ReadsFrom, BeginWithCalls, WasRead, IsUnfinished, IfInside}
 use Rattle.nv_halves.specs.Halves.{Asks, AsksAll, AsksSome, Goes, ReadBy, ReadsHalf}
 use Rattle.nv_halves.specs.inside.Insisting.{AsksOnce, Shuts}
-use Rattle.nv_halves.specs.inside.Intakes.{IsReadable, IsUnread, MakesCalls, MakesAll, StopsIn, reader_end_by_flaw, CountsAsked, StepsAtCall, StepsAtValue, Steps, MakesHeld, MakesPiece, end_after_close, ClosesAfter}
+use Rattle.nv_halves.specs.inside.Intakes.{IsReadable, IsUnread, MakesCalls, MakesAll, StopsIn, reader_end_by_flaw, CountsAsked, StepsAtCall, Steps, MakesHeld, MakesPiece, end_after_close, ClosesAfter}
 use Rattle.nv_halves.specs.declared.ends.ReaderEnd.{ReaderEnd}
 use Rattle.nv_halves.specs.declared.ends.ReaderEnd.TheVariants as reader
 use Rattle.nv_halves.specs.declared.insisting.Asked.{Asked}
@@ -262,37 +260,27 @@ counted_call p q session call asked.Done done old new a c = subst (λ (d : Stepp
 counted_call p q session call (asked.Gone cause) done old new a c = subst (λ (d : Stepped). StepsAtCall d call old new p q session) (sym c.0) a
 counted_call p q session call asked.NoMemory done old new a c = subst (λ (d : Stepped). StepsAtCall d call old new p q session) (sym c.0) a
 
-pub value_called : (p q : WorldPass) (session : ℕ) (value : Value) (call : Call) (done : Stepped) (old new : Intake) → call_in (content value) ≡ Some call → StepsAtCall done call old new p q session
-    → StepsAtValue done (content value) old new p q session
-value_called p q session value call stepped.On old new e h = (call, e, h)
-value_called p q session value call stepped.Waits old new e h = absurd h
-value_called p q session value call (stepped.Ends reader.Closed) old new e h = absurd h
-value_called p q session value call (stepped.Ends (reader.Malformed flaw)) old new e h = absurd h
-value_called p q session value call (stepped.Ends reader.ReadFault) old new e h = absurd h
-value_called p q session value call (stepped.Ends (reader.Gone cause)) old new e h = (call, e, h)
-value_called p q session value call (stepped.Ends reader.NoMemory) old new e h = (call, e, h)
-
 -- one from which the stream has given a value
-pub record GivesValue (v : Value) (old middle : Intake) : Type 0 where
-  pub gives : IsAnswer (TheValue v) old.stream middle.stream
+pub record GivesValue (v : Tree) (old middle : Intake) : Type 0 where
+  pub gives : TakesTree v old.stream middle.stream
   pub number : middle.number ≡ old.number
 
-within_bounds : (v : Value) (old : Intake) (front : List ℕ) → IsReadable old → SpellsWithin old.stream.depth old.stream.most (content v) front → SpellsWithin most_depth most_bytes (content v) front
+within_bounds : (v : Tree) (old : Intake) (front : List ℕ) → IsReadable old → SpellsWithin old.stream.depth old.stream.most v front → SpellsWithin most_depth most_bytes v front
 within_bounds v old front r h =
-    let P : ℕ → ℕ → Type 0 = λ d m. SpellsWithin d m (content v) front in
+    let P : ℕ → ℕ → Type 0 = λ d m. SpellsWithin d m v front in
     subst (λ (d : ℕ). P d most_bytes) r.depth (subst (λ (m : ℕ). P old.stream.depth m) r.most h)
 
 -- the value that was given is spelled within the bounds
-pub spelled_front : (v : Value) (old : Intake) (new : State) → IsReadable old → IsAnswer (TheValue v) old.stream new → (front : List ℕ) × SpellsWithin most_depth most_bytes (content v) front
+pub spelled_front : (v : Tree) (old : Intake) (new : State) → IsReadable old → TakesTree v old.stream new → (front : List ℕ) × SpellsWithin most_depth most_bytes v front
 spelled_front v old new r g = (g.0, within_bounds v old g.0 r g.2)
 
-spelled_given : (v : Value) (old middle : Intake) (g : GivesValue v old middle) → IsReadable old → SpellsWithin most_depth most_bytes (content v) g.gives.0
+spelled_given : (v : Tree) (old middle : Intake) (g : GivesValue v old middle) → IsReadable old → SpellsWithin most_depth most_bytes v g.gives.0
 spelled_given v old middle g r = within_bounds v old g.gives.0 r g.gives.2
 
 not_inside : (flaw : Flaw) (n : ℕ) → flaw ≡ NoCall n → IfInside flaw ⊥
 not_inside flaw n e = subst (λ (f : Flaw). IfInside f ⊥) (sym e) tt
 
-no_call_here : (flaw : Flaw) (v : Value) (old middle : Intake) (p q : WorldPass) (session : ℕ) → IsReadable old → GivesValue v old middle → flaw ≡ NoCall middle.number → call_in (content v) ≡ None → q ≡ p
+no_call_here : (flaw : Flaw) (v : Tree) (old middle : Intake) (p q : WorldPass) (session : ℕ) → IsReadable old → GivesValue v old middle → flaw ≡ NoCall middle.number → call_in v ≡ None → q ≡ p
     → MakesAll (Some flaw) old.stream.held old p q session
 no_call_here flaw v old middle p q session r g e n k =
     let E : Flaw → Type 0 = λ f. EndsAt old.number old.stream.start old.stream.held (Some f) in
@@ -301,7 +289,7 @@ no_call_here flaw v old middle p q session r g e n k =
       reads = subst E (sym e) (
         g.number,
         record {
-          value = content v;
+          value = v;
           front = g.gives.0;
           rest = middle.stream.held;
           spelled = spelled_given v old middle g r;
@@ -312,19 +300,19 @@ no_call_here flaw v old middle p q session r g e n k =
       asks = subst (λ (x : WorldPass). Asks p x session []) (sym k) (asks_self p session);
     }
 
-one_spelled : (v : Value) (old middle : Intake) (call : Call) (g : GivesValue v old middle) → IsReadable old → call_in (content v) ≡ Some call → Calls (call ∷ []) g.gives.0
+one_spelled : (v : Tree) (old middle : Intake) (call : Call) (g : GivesValue v old middle) → IsReadable old → call_in v ≡ Some call → Calls (call ∷ []) g.gives.0
 one_spelled v old middle call g r e =
-    (g.gives.0, [], record { value = content v; spelled = spelled_given v old middle g r; is_call = e }, sym (append-nil g.gives.0), refl)
+    (g.gives.0, [], record { value = v; spelled = spelled_given v old middle g r; is_call = e }, sym (append-nil g.gives.0), refl)
 
 -- the value was a call, and was made
-made_one : (v : Value) (old middle new : Intake) (p q : WorldPass) (session : ℕ) (call : Call) → IsReadable old → GivesValue v old middle → call_in (content v) ≡ Some call
+made_one : (v : Tree) (old middle new : Intake) (p q : WorldPass) (session : ℕ) (call : Call) → IsReadable old → GivesValue v old middle → call_in v ≡ Some call
     → StepsAtCall stepped.On call middle new p q session → Steps stepped.On old new p q session
 made_one v old middle new p q session call r g e a =
     let state : new.stream ≡ behind_value old.stream (length g.gives.0) middle.stream.held = a.0 ∙ g.gives.4 in
     let place : new.stream.start ≡ old.stream.start + length g.gives.0 = ap (λ (x : State). x.start) state in
     let held : new.stream.held ≡ middle.stream.held = ap (λ (x : State). x.held) state in
     let parts : old.stream.held ≡ g.gives.0 ++ new.stream.held = g.gives.3 ∙ ap (λ (l : List ℕ). g.gives.0 ++ l) (sym held) in
-    let some : 0 < length g.gives.0 = has_byte-in old.stream.depth (content v) g.gives.0 g.gives.2.0 in
+    let some : 0 < length g.gives.0 = has_byte-in old.stream.depth v g.gives.0 g.gives.2.0 in
     let number : new.number ≡ old.number + 1 = a.1 ∙ ap (λ (n : ℕ). n + 1) g.number in
     let fewer : old.number ≤ old.stream.start = r.counted in (
       record {
@@ -345,17 +333,23 @@ made_one v old middle new p q session call r g e a =
       omega (arith, ap (length {A = ℕ}) parts, length-append g.gives.0 new.stream.held),
     )
 
--- what came of the value that the stream gave
-pub stepped_value : (done : Stepped) (v : Value) (old middle new : Intake) (p q : WorldPass) (session : ℕ) → IsReadable old → GivesValue v old middle → StepsAtValue done (content v) middle new p q session
-    → Steps done old new p q session
-stepped_value stepped.On v old middle new p q session r g h = made_one v old middle new p q session h.0 r g h.1 h.2
-stepped_value stepped.Waits v old middle new p q session r g h = absurd h.2
-stepped_value (stepped.Ends (reader.Malformed flaw)) v old middle new p q session r g h =
-    (no_call_here flaw v old middle p q session r g h.0 h.1 h.2, not_inside flaw middle.number h.0)
-stepped_value (stepped.Ends reader.Closed) v old middle new p q session r g h = absurd h.2
-stepped_value (stepped.Ends reader.ReadFault) v old middle new p q session r g h = absurd h.2
-stepped_value (stepped.Ends (reader.Gone cause)) v old middle new p q session r g h = (some_made old.stream.held p q session h.2.0, h.2.1)
-stepped_value (stepped.Ends reader.NoMemory) v old middle new p q session r g h = some_made old.stream.held p q session h.2
+-- what came of the call that the stream gave
+pub stepped_call : (done : Stepped) (v : Tree) (call : Call) (old middle new : Intake) (p q : WorldPass) (session : ℕ) → IsReadable old → GivesValue v old middle → call_in v ≡ Some call
+    → StepsAtCall done call middle new p q session → Steps done old new p q session
+stepped_call stepped.On v call old middle new p q session r g e h = made_one v old middle new p q session call r g e h
+stepped_call stepped.Waits v call old middle new p q session r g e h = absurd h
+stepped_call (stepped.Ends reader.Closed) v call old middle new p q session r g e h = absurd h
+stepped_call (stepped.Ends (reader.Malformed flaw)) v call old middle new p q session r g e h = absurd h
+stepped_call (stepped.Ends reader.ReadFault) v call old middle new p q session r g e h = absurd h
+stepped_call (stepped.Ends (reader.Gone cause)) v call old middle new p q session r g e h = (some_made old.stream.held p q session h.0, h.1)
+stepped_call (stepped.Ends reader.NoMemory) v call old middle new p q session r g e h = some_made old.stream.held p q session h
+
+-- the stream gave a value that is no call
+pub stepped_none : (v : Tree) (old middle new : Intake) (p : WorldPass) (session : ℕ) → IsReadable old → GivesValue v old middle → call_in v ≡ None
+    → Steps (stepped.Ends (reader.Malformed (NoCall middle.number))) old new p p session
+stepped_none v old middle new p session r g e =
+    let flaw = NoCall middle.number in
+    (no_call_here flaw v old middle p p session r g refl e refl, not_inside flaw middle.number refl)
 
 -- ---- a flaw of the stream
 
@@ -463,9 +457,9 @@ pub no_read_fault : (flaw : Option Flaw) → reader_end_by_flaw flaw ≡ reader.
 no_read_fault None e = cc
 no_read_fault (Some flaw) e = cc
 
-pub value_no_fault : (done : Stepped) (value : Tree) (old new : Intake) (p q : WorldPass) (session : ℕ) → StepsAtValue done value old new p q session → done ≡ stepped.Ends reader.ReadFault → ⊥
-value_no_fault done value old new p q session h e =
-    let k = subst (λ (d : Stepped). StepsAtValue d value old new p q session) e h in k.2
+pub call_no_fault : (done : Stepped) (call : Call) (old new : Intake) (p q : WorldPass) (session : ℕ) → StepsAtCall done call old new p q session → done ≡ stepped.Ends reader.ReadFault → ⊥
+call_no_fault done call old new p q session h e =
+    subst (λ (d : Stepped). StepsAtCall d call old new p q session) e h
 
 -- ---- the close
 

@@ -1,3 +1,4 @@
+pub mod AtOnce
 pub mod CallBounds
 pub mod ReadsOnce
 pub mod Plains

@@ -4,39 +4,30 @@ ghost use Rattle.std.specs.Prelude.{◌≡◌, ℕ, ◌+◌, ◌^◌, ◌<◌, �
 ghost use Rattle.std.specs.Io.KnownBytes.{IsAtEnd};
 ghost use Rattle.nv_io.specs.Faults.{Rose};
 ghost use Rattle.nv_io.specs.Streams.{Gave};
-ghost use Rattle.nv_value.specs.View.{content};
-ghost use Rattle.nv_msgpack.specs.Within.{SpellsWithin};
 ghost use Rattle.nv_stream.specs.State.{stream_end};
 ghost use Rattle.nv_stream.specs.Answers.{NeedsMore};
 ghost use Rattle.nv_halves.specs.Passes.{plain_pass};
-ghost use Rattle.nv_halves.specs.Reading.{most_depth, most_bytes};
 ghost use Rattle.nv_rpc.specs.Frames.{call_of_frame};
 ghost use Rattle.nv_world.specs.Worlds.{IsLightCall};
-ghost use Rattle.nv_halves.specs.inside.Intakes.{CountsAsked, HoldsPiece, IsReadable, IsUnread, MakesHeld, MakesPiece, Steps, StepsAtCall, StepsAtValue, reader_end_by_flaw};
+ghost use Rattle.nv_halves.specs.inside.Intakes.{CountsAsked, HoldsPiece, IsReadable, IsUnread, MakesHeld, MakesPiece, Steps, StepsAtCall, reader_end_by_flaw};
 
 use crate::bells::Bell;
+use crate::calls::{BOUNDS, NextCall, next_call};
 use crate::ends::ReaderEnd;
 use crate::insisting::{Asked, ask};
 use nv_io::{Flaw, Got, Source};
-use nv_msgpack::Bounds;
-use nv_rpc::{Frame, call_of};
-use nv_stream::{Next, Stream};
+use nv_rpc::Frame;
+use nv_stream::Stream;
 use nv_turn::{Pass, Turn};
-use nv_value::Value;
 use nv_world::World;
 use std::alloc::{AllocError, Global};
 use std::net::{Net, TcpListener, TcpStream};
 use std::sync::Wait;
 
-// What bounds a message: at most so many lists and maps one in another, and at most so many bytes.
-const BOUNDS: Bounds = Bounds {
-    depth: 64,
-    bytes: 67_108_864,
-};
-
 /// The bytes of a session that came and aren't calls yet, and how many calls were made.
 #[derive(Drop)]
 pub struct Intake {
+    alloc: Global,
     stream: Stream,
     number: u64,
 }
@@ -57,6 +48,7 @@ impl Intake {
         ensures { IfOk result (λ s. IsUnread s × IsReadable s) }
     {
         Ok(Intake {
+            alloc,
             stream: Stream::new(alloc, BOUNDS)?,
             number: 0,
         })
@@ -115,32 +107,6 @@ impl Intake {
         (pass, self.count(asked))
     }
 
-    // Makes the call that a value is.
-    fn make<R: Wait>(
-        &mut self,
-        rt: &R,
-        turn: &Turn<World>,
-        bells: &[Bell],
-        pass: Pass<World>,
-        session: u64,
-        value: Value,
-    ) -> (Pass<World>, Stepped)
-        requires turn { pass.turn ≡ turn.now.turn }
-        requires spelled { (front : List ℕ)
-            × SpellsWithin most_depth most_bytes (content value) front }
-        requires number { self.old.number < 2 ^ 63 }
-        ensures { StepsAtValue result.1 (content value) self.old self.new (plain_pass pass)
-            (plain_pass result.0) session }
-    {
-        match call_of(value) {
-            Ok(call) => self.make_call(rt, turn, bells, pass, session, call),
-            Err(_) => (
-                pass,
-                Stepped::Ends(ReaderEnd::Malformed(Flaw::NoCall(self.number))),
-            ),
-        }
-    }
-
     // Makes the next call of what it holds.
     fn step<R: Wait>(
         &mut self,
@@ -157,13 +123,17 @@ impl Intake {
             session }
         ensures no_read { result.1 ≡ Stepped.Ends ReaderEnd.ReadFault → ⊥ }
     {
-        let Ok(next) = self.stream.next() else {
+        let Ok(next) = next_call(self.alloc, &mut self.stream) else {
             return (pass, Stepped::Ends(ReaderEnd::NoMemory));
         };
         match next {
-            Next::Value(value) => self.make(rt, turn, bells, pass, session, value),
-            Next::More => (pass, Stepped::Waits),
-            Next::Flaw(flaw) => (pass, Stepped::Ends(ReaderEnd::Malformed(flaw))),
+            NextCall::Call(call) => self.make_call(rt, turn, bells, pass, session, call),
+            NextCall::NoCall => (
+                pass,
+                Stepped::Ends(ReaderEnd::Malformed(Flaw::NoCall(self.number))),
+            ),
+            NextCall::More => (pass, Stepped::Waits),
+            NextCall::Flaw(flaw) => (pass, Stepped::Ends(ReaderEnd::Malformed(flaw))),
         }
     }
 

@@ -1,11 +1,9 @@
 -- inside: the bytes of a session on their way to calls, each step from the state before it.
 use Rattle.std.specs.Prelude.{◌≡◌, ℕ, ◌+◌, ◌<◌, ◌≤◌, List, [], ◌∷◌, ◌++◌, length, Option, Some, None, Result, Ok, Err}
 use Rattle.nv_io.specs.declared.ending.Flaw.{Flaw}
-use Rattle.nv_io.specs.declared.ending.Flaw.TheVariants.{NoCall}
 use Rattle.nv_stream.specs.State.{with_piece}
 use Rattle.nv_stream.specs.Answers.{NeedsMore}
-use Rattle.nv_rpc.specs.Calls.{Call, call_in}
-use Rattle.nv_value.specs.Content.{Tree}
+use Rattle.nv_rpc.specs.Calls.{Call}
 use Rattle.nv_world.specs.Contents.{plain_cause}
 use Rattle.nv_halves.specs.Passes.{WorldPass}
 use Rattle.nv_halves.specs.Reading.{most_depth, most_bytes, Calls, ReadsFrom, IsUnfinished, IfInside}
@@ -84,13 +82,6 @@ StepsAtCall (stepped.Ends (r.Gone cause)) call old new p q s =
     Asks p q s [] × Goes q s (plain_cause cause)
 StepsAtCall (stepped.Ends r.NoMemory) call old new p q s = Asks p q s []
 StepsAtCall (stepped.Ends end) call old new p q s = ⊥
-
--- what came of a value: it is no call, or this came of the call that it is
-abbrev pub StepsAtValue : Stepped → Tree → Intake → Intake → WorldPass → WorldPass → ℕ → Type 0
-StepsAtValue (stepped.Ends (r.Malformed flaw)) value old new p q s =
-    (flaw ≡ NoCall old.number) × (call_in value ≡ None) × (q ≡ p)
-StepsAtValue done value old new p q s =
-    (call : Call) × (call_in value ≡ Some call) × StepsAtCall done call old new p q s
 
 -- what a step over what an intake holds did: a call was made, or more bytes are needed, or the
 -- reader ended
