@@ -4,8 +4,7 @@ use Rattle.std.proofs.lemmas.List.{append-nil}
 use Rattle.std.specs.Option.{option_or}
 use Rattle.std.specs.Prelude.{IfOk, OnOk, OnErr}
 use Rattle.std.specs.Io.KnownBytes.{append_known}
-use Rattle.nv_value.specs.View.{content}
-use Rattle.nv_value.specs.declared.value.Value.{Value}
+use Rattle.nv_value.specs.Content.{Tree}
 use Rattle.nv_io.specs.declared.ending.Flaw.{Flaw}
 use Rattle.nv_io.specs.declared.ending.Flaw.TheVariants.{Bad, TooDeep, TooLong, Inside, NoCall}
 use Rattle.nv_io.specs.declared.ending.Ended.{Ended}
@@ -14,8 +13,8 @@ use Rattle.nv_msgpack.specs.Within.{SpellsWithin, IsPartial}
 use Rattle.nv_msgpack.proofs.Complete.{has_byte-in}
 use Rattle.nv_stream.specs.State.{State, behind_value, with_flaw, end_at, stream_end}
 use Rattle.nv_stream.specs.State as stream
-use Rattle.nv_stream.specs.Answers.{NeedsMore, IsAnswer, IsFlawAt}
-use Rattle.nv_stream.specs.declared.stream.Next.TheVariants.{Value as TheValue, Flaw as TheFlaw}
+use Rattle.nv_stream.specs.Answers.{NeedsMore, IsAnswer, IsFlawAt, TakesTree}
+use Rattle.nv_stream.specs.declared.stream.Next.TheVariants.{Flaw as TheFlaw}
 use Rattle.nv_rpc.specs.Calls.{Call, call_in}
 use Rattle.nv_rpc.specs.Messages.{Sent}
 use Rattle.nv_history.specs.Events.{open_session, Entry, Cause, overflowed_at, quit_at}
@@ -33,7 +32,7 @@ use Rattle.nv_halves.specs.Reading.{most_depth, most_bytes, Calls, EndsAt, IsUnf
 use Rattle.nv_session.specs.Ends.{IsFront}
 use Rattle.nv_session.specs.inside.Alone.{HasNothingDue, IsAlone, IsSent, bytes_of_batch, Answers, IsUnanswered, WentOn, WentPart, WentUpTo}
 use Rattle.nv_session.specs.inside.Worlds.{entries_in, IsEndedBy}
-use Rattle.nv_session.specs.inside.Serving.{SessionState, begun_with, session_entries, client_told, IsReady, IsNew, AnswersCall, StopsAtCall, StopsAtValue, ServesCalls, FinishesCalls, StopsShort, StopsClosed, EndsIn, end_by_flaw}
+use Rattle.nv_session.specs.inside.Serving.{SessionState, begun_with, session_entries, client_told, IsReady, IsNew, AnswersCall, StopsAtCall, ServesCalls, FinishesCalls, StopsShort, StopsClosed, EndsIn, end_by_flaw}
 use Rattle.nv_session.proofs.Sending.{sent_bytes, sent_alike, sent_nil}
 use Rattle.nv_session.proofs.Serving.{known_none, went_none, served_none}
 use Rattle.nv_session.proofs.Lone.{alone_front, rest_front, closing, closed_taken, alone_if, whatever}
@@ -155,28 +154,28 @@ pub fails_held : (over : Type 0) (s : SessionState) (out : Option (List ℕ)) �
 fails_held over s out r h = let w = held_ends s out r h in ends_last over ReadFault s out (w.0, w.2, w.3)
 
 -- a session from which the stream has given a value
-pub record Given (v : Value) (old middle : SessionState) : Type 0 where
-  pub gives : IsAnswer (TheValue v) old.stream middle.stream
+pub record Given (v : Tree) (old middle : SessionState) : Type 0 where
+  pub gives : TakesTree v old.stream middle.stream
   pub number : middle.number ≡ old.number
   pub world : middle.world ≡ old.world
   pub painter : middle.painter ≡ old.painter
 
-within_bounds : (v : Value) (old middle : SessionState) (front : List ℕ) → IsReady old → SpellsWithin old.stream.depth old.stream.most (content v) front → SpellsWithin most_depth most_bytes (content v) front
+within_bounds : (v : Tree) (old middle : SessionState) (front : List ℕ) → IsReady old → SpellsWithin old.stream.depth old.stream.most v front → SpellsWithin most_depth most_bytes v front
 within_bounds v old middle front r h =
-    let P : ℕ → ℕ → Type 0 = λ d m. SpellsWithin d m (content v) front in
+    let P : ℕ → ℕ → Type 0 = λ d m. SpellsWithin d m v front in
     subst (λ (d : ℕ). P d most_bytes) r.depth (subst (λ (m : ℕ). P old.stream.depth m) r.most h)
 
 -- the value that was given is spelled within the bounds
-pub spelled_front : (v : Value) (old : SessionState) (new : State) → IsReady old → IsAnswer (TheValue v) old.stream new → (front : List ℕ) × SpellsWithin most_depth most_bytes (content v) front
+pub spelled_front : (v : Tree) (old : SessionState) (new : State) → IsReady old → TakesTree v old.stream new → (front : List ℕ) × SpellsWithin most_depth most_bytes v front
 spelled_front v old new r g = (g.0, within_bounds v old old g.0 r g.2)
 
-spelled_given : (v : Value) (old middle : SessionState) (g : Given v old middle) → IsReady old → SpellsWithin most_depth most_bytes (content v) g.gives.0
+spelled_given : (v : Tree) (old middle : SessionState) (g : Given v old middle) → IsReady old → SpellsWithin most_depth most_bytes v g.gives.0
 spelled_given v old middle g r = within_bounds v old middle g.gives.0 r g.gives.2
 
 not_inside : (flaw : Flaw) (n : ℕ) → flaw ≡ NoCall n → IfInside flaw ⊥
 not_inside flaw n e = subst (λ (f : Flaw). IfInside f ⊥) (sym e) tt
 
-no_call_here : (flaw : Flaw) (v : Value) (old middle new : SessionState) (before after : Option (List ℕ)) → IsReady old → (g : Given v old middle) → flaw ≡ NoCall middle.number → call_in (content v) ≡ None → after ≡ before → new.world ≡ middle.world → FinishesCalls (Some flaw) old.stream.held old new before after
+no_call_here : (flaw : Flaw) (v : Tree) (old middle new : SessionState) (before after : Option (List ℕ)) → IsReady old → (g : Given v old middle) → flaw ≡ NoCall middle.number → call_in v ≡ None → after ≡ before → new.world ≡ middle.world → FinishesCalls (Some flaw) old.stream.held old new before after
 no_call_here flaw v old middle new before after r g e n w k =
     let E : Flaw → Type 0 = λ f. EndsAt old.number old.stream.start old.stream.held (Some f) in
     let same : new.world ≡ old.world = k ∙ g.world in
@@ -185,7 +184,7 @@ no_call_here flaw v old middle new before after r g e n w k =
       reads = subst E (sym e) (
         g.number,
         record {
-          value = content v;
+          value = v;
           front = g.gives.0;
           rest = middle.stream.held;
           spelled = spelled_given v old middle g r;
@@ -200,17 +199,17 @@ no_call_here flaw v old middle new before after r g e n w k =
       alone = subst (λ (x : WorldRecord). IsAlone (begun_with old) (entries_in x)) (sym same) r.alone;
     }
 
-one_call : (v : Value) (old middle : SessionState) (call : Call) (g : Given v old middle) → IsReady old → call_in (content v) ≡ Some call → Calls (call ∷ []) g.gives.0
+one_call : (v : Tree) (old middle : SessionState) (call : Call) (g : Given v old middle) → IsReady old → call_in v ≡ Some call → Calls (call ∷ []) g.gives.0
 one_call v old middle call g r e =
-    (g.gives.0, [], record { value = content v; spelled = spelled_given v old middle g r; is_call = e }, sym (append-nil g.gives.0), refl)
+    (g.gives.0, [], record { value = v; spelled = spelled_given v old middle g r; is_call = e }, sym (append-nil g.gives.0), refl)
 
 -- a call was made in the world that a session had before the stream gave it, and to the same client
-from_old : (Q : Start → List Entry → Told → Type 0) (v : Value) (old middle : SessionState) → Given v old middle → Q (begun_with middle) (session_entries middle) (client_told middle)
+from_old : (Q : Start → List Entry → Told → Type 0) (v : Tree) (old middle : SessionState) → Given v old middle → Q (begun_with middle) (session_entries middle) (client_told middle)
     → Q (begun_with old) (session_entries old) (client_told old)
 from_old Q v old middle g h =
     subst (λ (x : WorldRecord). Q (start_of x) (entries_in x) (client_told old)) g.world (subst (λ (q : Painting). Q (begun_with middle) (session_entries middle) q.told) g.painter h)
 
-cut_in_call : (Is : Start → List Call → List Entry → Type 0) (v : Value) (old middle new : SessionState) (before after : Option (List ℕ)) (call : Call) → IsReady old → Given v old middle → call_in (content v) ≡ Some call
+cut_in_call : (Is : Start → List Call → List Entry → Type 0) (v : Tree) (old middle new : SessionState) (before after : Option (List ℕ)) (call : Call) → IsReady old → Given v old middle → call_in v ≡ Some call
     → WentPart (begun_with middle) Is [] (call ∷ []) (session_entries middle) (session_entries new) (client_told middle) before after → StopsShort Is old.stream.held old new before after
 cut_in_call Is v old middle new before after call r g e b = record {
   calls = [];
@@ -222,7 +221,7 @@ cut_in_call Is v old middle new before after call r g e b = record {
   went = from_old (λ d h t. WentPart d Is [] (call ∷ []) h (session_entries new) t before after) v old middle g b;
 }
 
-closed_in_call : (cause : Cause) (v : Value) (old middle new : SessionState) (before after : Option (List ℕ)) (call : Call) → IsReady old → Given v old middle → call_in (content v) ≡ Some call
+closed_in_call : (cause : Cause) (v : Tree) (old middle new : SessionState) (before after : Option (List ℕ)) (call : Call) → IsReady old → Given v old middle → call_in v ≡ Some call
     → WentUpTo (begun_with middle) cause (call ∷ []) (session_entries middle) (session_entries new) (client_told middle) before after → StopsClosed cause old.stream.held old new before after
 closed_in_call cause v old middle new before after call r g e b = record {
   calls = call ∷ [];
@@ -233,19 +232,26 @@ closed_in_call cause v old middle new before after call r g e b = record {
   went = from_old (λ d h t. WentUpTo d cause (call ∷ []) h (session_entries new) t before after) v old middle g b;
 }
 
--- the value that the stream gave ended the session
-pub refused : (ended : Ended) (v : Value) (old middle new : SessionState) (before after : Option (List ℕ)) → IsReady old → Given v old middle → StopsAtValue ended (content v) middle new before after → EndsIn ⊥ ended old.stream.held old new before after
-refused (Malformed flaw) v old middle new before after r g h =
-    (no_call_here flaw v old middle new before after r g h.0 h.1 h.2 h.3, not_inside flaw middle.number h.0)
-refused WriteFault v old middle new before after r g h = absurd h.2
-refused NoMemory v old middle new before after r g h = cut_in_call IsFront v old middle new before after h.0 r g h.1 h.2
-refused (Overflowed entry) v old middle new before after r g h = closed_in_call (overflowed_at entry) v old middle new before after h.0 r g h.1 h.2
-refused (Quit entry) v old middle new before after r g h = closed_in_call (quit_at entry) v old middle new before after h.0 r g h.1 h.2
-refused Closed v old middle new before after r g h = absurd h.2
-refused ReadFault v old middle new before after r g h = absurd h.2
+-- the stream gave a value that is no call
+pub refused : (v : Tree) (old middle new : SessionState) (out : Option (List ℕ)) → IsReady old → Given v old middle → call_in v ≡ None → new.world ≡ middle.world
+    → EndsIn ⊥ (Malformed (NoCall middle.number)) old.stream.held old new out out
+refused v old middle new out r g e w =
+    let flaw = NoCall middle.number in
+    (no_call_here flaw v old middle new out out r g refl e refl w, not_inside flaw middle.number refl)
+
+-- the call that the stream gave ended the session
+pub stopped_at : (ended : Ended) (v : Tree) (call : Call) (old middle new : SessionState) (before after : Option (List ℕ)) → IsReady old → Given v old middle → call_in v ≡ Some call
+    → StopsAtCall ended call middle.world new.world (client_told middle) before after → EndsIn ⊥ ended old.stream.held old new before after
+stopped_at (Malformed flaw) v call old middle new before after r g e h = absurd h
+stopped_at WriteFault v call old middle new before after r g e h = absurd h
+stopped_at NoMemory v call old middle new before after r g e h = cut_in_call IsFront v old middle new before after call r g e h
+stopped_at (Overflowed entry) v call old middle new before after r g e h = closed_in_call (overflowed_at entry) v old middle new before after call r g e h
+stopped_at (Quit entry) v call old middle new before after r g e h = closed_in_call (quit_at entry) v old middle new before after call r g e h
+stopped_at Closed v call old middle new before after r g e h = absurd h
+stopped_at ReadFault v call old middle new before after r g e h = absurd h
 
 -- the value that the stream gave was a call, and was answered
-pub served_one : (v : Value) (old middle new : SessionState) (before after : Option (List ℕ)) (call : Call) → IsReady old → Given v old middle → call_in (content v) ≡ Some call → AnswersCall call middle new before after
+pub served_one : (v : Tree) (old middle new : SessionState) (before after : Option (List ℕ)) (call : Call) → IsReady old → Given v old middle → call_in v ≡ Some call → AnswersCall call middle new before after
     → ServesCalls old.stream.held old new before after × IsReady new × (length new.stream.held < length old.stream.held)
 served_one v old middle new before after call r g e a =
     let front = g.gives.0 in
@@ -253,7 +259,7 @@ served_one v old middle new before after call r g e a =
     let place : new.stream.start ≡ old.stream.start + length g.gives.0 = ap (λ (x : State). x.start) state in
     let held : new.stream.held ≡ middle.stream.held = ap (λ (x : State). x.held) state in
     let parts : old.stream.held ≡ g.gives.0 ++ new.stream.held = g.gives.3 ∙ ap (λ (l : List ℕ). g.gives.0 ++ l) (sym held) in
-    let some : 0 < length g.gives.0 = has_byte-in old.stream.depth (content v) g.gives.0 g.gives.2.0 in
+    let some : 0 < length g.gives.0 = has_byte-in old.stream.depth v g.gives.0 g.gives.2.0 in
     let number : new.number ≡ old.number + 1 = a.number ∙ ap (λ (n : ℕ). n + 1) g.number in
     let fewer : old.number ≤ old.stream.start = r.counted in (
       record {

@@ -4,40 +4,29 @@ ghost use Rattle.std.specs.Prelude.{◌≡◌, ◌⊎◌, ℕ, true, ◌+◌, �
 ghost use Rattle.std.specs.Io.KnownBytes.{IsAtEnd};
 ghost use Rattle.nv_io.specs.Faults.{Rose};
 ghost use Rattle.nv_io.specs.Streams.{Gave};
-ghost use Rattle.nv_value.specs.View.{content};
-ghost use Rattle.nv_msgpack.specs.Within.{SpellsWithin};
 ghost use Rattle.nv_stream.specs.State.{stream_end};
 ghost use Rattle.nv_stream.specs.Answers.{NeedsMore};
-ghost use Rattle.nv_rpc.specs.Calls.{Call, call_in};
 ghost use Rattle.nv_rpc.specs.Frames.{call_of_frame};
 ghost use Rattle.nv_world.specs.Contents.{plain_entries};
 ghost use Rattle.nv_world.specs.Worlds.{IsLightCall, WorldRecord};
-ghost use Rattle.nv_halves.specs.Reading.{most_depth, most_bytes};
 ghost use Rattle.nv_session.specs.Ends.{SessionEnds};
 ghost use Rattle.nv_halves.specs.Passes.{start_of};
 ghost use Rattle.nv_session.specs.Sending.{HasSession};
 ghost use Rattle.nv_session.specs.inside.Alone.{IsAlone};
 ghost use Rattle.nv_session.specs.inside.Leaving.{LeavesWith, IsClosedSo, leaves_open};
-ghost use Rattle.nv_session.specs.inside.Serving.{IsUnusedSession, IsReady, IsNew, AnswersCall, StopsAtCall, StopsAtValue, StepsOn, Serves, TakesPiece, Turns, bytes_waiting, end_by_fault, end_by_flaw, state_of};
+ghost use Rattle.nv_session.specs.inside.Serving.{IsUnusedSession, IsReady, IsNew, AnswersCall, StopsAtCall, StepsOn, Serves, TakesPiece, Turns, bytes_waiting, end_by_fault, end_by_flaw, state_of};
 ghost use Rattle.nv_session.specs.inside.Worlds.{entries_in};
 
 use crate::asking::{answer, close, ended, open};
 use crate::speaking::Outgoing;
+use nv_halves::{BOUNDS, NextCall, next_call};
 use nv_io::{Ended, Flaw, Got, Sink, Source};
-use nv_msgpack::Bounds;
 use nv_painter::Painter;
-use nv_rpc::{Frame, call_of};
-use nv_stream::{Next, Stream};
-use nv_value::Value;
+use nv_rpc::Frame;
+use nv_stream::Stream;
 use nv_world::World;
 use std::alloc::{AllocError, Global};
 use std::net::{Net, TcpListener, TcpStream};
-
-/// What bounds a message: at most so many lists and maps one in another, and at most so many bytes.
-const BOUNDS: Bounds = Bounds {
-    depth: 64,
-    bytes: 67_108_864,
-};
 
 /// The bytes that are read at once.
 const PIECE: usize = 65_536;
@@ -116,26 +105,6 @@ impl Session {
         }
     }
 
-    // Answers the call that a value is.
-    fn serve(&mut self, world: &mut World, value: Value) -> Result<(), Ended>
-        requires spelled { (front : List ℕ)
-            × SpellsWithin most_depth most_bytes (content value) front }
-        requires number { self.old.number < 2 ^ 63 }
-        requires alone { IsAlone (start_of world.old) (entries_in world.old) }
-        ensures ok { OnOk result ((call : Call) × (call_in (content value) ≡ Some call)
-            × AnswersCall call (state_of self.old world.old) (state_of self.new world.new)
-            (Some (bytes_waiting self.old)) (Some (bytes_waiting self.new))) }
-        ensures err { IfErr result (λ ended. StopsAtValue ended (content value)
-            (state_of self.old world.old) (state_of self.new world.new)
-            (Some (bytes_waiting self.old)) (Some (bytes_waiting self.new))) }
-        ensures begins { start_of world.new ≡ start_of world.old }
-    {
-        match call_of(value) {
-            Ok(call) => self.answer_call(world, call),
-            Err(_) => Err(Ended::Malformed(Flaw::NoCall(self.number))),
-        }
-    }
-
     // Answers the next call of what it holds. `false` where that needs more bytes.
     fn step(&mut self, world: &mut World) -> Result<bool, Ended>
         requires ready { IsReady (state_of self.old world.old) }
@@ -146,16 +115,17 @@ impl Session {
         ensures no_read { result ≡ Err Ended.ReadFault → ⊥ }
         ensures no_write { result ≡ Err Ended.WriteFault → ⊥ }
     {
-        let Ok(next) = self.stream.next() else {
+        let Ok(next) = next_call(self.alloc, &mut self.stream) else {
             return Err(Ended::NoMemory);
         };
         match next {
-            Next::Value(value) => {
-                self.serve(world, value)?;
+            NextCall::Call(call) => {
+                self.answer_call(world, call)?;
                 Ok(true)
             }
-            Next::More => Ok(false),
-            Next::Flaw(flaw) => Err(Ended::Malformed(flaw)),
+            NextCall::NoCall => Err(Ended::Malformed(Flaw::NoCall(self.number))),
+            NextCall::More => Ok(false),
+            NextCall::Flaw(flaw) => Err(Ended::Malformed(flaw)),
         }
     }
 

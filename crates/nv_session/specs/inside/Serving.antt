@@ -1,14 +1,12 @@
 -- inside: what the steps of a session do, each from the state of the session before it.
 use Rattle.std.specs.Prelude.{◌≡◌, ℕ, ◌+◌, ◌<◌, ◌≤◌, Bool, true, false, List, [], ◌∷◌, ◌++◌, length, take, Option, Some, None, Result, Ok, Err}
 use Rattle.std.specs.Io.KnownBytes.{append_known}
-use Rattle.nv_value.specs.Content.{Tree}
 use Rattle.nv_io.specs.declared.ending.Flaw.{Flaw}
-use Rattle.nv_io.specs.declared.ending.Flaw.TheVariants.{NoCall}
 use Rattle.nv_io.specs.declared.ending.Ended.{Ended}
 use Rattle.nv_io.specs.declared.ending.Ended.TheVariants.{Closed, Malformed, Overflowed, ReadFault, WriteFault, Quit, NoMemory}
 use Rattle.nv_stream.specs.State.{State, empty_state, with_piece}
 use Rattle.nv_stream.specs.Answers.{NeedsMore}
-use Rattle.nv_rpc.specs.Calls.{Call, call_in}
+use Rattle.nv_rpc.specs.Calls.{Call}
 use Rattle.nv_history.specs.Events.{open_session, Entry, Cause, overflowed_at, quit_at}
 use Rattle.nv_history.specs.Solo.{entry_alone}
 use Rattle.nv_linegrid.specs.Told.{Told, nothing_told}
@@ -104,15 +102,6 @@ StopsAtCall (Quit entry) call old new told before after =
     WentUpTo (start_of old) (quit_at entry) (call ∷ []) (entries_in old) (entries_in new) told
     before after
 StopsAtCall _ call old new told before after = ⊥
-
--- how a session ends that was to answer a value: the value is no call, or it ends by the call
-abbrev pub StopsAtValue : Ended → Tree → SessionState → SessionState → Option (List ℕ)
-    → Option (List ℕ) → Type 0
-StopsAtValue (Malformed flaw) value old new before after =
-    (flaw ≡ NoCall old.number) × (call_in value ≡ None) × (after ≡ before)
-    × (new.world ≡ old.world)
-StopsAtValue ended value old new before after = (call : Call) × (call_in value ≡ Some call)
-    × StopsAtCall ended call old.world new.world (client_told old) before after
 
 -- Of bytes that begin where a session stood, the calls at their front were answered, and the others
 -- are held.
