@@ -5,7 +5,7 @@ ghost use Rattle.nv_rpc.specs.MessageView.{sent_of};
 
 use crate::spelling::spelled;
 use nv_msgpack::{Bounds, Decoded, decode};
-use nv_rpc::{Frame, Message, call_of, message_of, put_message, value_of};
+use nv_rpc::{Frame, Message, call_of, decode_call, message_of, put_message, value_of};
 use nv_value::{ApiFault, Bytes, Value};
 use std::alloc::{AllocError, Global};
 use std::process::Abort;
@@ -147,18 +147,22 @@ fn width(value: &Value) -> usize {
     }
 }
 
-fn call_shown(alloc: Global, bytes: &[u8]) -> Result<String, AllocError> {
-    match call_of(value_in(alloc, bytes)?) {
-        Ok(
-            Frame::Request {
-                msgid,
-                method,
-                params,
-            },
-        ) => format!(in alloc; "request {msgid} {:?} {}", method.as_slice(), params.len()),
-        Ok(Frame::Notice { method, params }) => {
+fn frame_shown(alloc: Global, frame: Frame) -> Result<String, AllocError> {
+    match frame {
+        Frame::Request {
+            msgid,
+            method,
+            params,
+        } => format!(in alloc; "request {msgid} {:?} {}", method.as_slice(), params.len()),
+        Frame::Notice { method, params } => {
             format!(in alloc; "notice {:?} {}", method.as_slice(), params.len())
         }
+    }
+}
+
+fn call_shown(alloc: Global, bytes: &[u8]) -> Result<String, AllocError> {
+    match call_of(value_in(alloc, bytes)?) {
+        Ok(frame) => frame_shown(alloc, frame),
         Err(value) => format!(in alloc; "none {}", width(&value)),
     }
 }
@@ -195,6 +199,69 @@ fn calls_are_read(rt: HostRuntime) -> Result<(), Fail> {
     let alloc = rt.alloc();
     for (bytes, expected) in CALLS.iter() {
         let shown = call_shown(alloc, bytes)?;
+        assert_eq!(rt; shown.as_str(), *expected);
+    }
+    Ok(())
+}
+
+// The call that is read at once, and how many bytes spell it.
+fn arrival_shown(alloc: Global, bytes: &[u8]) -> Result<String, AllocError> {
+    let bounds = Bounds {
+        depth: 3,
+        bytes: 16,
+    };
+    match decode_call(alloc, bytes, bounds)? {
+        Some((frame, length)) => {
+            let shown = frame_shown(alloc, frame)?;
+            format!(in alloc; "{} of {length}", shown.as_str())
+        }
+        None => format!(in alloc; "none"),
+    }
+}
+
+const ARRIVALS: [(&[u8], &str); 20] = [
+    (b"\x94\x00\x01\xa1a\x90", "request 1 [97] 0 of 6"),
+    (b"\x94\x00\x01\xa1a\x90\x94\x00", "request 1 [97] 0 of 6"),
+    (b"\x94\x00\x7f\xa0\x91\x90", "request 127 [] 1 of 6"),
+    (
+        b"\x94\x00\xcc\x80\xd9\x01a\x91\xc0",
+        "request 128 [97] 1 of 9",
+    ),
+    (
+        b"\x94\x00\xcd\x01\x00\xa1a\xdc\x00\x00",
+        "request 256 [97] 0 of 10",
+    ),
+    (
+        b"\x94\x00\xce\xff\xff\xff\xff\xa1a\x90",
+        "request 4294967295 [97] 0 of 10",
+    ),
+    (
+        b"\x94\x00\xcf\x00\x00\x00\x00\x00\x00\x00\x05\xa2ab\x90",
+        "request 5 [97, 98] 0 of 15",
+    ),
+    (
+        b"\x94\x00\x01\xaaabcdefghij\x91\xc0",
+        "request 1 [97, 98, 99, 100, 101, 102, 103, 104, 105, 106] 1 of 16",
+    ),
+    (b"\x94\x00\x01\xaaabcdefghij\x92\xc0\xc0", "none"),
+    (b"\x94\x00\x01\xababcdefghijk\x92\xc0\xc0", "none"),
+    (b"\x94\x00\x01\xa1a\x91\x91\x90", "none"),
+    (b"\x94\x00\x01\xa1a\x91\xc1", "none"),
+    (b"\x94\x00\x01\xa1a\x91", "none"),
+    (b"\x94\x00\x01\xa1", "none"),
+    (b"\x94\x00", "none"),
+    (b"\x94\x00\xff\xa1a\x90", "none"),
+    (b"\x94\x00\x01\xc4\x01a\x90", "none"),
+    (b"\x94\x00\x01\xa1a\x80", "none"),
+    (b"\x94\x02\x01\xa1a\x90", "none"),
+    (b"\x93\x02\xa1a\x90", "none"),
+];
+
+#[test]
+fn calls_are_read_as_they_arrive(rt: HostRuntime) -> Result<(), Fail> {
+    let alloc = rt.alloc();
+    for (bytes, expected) in ARRIVALS.iter() {
+        let shown = arrival_shown(alloc, bytes)?;
         assert_eq!(rt; shown.as_str(), *expected);
     }
     Ok(())
