@@ -1,19 +1,31 @@
-//! Bytes and the count of their owners in one allocation, where they are few.
+//! Bytes in place where they are very few, and in one allocation with the count of their owners
+//! where they are few.
 ghost use Rattle.std.specs.Prelude.{◌≡◌, ◌≤◌, length, IfOk};
 ghost use Rattle.nv_value.specs.inside.Block.{HoldsBytes, block_bytes, block_len, IsInRoom};
 
 use std::alloc::{AllocError, Global};
 use std::sync::{Arc, ArcSlice};
 
-/// How many bytes there are, and where. A room of 32 times k bytes fits a block of the C library's
-/// allocator with its count of owners.
+/// How many bytes there are, and where: as many as a handle has room for stand in it. A room of 32
+/// times k bytes fits a block of the C library's allocator with its count of owners.
 #[derive(Drop)]
 pub enum Block {
+    Held(u8, [u8; 14]),
     Tiny(u32, Arc<[u8; 32], Global>),
     Short(u32, Arc<[u8; 64], Global>),
     Middle(u32, Arc<[u8; 96], Global>),
     Wide(u32, Arc<[u8; 128], Global>),
     Long(u32, ArcSlice<u8, Global>),
+}
+
+fn held(items: &[u8]) -> Block
+    requires { length items.now ≤ 14 }
+    ensures { HoldsBytes result items.now }
+{
+    let len = items.len();
+    let mut room = [0u8; 14];
+    room[..len].copy_from_slice(items);
+    Block::Held(len as u8, room)
 }
 
 fn tiny(alloc: Global, items: &[u8]) -> Result<Block, AllocError>
@@ -71,7 +83,8 @@ impl Block {
         ensures { IfOk result (λ block. HoldsBytes block items.now) }
     {
         match items.len() {
-            0..=32 => tiny(alloc, items),
+            0..=14 => Ok(held(items)),
+            15..=32 => tiny(alloc, items),
             33..=64 => short(alloc, items),
             65..=96 => middle(alloc, items),
             97..=128 => wide(alloc, items),
@@ -99,6 +112,7 @@ impl Block {
         ensures room { IsInRoom self.now → IfOk result IsInRoom }
     {
         match self {
+            Block::Held(len, room) => Ok(Block::Held(*len, *room)),
             Block::Tiny(len, room) => Ok(Block::Tiny(*len, room.clone()?)),
             Block::Short(len, room) => Ok(Block::Short(*len, room.clone()?)),
             Block::Middle(len, room) => Ok(Block::Middle(*len, room.clone()?)),
@@ -112,6 +126,7 @@ impl Block {
         ensures { result ≡ block_len self.now }
     {
         match self {
+            Block::Held(len, _) => *len as usize,
             Block::Tiny(len, _) => *len as usize,
             Block::Short(len, _) => *len as usize,
             Block::Middle(len, _) => *len as usize,
@@ -126,6 +141,7 @@ impl Block {
         ensures { result.now ≡ block_bytes self.now }
     {
         match self {
+            Block::Held(len, room) => &room[..*len as usize],
             Block::Tiny(len, room) => &room[..*len as usize],
             Block::Short(len, room) => &room[..*len as usize],
             Block::Middle(len, room) => &room[..*len as usize],
