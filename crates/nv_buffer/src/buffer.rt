@@ -16,7 +16,7 @@ ghost use Rattle.nv_undo.specs.Ways.{Leads, origin, IsNext};
 ghost use Rattle.nv_undo.specs.declared.legs.Leg.TheVariants.{Back};
 
 use crate::edit::{Change, Edit, Step};
-use crate::joining::{before, behind, is_one_empty, joined};
+use crate::joining::{around, is_one_empty, joined};
 use crate::reaching::{extent_between, flat_len_of, joined_reach, rows_reached};
 use nv_lines::{Line, LineList, Lines};
 use nv_marks::{Mark, MarkSet};
@@ -417,8 +417,7 @@ impl Buffer {
         requires some { 0 < length new }
         ensures { IfOk result (λ lines. lines ≡ lines_between self.now.text start stop new) }
     {
-        let front = before(&self.text, start);
-        let back = behind(&self.text, stop);
+        let (front, back) = around(&self.text, start, stop);
         joined(self.alloc, front, new, back)
     }
 

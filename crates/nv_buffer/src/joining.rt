@@ -18,28 +18,34 @@ pub fn is_one_empty(lines: &LineList) -> bool
     lines.len() == 1 && line.is_empty()
 }
 
-/// The bytes of a row before a place.
-pub fn before(text: &Lines, place: Pos) -> &[u8]
-    requires { IsInLine text.now place }
-    ensures value { result.now ≡ take place.col (line_at text.now place.row) }
+// The bytes of a row of a text.
+fn row_of(text: &Lines, row: u32) -> &[u8]
+    requires { row < length text.now }
+    ensures value { result.now ≡ line_at text.now row }
     ensures line { IsLine result.now }
 {
-    match text.get(place.row as usize) {
-        Some(line) => &line[..place.col as usize],
+    match text.get(row as usize) {
+        Some(line) => line,
         None => &[],
     }
 }
 
-/// The bytes of a row from a place on.
-pub fn behind(text: &Lines, place: Pos) -> &[u8]
-    requires { IsInLine text.now place }
-    ensures value { result.now ≡ drop place.col (line_at text.now place.row) }
-    ensures line { IsLine result.now }
+/// The bytes before a place in its row, and those from another place on in its row. A row that both
+/// stand in is looked up once.
+pub fn around(text: &Lines, start: Pos, stop: Pos) -> (&[u8], &[u8])
+    requires start_in { IsInLine text.now start }
+    requires stop_in { IsInLine text.now stop }
+    ensures front { result.0.now ≡ take start.col (line_at text.now start.row) }
+    ensures front_line { IsLine result.0.now }
+    ensures back { result.1.now ≡ drop stop.col (line_at text.now stop.row) }
+    ensures back_line { IsLine result.1.now }
 {
-    match text.get(place.row as usize) {
-        Some(line) => &line[place.col as usize..],
-        None => &[],
+    let first = row_of(text, start.row);
+    let front = &first[..start.col as usize];
+    if start.row == stop.row {
+        return (front, &first[stop.col as usize..]);
     }
+    (front, &row_of(text, stop.row)[stop.col as usize..])
 }
 
 // A line with bytes before and behind it.
