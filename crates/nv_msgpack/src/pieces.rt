@@ -12,7 +12,7 @@ use crate::first_bytes::{FirstByte, Length, first_byte};
 use crate::numbers::unsigned_of;
 use crate::reader::{head_of, items_of, payload_of};
 use crate::stop::Stop;
-use nv_value::{Bytes, Items};
+use nv_value::Items;
 use std::alloc::{AllocError, Global};
 
 /// The number that begins so, where it is one of 32 bits.
@@ -41,27 +41,20 @@ fn number_of(first: FirstByte, bytes: &[u8], at: usize, limit: u64) -> Option<(u
     }
 }
 
-/// The string that begins so.
+/// The bytes of the string that begins so.
 #[inline(always)]
-fn text_of(
-    alloc: Global,
-    first: FirstByte,
-    bytes: &[u8],
-    at: usize,
-    limit: u64,
-) -> Result<Option<(Bytes, usize)>, AllocError>
+fn text_of(first: FirstByte, bytes: &[u8], at: usize, limit: u64) -> Option<(&[u8], usize)>
     requires within { at < length bytes.now }
     requires fits { at < limit }
-    ensures { IfOk result (λ answer. IfSome answer (λ found. after at
-        (read_by none (form_seen first) (limit - at) (drop (at + 1) bytes.now))
-        ≡ whole (text found.0) found.1)) }
+    ensures { IfSome result (λ found. after at (read_by none (form_seen first) (limit - at)
+        (drop (at + 1) bytes.now)) ≡ whole (text found.0.now) found.1) }
 {
     match first {
         FirstByte::Text(size) => match payload_of(bytes, at, size, 0, limit) {
-            Ok((payload, end)) => Ok(Some((Bytes::from_slice(alloc, payload)?, end))),
-            Err(_) => Ok(None),
+            Ok(found) => Some(found),
+            Err(_) => None,
         },
-        _ => Ok(None),
+        _ => None,
     }
 }
 
@@ -128,26 +121,20 @@ pub fn number_at(bytes: &[u8], at: usize, limit: u64) -> Option<(u32, usize)>
     number_of(first_byte(bytes[at]), bytes, at, limit)
 }
 
-/// The string at `at`, where one stands there, and the place behind it.
+/// The bytes of the string at `at`, where one stands there, and the place behind it.
 #[inline(always)]
-pub fn text_at(
-    alloc: Global,
-    bytes: &[u8],
-    at: usize,
-    limit: u64,
-) -> Result<Option<(Bytes, usize)>, AllocError>
+pub fn text_at(bytes: &[u8], at: usize, limit: u64) -> Option<(&[u8], usize)>
     requires within { at ≤ length bytes.now }
     requires fits { at < limit }
-    ensures stands { IfOk result (λ answer. IfSome answer (λ found. (depth : ℕ)
-        → IsReadAt depth limit bytes.now at (text found.0) found.1)) }
-    ensures within { IfOk result (λ answer. IfSome answer (λ found.
-        found.1 ≤ length bytes.now)) }
-    ensures fits { IfOk result (λ answer. IfSome answer (λ found. found.1 ≤ limit)) }
+    ensures stands { IfSome result (λ found. (depth : ℕ)
+        → IsReadAt depth limit bytes.now at (text found.0.now) found.1) }
+    ensures within { IfSome result (λ found. found.1 ≤ length bytes.now) }
+    ensures fits { IfSome result (λ found. found.1 ≤ limit) }
 {
     if at >= bytes.len() {
-        return Ok(None);
+        return None;
     }
-    text_of(alloc, first_byte(bytes[at]), bytes, at, limit)
+    text_of(first_byte(bytes[at]), bytes, at, limit)
 }
 
 /// The list at `at`, where one stands there, with at most `depth` lists and maps one in another

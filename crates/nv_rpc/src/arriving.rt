@@ -8,17 +8,19 @@ ghost use Rattle.nv_rpc.specs.Frames.{call_of_frame};
 ghost use Rattle.nv_rpc.specs.inside.Parts.{four};
 
 use crate::frame::Frame;
+use crate::names::Names;
 use nv_msgpack::{Bounds, list_at, number_at, text_at};
 use nv_value::{Bytes, Items};
 use std::alloc::{AllocError, Global};
 
 /// The call at the front of the bytes, and how many bytes spell it, where it is a request whose
-/// name is a string. `None` says nothing of the bytes: they may begin with another call, with a
-/// part of one, or with none.
+/// name is a string, which is shared with earlier calls. `None` says nothing of the bytes: they may
+/// begin with another call, with a part of one, or with none.
 pub fn decode_call(
     alloc: Global,
     bytes: &[u8],
     bounds: Bounds,
+    names: &mut Names,
 ) -> Result<Option<(Frame, usize)>, AllocError>
     ensures { IfOk result (λ answer. IfSome answer (λ found.
         BeginsWithCall bounds.depth bounds.bytes bytes.now (call_of_frame found.0) found.1)) }
@@ -29,12 +31,13 @@ pub fn decode_call(
     let Some((msgid, at)) = number_at(bytes, 2, bounds.bytes - 2) else {
         return Ok(None);
     };
-    let Some((method, at)) = text_at(alloc, bytes, at, bounds.bytes - 1)? else {
+    let Some((name, at)) = text_at(bytes, at, bounds.bytes - 1) else {
         return Ok(None);
     };
     let Some((params, end)) = list_at(alloc, bytes, at, bounds.bytes, bounds.depth - 1)? else {
         return Ok(None);
     };
+    let method = names.shared(alloc, name)?;
     Ok(Some((request_of(msgid, method, params), end)))
 }
 

@@ -5,7 +5,7 @@ ghost use Rattle.nv_rpc.specs.MessageView.{sent_of};
 
 use crate::spelling::spelled;
 use nv_msgpack::{Bounds, Decoded, decode};
-use nv_rpc::{Frame, Message, call_of, decode_call, message_of, put_message, value_of};
+use nv_rpc::{Frame, Message, Names, call_of, decode_call, message_of, put_message, value_of};
 use nv_value::{ApiFault, Bytes, Value};
 use std::alloc::{AllocError, Global};
 use std::process::Abort;
@@ -205,12 +205,12 @@ fn calls_are_read(rt: HostRuntime) -> Result<(), Fail> {
 }
 
 // The call that is read at once, and how many bytes spell it.
-fn arrival_shown(alloc: Global, bytes: &[u8]) -> Result<String, AllocError> {
+fn arrival_shown(alloc: Global, bytes: &[u8], names: &mut Names) -> Result<String, AllocError> {
     let bounds = Bounds {
         depth: 3,
         bytes: 16,
     };
-    match decode_call(alloc, bytes, bounds)? {
+    match decode_call(alloc, bytes, bounds, names)? {
         Some((frame, length)) => {
             let shown = frame_shown(alloc, frame)?;
             format!(in alloc; "{} of {length}", shown.as_str())
@@ -260,9 +260,31 @@ const ARRIVALS: [(&[u8], &str); 20] = [
 #[test]
 fn calls_are_read_as_they_arrive(rt: HostRuntime) -> Result<(), Fail> {
     let alloc = rt.alloc();
+    let mut names = Names::new(alloc)?;
     for (bytes, expected) in ARRIVALS.iter() {
-        let shown = arrival_shown(alloc, bytes)?;
+        let shown = arrival_shown(alloc, bytes, &mut names)?;
         assert_eq!(rt; shown.as_str(), *expected);
+    }
+    Ok(())
+}
+
+// The third and the fourth are kept in one place.
+const NAMES: [&[u8]; 6] = [
+    b"nvim_buf_line_count",
+    b"nvim_buf_line_count",
+    b"nvim_buf_get_lines",
+    b"nvim_buf_set_lines",
+    b"nvim_buf_get_lines",
+    b"",
+];
+
+#[test]
+fn names_are_as_they_are_given(rt: HostRuntime) -> Result<(), Fail> {
+    let alloc = rt.alloc();
+    let mut names = Names::new(alloc)?;
+    for name in NAMES.iter() {
+        let shared = names.shared(alloc, name)?;
+        assert!(rt; shared.as_slice() == *name);
     }
     Ok(())
 }

@@ -87,7 +87,9 @@ fn items_of(alloc: Global, size: usize) -> Result<Vec<u8>, AllocError>
 #[test]
 fn bytes_of_each_size(rt: HostRuntime) -> Result<(), Fail> {
     let alloc = rt.alloc();
-    for size in [0usize, 1, 13, 14, 31, 32, 33, 64, 65, 96, 97, 128, 129, 1000] {
+    for size in [
+        0usize, 1, 13, 14, 31, 32, 33, 64, 65, 96, 97, 128, 129, 1000,
+    ] {
         assert!(rt; size <= 1000);
         let items = items_of(alloc, size)?;
         let same = shared(alloc, items.as_slice())?;
