@@ -19,7 +19,7 @@ mod writer;
 
 pub use applying::once;
 pub use bells::Bell;
-pub use calls::{BOUNDS, NextCall, next_call};
+pub use calls::{CallStream, NextCall};
 pub use ends::{ReaderEnd, Refusal, Refused, WriterEnd};
 pub use laws::{asking_law, quitting_law, reads_once};
 pub use reader::{ReaderHalf, reader_half};

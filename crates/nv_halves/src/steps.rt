@@ -12,12 +12,11 @@ ghost use Rattle.nv_world.specs.Worlds.{IsLightCall};
 ghost use Rattle.nv_halves.specs.inside.Intakes.{CountsAsked, HoldsPiece, IsReadable, IsUnread, MakesHeld, MakesPiece, Steps, StepsAtCall, reader_end_by_flaw};
 
 use crate::bells::Bell;
-use crate::calls::{BOUNDS, NextCall, next_call};
+use crate::calls::{CallStream, NextCall};
 use crate::ends::ReaderEnd;
 use crate::insisting::{Asked, ask};
 use nv_io::{Flaw, Got, Source};
 use nv_rpc::Frame;
-use nv_stream::Stream;
 use nv_turn::{Pass, Turn};
 use nv_world::World;
 use std::alloc::{AllocError, Global};
@@ -28,7 +27,7 @@ use std::sync::Wait;
 #[derive(Drop)]
 pub struct Intake {
     alloc: Global,
-    stream: Stream,
+    stream: CallStream,
     number: u64,
 }
 
@@ -49,7 +48,7 @@ impl Intake {
     {
         Ok(Intake {
             alloc,
-            stream: Stream::new(alloc, BOUNDS)?,
+            stream: CallStream::new(alloc)?,
             number: 0,
         })
     }
@@ -59,7 +58,7 @@ impl Intake {
         requires { self.now.stream.start + length self.now.stream.held < 2 ^ 64 }
         ensures { result ≡ self.now.stream.start + length self.now.stream.held }
     {
-        self.stream.start() + self.stream.held_len() as u64
+        self.stream.taken()
     }
 
     /// How its reader ends where no more bytes come.
@@ -123,7 +122,7 @@ impl Intake {
             session }
         ensures no_read { result.1 ≡ Stepped.Ends ReaderEnd.ReadFault → ⊥ }
     {
-        let Ok(next) = next_call(self.alloc, &mut self.stream) else {
+        let Ok(next) = self.stream.next() else {
             return (pass, Stepped::Ends(ReaderEnd::NoMemory));
         };
         match next {

@@ -19,11 +19,10 @@ ghost use Rattle.nv_session.specs.inside.Worlds.{entries_in};
 
 use crate::asking::{answer, close, ended, open};
 use crate::speaking::Outgoing;
-use nv_halves::{BOUNDS, NextCall, next_call};
+use nv_halves::{CallStream, NextCall};
 use nv_io::{Ended, Flaw, Got, Sink, Source};
 use nv_painter::Painter;
 use nv_rpc::Frame;
-use nv_stream::Stream;
 use nv_world::World;
 use std::alloc::{AllocError, Global};
 use std::net::{Net, TcpListener, TcpStream};
@@ -38,7 +37,7 @@ const MOST_TAKEN: u64 = 1 << 62;
 #[derive(Drop)]
 pub struct Session {
     alloc: Global,
-    stream: Stream,
+    stream: CallStream,
     // The calls answered so far.
     number: u64,
     // What its client was told of the screen.
@@ -54,7 +53,7 @@ impl Session {
     {
         Ok(Session {
             alloc,
-            stream: Stream::new(alloc, BOUNDS)?,
+            stream: CallStream::new(alloc)?,
             number: 0,
             painter: Painter::new(alloc)?,
             outgoing: Outgoing::new(alloc),
@@ -66,7 +65,7 @@ impl Session {
         requires { self.now.stream.start + length self.now.stream.held < 2 ^ 64 }
         ensures { result ≡ self.now.stream.start + length self.now.stream.held }
     {
-        self.stream.start() + self.stream.held_len() as u64
+        self.stream.taken()
     }
 
     // How it ends where no more bytes come.
@@ -115,7 +114,7 @@ impl Session {
         ensures no_read { result ≡ Err Ended.ReadFault → ⊥ }
         ensures no_write { result ≡ Err Ended.WriteFault → ⊥ }
     {
-        let Ok(next) = next_call(self.alloc, &mut self.stream) else {
+        let Ok(next) = self.stream.next() else {
             return Err(Ended::NoMemory);
         };
         match next {

@@ -26,4 +26,4 @@ returns-in-NoCall-clause-steps g c =
 pub returns-in-Flaw-clause-steps : goal.returns-in-Flaw-clause-steps
 returns-in-Flaw-clause-steps g c =
     let n = rw c.in-Flaw.is at c.in-Ok.ensures.ok in
-    stepped_flaw c.in-Flaw.flaw c.args.self.now c.next_call.new.stream c.args.self.now _ _ c.requires.ready n
+    stepped_flaw c.in-Flaw.flaw c.args.self.now c.next.new.self c.args.self.now _ _ c.requires.ready n

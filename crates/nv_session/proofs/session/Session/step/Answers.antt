@@ -45,4 +45,4 @@ returns-in-More-clause-steps c =
 pub returns-in-Flaw-clause-steps : goal.returns-in-Flaw-clause-steps
 returns-in-Flaw-clause-steps c =
     let n = rw c.in-Flaw.is at c.in-Ok.ensures.ok in
-    flawed c.in-Flaw.flaw (state_of c.args.self.now c.args.world.now) _ c.next_call.new.stream _ c.requires.ready refl n
+    flawed c.in-Flaw.flaw (state_of c.args.self.now c.args.world.now) _ c.next.new.self _ c.requires.ready refl n
