@@ -2,6 +2,7 @@ pub mod Places
 pub mod Members
 pub mod Strings
 pub mod Closing
+pub mod Draining
 pub mod Called
 pub mod Heard
 pub mod Retelling

@@ -107,10 +107,14 @@ fn drained(
     ensures empty { OnOk result (outbox.new.items ≡ []) }
     ensures capacity { outbox.new.capacity ≡ outbox.old.capacity }
 {
+    // Taken from the back, they leave the outbox where it began. Each that is taken from the front
+    // moves its beginning on, and an outbox that is emptied again and again then goes through all
+    // of its memory.
     let mut messages = Vec::with_capacity(alloc, outbox.len())?;
-    'all: while let Some(message) = outbox.pop_front() {
+    'all: while let Some(message) = outbox.pop_back() {
         messages.push(message)?;
     }
+    messages.reverse();
     Ok(messages)
 }
 
