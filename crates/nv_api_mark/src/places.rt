@@ -60,6 +60,17 @@ fn bytes_of_row(text: &Lines, row: usize) -> usize
     }
 }
 
+// The column of a row that a number names. Column 0 is one of any line, which isn't looked up.
+fn col_of_row(strict: bool, text: &Lines, row: usize, col: i64) -> Option<usize>
+    ensures col { result ≡ col_by_number strict (length (line_at text.now row)) col }
+    ensures within { IfSome result (λ col. col ≤ length (line_at text.now row)) }
+{
+    if col == 0 {
+        return Some(0);
+    }
+    col_by_number(strict, bytes_of_row(text, row), col)
+}
+
 /// The place of a text that two numbers name.
 pub fn place_by_numbers(strict: bool, text: &Lines, row: i64, col: i64) -> Option<Pos>
     requires narrow { IsNarrowText text.now }
@@ -69,7 +80,7 @@ pub fn place_by_numbers(strict: bool, text: &Lines, row: i64, col: i64) -> Optio
     let Some(row) = row_by_number(strict, text.count(), row) else {
         return None;
     };
-    let Some(col) = col_by_number(strict, bytes_of_row(text, row), col) else {
+    let Some(col) = col_of_row(strict, text, row, col) else {
         return None;
     };
     Some(Pos {
@@ -101,7 +112,7 @@ pub fn place_or_last(text: &Lines, row: i64, col: i64) -> Option<Pos>
     let Some(row) = row_or_last(count, row) else {
         return None;
     };
-    let Some(col) = col_by_number(false, bytes_of_row(text, row), col) else {
+    let Some(col) = col_of_row(false, text, row, col) else {
         return None;
     };
     if row < count {
