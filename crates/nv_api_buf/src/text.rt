@@ -1,5 +1,5 @@
 //! The methods on text between two places.
-ghost use Rattle.std.specs.Prelude.{◌≡◌, ◌≤◌, ◌<◌, ℕ, true, false, length, IfOk, IfSome};
+ghost use Rattle.std.specs.Prelude.{◌≡◌, ◌≤◌, ◌<◌, ℕ, Some, true, false, length, option_map, IfOk, IfSome};
 ghost use Rattle.nv_value.specs.Content.{list};
 ghost use Rattle.nv_value.specs.View.{content, contents};
 ghost use Rattle.nv_msgpack.specs.Shortest.{HasSpelling};
@@ -7,6 +7,7 @@ ghost use Rattle.nv_places.specs.Places.{is_before};
 ghost use Rattle.nv_places.specs.declared.place.Pos.{Pos};
 ghost use Rattle.nv_buffer.specs.Splices.{IsInLine, IsNarrowText};
 ghost use Rattle.nv_args.specs.Args.{typed_arguments};
+ghost use Rattle.nv_args.specs.Arguments.{text_row};
 ghost use Rattle.nv_args.specs.Reading.{number_at};
 ghost use Rattle.nv_args.specs.Texts.{or_empty, strings, text_between};
 ghost use Rattle.nv_model.specs.Answers.{Answer};
@@ -15,10 +16,10 @@ ghost use Rattle.nv_model.specs.Buffers.{text_splice};
 ghost use Rattle.nv_model.specs.Standing.{seen_now, seen_buffer_now};
 ghost use Rattle.nv_editor.specs.Doing.{GivesAnswer, ReadsAnswer};
 ghost use Rattle.nv_editor.specs.Sound.{content_at, is_live_buffer};
-ghost use Rattle.nv_api_buf.specs.Texts.{place_named};
+ghost use Rattle.nv_api_buf.specs.Texts.{place_in_row};
 ghost use Rattle.nv_api_buf.specs.TextRows.{nvim_buf_get_text, nvim_buf_set_text, on_places};
 ghost use Rattle.nv_api_buf.specs.inside.Deciding.{Leaves, unless_barred, text_answer};
-ghost use Rattle.nv_api_buf.specs.inside.Parts.{part_of};
+ghost use Rattle.nv_api_buf.specs.inside.Parts.{IsRowOf, part_of};
 
 use crate::finding::{Live, buffer_at, live_given};
 use crate::joining::may_put_text;
@@ -36,10 +37,17 @@ struct Span {
     stop: Pos,
 }
 
-// The place of the text that two numbers name, if any.
-fn place_of(buffer: &Buffer, row: i64, col: i64) -> Option<Pos>
-    ensures place { result ≡ place_named buffer.now.text row col }
-    ensures within { IfSome result (IsInLine buffer.now.text) }
+// A row of a text, and how many bytes its line has.
+#[derive(Clone, Copy)]
+struct TextRow {
+    row: u32,
+    bytes: u32,
+}
+
+// The row of the text that a number names, if any.
+fn row_of(buffer: &Buffer, row: i64) -> Option<TextRow>
+    ensures row { option_map (λ r. r.row) result ≡ text_row row (length buffer.now.text) }
+    ensures within { IfSome result (IsRowOf buffer.now.text) }
 {
     let text = buffer.text();
     let Some(row) = text_row(row, text.count()) else {
@@ -48,22 +56,41 @@ fn place_of(buffer: &Buffer, row: i64, col: i64) -> Option<Pos>
     let Some(line) = text.get(row) else {
         unreachable!();
     };
-    let Some(col) = text_col(col, line.len()) else {
-        return None;
-    };
-    Some(Pos {
+    Some(TextRow {
         row: row as u32,
-        col: col as u32,
+        bytes: line.len() as u32,
     })
 }
 
-// The place of the text that the arguments at two places name, if any.
-fn place_given(buffer: &Buffer, args: &Args, row: usize, col: usize) -> Option<Pos>
-    ensures place { result ≡ place_named buffer.now.text (number_at (typed_arguments args.now) row)
-        (number_at (typed_arguments args.now) col) }
+// The row that the fourth argument names, if any. That of the second, where both are the same
+// number, isn't looked up again.
+fn stop_row(buffer: &Buffer, args: &Args, first: TextRow) -> Option<TextRow>
+    requires first { Some first.row
+        ≡ text_row (number_at (typed_arguments args.now) 1) (length buffer.now.text) }
+    requires within { IsRowOf buffer.now.text first }
+    ensures row { option_map (λ r. r.row) result
+        ≡ text_row (number_at (typed_arguments args.now) 3) (length buffer.now.text) }
+    ensures within { IfSome result (IsRowOf buffer.now.text) }
+{
+    if args.number(3) == args.number(1) {
+        return Some(first);
+    }
+    row_of(buffer, args.number(3))
+}
+
+// The place of a row that a number names, if any.
+fn place_in_row(buffer: &Buffer, row: TextRow, col: i64) -> Option<Pos>
+    requires within { IsRowOf buffer.now.text row }
+    ensures place { result ≡ place_in_row buffer.now.text col row.row }
     ensures within { IfSome result (IsInLine buffer.now.text) }
 {
-    place_of(buffer, args.number(row), args.number(col))
+    let Some(col) = text_col(col, row.bytes as usize) else {
+        return None;
+    };
+    Some(Pos {
+        row: row.row,
+        col: col as u32,
+    })
 }
 
 // The places of a text that the second to the fifth argument name.
@@ -75,10 +102,16 @@ fn span_of(alloc: Global, buffer: &Buffer, args: &Args) -> Result<Span, Fail>
     ensures stop { IfOk result (λ span. IsInLine buffer.now.text span.stop) }
     ensures order { IfOk result (λ span. is_before span.stop span.start ≡ false) }
 {
-    let Some(start) = place_given(buffer, args, 1, 2) else {
+    let Some(first) = row_of(buffer, args.number(1)) else {
         return Err(out_of_bounds(alloc));
     };
-    let Some(stop) = place_given(buffer, args, 3, 4) else {
+    let Some(start) = place_in_row(buffer, first, args.number(2)) else {
+        return Err(out_of_bounds(alloc));
+    };
+    let Some(last) = stop_row(buffer, args, first) else {
+        return Err(out_of_bounds(alloc));
+    };
+    let Some(stop) = place_in_row(buffer, last, args.number(4)) else {
         return Err(out_of_bounds(alloc));
     };
     if stop.is_before(start) {

@@ -1,9 +1,16 @@
--- inside: single lines of text that lies between two places, lines that are too long, and the
--- strings of values.
-use Rattle.std.specs.Prelude.{ℕ, ◌+◌, ◌==◌, Bool, nat_lt, if◌then◌else◌, List, [], ◌++◌, length, map, take, drop, unwrap_or}
+-- inside: rows of a text, single lines of text that lies between two places, lines that are too
+-- long, and the strings of values.
+use Rattle.std.specs.Prelude.{ℕ, ◌≡◌, ◌<◌, ◌+◌, ◌==◌, Bool, nat_lt, if◌then◌else◌, List, [], ◌++◌, length, map, take, drop, unwrap_or}
 use Rattle.nv_value.specs.Content.{Tree}
+use Rattle.nv_places.specs.Flat.{line_at}
 use Rattle.nv_places.specs.declared.place.Pos.{Pos}
 use Rattle.nv_args.specs.Arguments.{string_in}
+use Rattle.nv_api_buf.specs.declared.text.TextRow.{TextRow}
+
+-- a row of a text, with the bytes of its line
+pub record IsRowOf (lines : List (List ℕ)) (r : TextRow) : Type 0 where
+  pub row : r.row < length lines
+  pub bytes : r.bytes ≡ length (line_at lines r.row)
 
 -- what of the line of a row stands between two places
 abbrev pub part_of : List ℕ → ℕ → Pos → Pos → List ℕ
