@@ -159,31 +159,21 @@ def marks_once(words, count):
     server.ask(set_rows(0, -1, [b"x" * 40] * count))
     namespace = server.namespace()
     rows = random.sample(range(count), count)
-    asked = [random.randrange(count) for _ in range(1_000)]
+    asked = [random.randrange(count) for _ in range(5_000)]
     found = {}
     found[f"a mark set, {count} lines, us"] = server.ask(b"".join(set_mark(namespace, row, 20) for row in rows)) * 1e6 / count
     found[f"a line put before {count} marks, us"] = server.ask(set_rows(0, 0, [LINE]) * 1_000) * 1e6 / 1_000
     within = b"".join(request(1, b"nvim_buf_set_text", *[integer(n) for n in (0, row, 9, row, 9)], items([text(b"y")])) for row in asked)
-    found[f"a byte put before one of {count}, us"] = server.ask(within) * 1e6 / 1_000
+    found[f"a byte put before one of {count}, us"] = server.ask(within) * 1e6 / len(asked)
     lines = b"".join(get_marks(namespace, place(row, 0), place(row, -1)) for row in asked)
-    found[f"marks of a line of {count}, us"] = server.ask(lines) * 1e6 / 1_000
+    found[f"marks of a line of {count}, us"] = server.ask(lines) * 1e6 / len(asked)
     firsts = b"".join(get_marks(namespace, place(row, 0), integer(-1), LIMIT_ONE) for row in asked)
-    found[f"the next of {count} marks, us"] = server.ask(firsts) * 1e6 / 1_000
+    found[f"the next of {count} marks, us"] = server.ask(firsts) * 1e6 / len(asked)
     whole = get_marks(namespace, integer(0), integer(-1))
-    times = max(1, 10_000 // count)
+    times = max(1, 50_000 // count)
     found[f"{count} marks listed, ms"] = min(server.ask(whole * times) for _ in range(3)) * 1e3 / times
     server.close()
     return found
-
-
-def mark_figures(words, count):
-    """The same, by the medians of several servers."""
-    runs = [marks_once(words, count) for _ in range(max(3, 10_000 // count))]
-    return {name: statistics.median(run[name] for run in runs) for name in runs[0]}
-
-
-def all_mark_figures(words):
-    return {**mark_figures(words, 1_000), **mark_figures(words, 100_000)}
 
 
 def small_figures(words):
@@ -229,13 +219,11 @@ def figures(words):
         server.ask(edits("replace", 1_000, 50_000))
     found["peak of 1e6 one-line edits, MB"] = server.peak()
     server.close()
-    found.update(all_mark_figures(words))
     return found
 
 
 def beside(program, figures, times):
-    busy = os.getloadavg()[0] > 1
-    print(f"load {os.getloadavg()[0]:.1f}" + (": the machine is busy, so the figures are not to be relied on" if busy else ""))
+    """The medians of so many runs of each of the two servers, in turn."""
     ours, theirs = [], []
     for _ in range(times):
         theirs.append(figures(["nvim", "--embed", "--headless", "-u", "NONE", "-i", "NONE", "-n"]))
@@ -249,8 +237,13 @@ def beside(program, figures, times):
 
 def main():
     if len(sys.argv) > 1 and sys.argv[1] in ("beside", "marks"):
-        asked, times = (figures, 3) if sys.argv[1] == "beside" else (all_mark_figures, 7)
-        return beside(sys.argv[2] if len(sys.argv) > 2 else PROGRAM, asked, times)
+        program = sys.argv[2] if len(sys.argv) > 2 else PROGRAM
+        busy = os.getloadavg()[0] > 1
+        print(f"load {os.getloadavg()[0]:.1f}" + (": the machine is busy, so the figures are not to be relied on" if busy else ""))
+        if sys.argv[1] == "beside":
+            beside(program, figures, 3)
+        beside(program, lambda words: marks_once(words, 1_000), 50)
+        return beside(program, lambda words: marks_once(words, 100_000), 15)
     program = sys.argv[1] if len(sys.argv) > 1 else PROGRAM
     if not os.path.exists(program):
         raise SystemExit("build it first: ./nvimd embed </dev/null")
