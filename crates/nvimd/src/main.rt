@@ -47,8 +47,20 @@ fn all_watchers(alloc: Global) -> Result<Vec<AnyWatcher>, AllocError> {
     Ok(vec![in alloc; buffers, grids, marks, replies]?)
 }
 
+// Half of what the C library's allocator is to keep of the memory that is free at the end of its
+// heap, in bytes.
+const KEPT_FREE: usize = 1 << 20;
+
+// Has the allocator keep free memory, which it gives back from 128 KiB on at first, and then asks
+// for again page by page: a listing or a text that is answered takes more than that. Where a block
+// that it had mapped is freed, it keeps twice as much from then on (mallopt(3), M_MMAP_THRESHOLD).
+fn keep_free_memory(alloc: Global) {
+    let _ = Vec::<u8>::with_capacity(alloc, KEPT_FREE);
+}
+
 fn main(rt: HostRuntime) -> ExitCode {
     let alloc = rt.alloc();
+    keep_free_memory(alloc);
     let mut errors = StdErr::new(rt.stderr());
     let Ok(strings) = strings_of(&rt) else {
         return want_of_memory(&rt, &mut errors);
