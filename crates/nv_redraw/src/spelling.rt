@@ -6,10 +6,11 @@ ghost use Rattle.nv_linegrid.specs.declared.event.Redraw.TheVariants.{HlAttr, Li
 ghost use Rattle.nv_redraw.specs.Values.{pair_if_there, colour_tree, flag_tree, pairs_there, flag_fields, rgb_fields, cterm_fields, map_tree, tuple_tree, id_tree, run_tree, event_tree, entry_tree, events_by_name, batch_tree};
 ghost use Rattle.nv_redraw.specs.inside.Parts.{front_of_batch, place_spelling, rgb_colours, cterm_colours, upper_flags, lower_flags};
 
-use crate::heads::{put_integer, put_list_head, put_text_head, put_unsigned};
+use crate::heads::{put_list_head, put_text_head};
 use crate::naming::{count_named, name_of};
 use nv_hl::Attr;
 use nv_linegrid::{Redraw, Run};
+use nv_msgpack::{put_integer, put_unsigned};
 use std::alloc::AllocError;
 
 /// Adds the shortest spelling of a batch's value at the end of `into` (MessagePack specification,
