@@ -3,10 +3,9 @@ ghost use Rattle.std.specs.Prelude.{◌≡◌, ◌<◌, ◌≤◌, length, map, 
 ghost use Rattle.nv_args.specs.Table.{method_named};
 ghost use Rattle.nv_args.specs.Methods.{method_name, signature_of};
 ghost use Rattle.nv_args.specs.Kinds.{kind_of};
-ghost use Rattle.nv_args.specs.inside.Ordered.{method_at};
+ghost use Rattle.nv_args.specs.inside.Ordered.{method_at, place_in_slot, slot_of};
 
 use crate::kinds::Kind;
-use std::cmp::Ordering;
 
 /// A method of the API, in the order of the names (Neovim help `api`; the help tag of each method
 /// is its name, such as `nvim_buf_set_lines()` for `BufSetLines`).
@@ -293,23 +292,55 @@ fn method_at(place: usize) -> Method
     METHODS[place]
 }
 
+// The places of the methods in `METHODS` by the slots of their names. Each name has a slot of its
+// own, and 0 stands where a slot is no name's.
+static PLACES: [u8; 256] = [
+    33, 0, 14, 0, 23, 0, 17, 0, 0, 0, 0, 55, 28, 0, 0, 0, 36, 0, 56, 0, 21, 25, 0, 0, 0, 0, 0, 0,
+    27, 0, 61, 0, 43, 38, 0, 0, 0, 0, 31, 0, 0, 0, 0, 0, 0, 0, 0, 0, 0, 0, 1, 0, 0, 0, 0, 24, 0, 0,
+    0, 0, 6, 0, 0, 42, 0, 0, 0, 37, 0, 0, 0, 0, 0, 53, 0, 18, 0, 0, 0, 48, 0, 0, 26, 0, 0, 60, 0,
+    12, 0, 0, 0, 0, 49, 50, 39, 0, 0, 0, 0, 0, 0, 0, 0, 0, 0, 0, 0, 0, 57, 0, 22, 0, 0, 19, 0, 0,
+    0, 0, 0, 0, 0, 0, 0, 0, 0, 0, 0, 8, 0, 0, 0, 54, 0, 0, 0, 0, 0, 0, 45, 15, 32, 0, 0, 0, 0, 0,
+    0, 0, 0, 0, 0, 0, 0, 0, 0, 0, 30, 0, 5, 0, 0, 44, 29, 4, 0, 0, 0, 47, 0, 34, 0, 0, 35, 0, 40,
+    0, 0, 0, 0, 0, 0, 0, 46, 0, 0, 0, 0, 0, 0, 0, 0, 0, 41, 20, 0, 0, 0, 0, 9, 0, 0, 0, 0, 0, 0, 0,
+    0, 0, 10, 0, 16, 0, 0, 0, 0, 3, 51, 0, 0, 0, 0, 0, 0, 0, 0, 0, 0, 7, 58, 52, 0, 0, 0, 0, 0, 0,
+    0, 0, 0, 13, 0, 59, 0, 2, 0, 0, 0, 0, 0, 0, 11, 0, 0, 0, 0, 0,
+];
+
+// The slot of a name, by its length and three of its bytes.
+fn slot_of(name: &[u8]) -> usize
+    ensures slot { result ≡ slot_of name.now }
+    ensures within { result < 256 }
+{
+    let len = name.len();
+    if len < 10 {
+        return 0;
+    }
+    let sixth = usize::from(name[5]);
+    let tenth = usize::from(name[9]);
+    let late = usize::from(name[len - 3]);
+    (sixth + tenth + 13 * late + 16 * (len % 16)) % 256
+}
+
+// The place of the method of a slot.
+fn place_in_slot(slot: usize) -> usize
+    requires { slot < 256 }
+    ensures place { result ≡ place_in_slot slot }
+    ensures within { result < 62 }
+{
+    usize::from(PLACES[slot])
+}
+
 /// The method of this name; none where no method of the table has it.
 pub fn method_of(name: &[u8]) -> Option<Method>
     ensures signature { option_map signature_of result ≡ method_named name.now }
     ensures name { IfSome result (λ method. method_name method ≡ name.now) }
 {
-    let mut low = 0;
-    let mut high = METHODS.len();
-    while low < high {
-        let middle = low + (high - low) / 2;
-        let method = method_at(middle);
-        match method.name().as_bytes().cmp(name) {
-            Ordering::Less => low = middle + 1,
-            Ordering::Greater => high = middle,
-            Ordering::Equal => return Some(method),
-        }
+    let method = method_at(place_in_slot(slot_of(name)));
+    if method.name().as_bytes() == name {
+        Some(method)
+    } else {
+        None
     }
-    None
 }
 
 impl Method {
