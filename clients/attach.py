@@ -117,6 +117,8 @@ def marks(nvim):
     buffer.api.set_text(0, 3, 0, 3, ["XY"])
     same("moved by text", buffer.api.get_extmarks(first, 0, -1, {}), [[1, 0, 3], [2, 0, 5]])
     same("in reverse", buffer.api.get_extmarks(first, -1, 0, {"limit": 1}), [[2, 0, 5]])
+    listings = [["nvim_buf_get_extmarks", [0, first, 0, -1, {}]], ["nvim_buf_get_extmarks", [0, first, [1, 0], -1, {}]]]
+    same("listed by calls in one", nvim.api.call_atomic(listings), [[[[1, 0, 3], [2, 0, 5]], []], None])
     same("by id", buffer.api.get_extmark_by_id(first, 2, {}), [0, 5])
     same("by another id", buffer.api.get_extmark_by_id(first, 9, {}), [])
     same("coloured", buffer.api.set_extmark(second, 1, 0, {"end_col": 2, "hl_group": "NonText"}), 1)

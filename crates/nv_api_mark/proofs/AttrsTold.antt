@@ -1,6 +1,5 @@
 -- What is told of an attribute can be spelled.
-use Rattle.std.proofs.Common.{◌≡◌, ◌∙◌, ℕ, ◌+◌, ◌<◌, ◌≤◌, ◌^◌, Bool, true, false, List, [], ◌∷◌, ◌++◌, length, append_assoc, length-append, ap, arith, Option, Some, None}
-use Prim.Native.String.{String}
+use Rattle.std.proofs.Common.{◌≡◌, ◌∙◌, ℕ, ◌+◌, ◌<◌, ◌≤◌, ◌^◌, Bool, true, false, List, ◌++◌, length, append_assoc, length-append, ap, arith, Option, Some, None}
 use Rattle.std.specs.Prelude.{codes}
 use Rattle.nv_value.specs.Content.{Tree, in_turn, truth}
 use Rattle.nv_msgpack.specs.Shortest.{HasSpelling, HaveSpellings}

@@ -3,6 +3,7 @@ pub mod Drafts
 pub mod GroupsNamed
 pub mod MarkLookups
 pub mod Picked
+pub mod Plain
 pub mod Putting
 pub mod Removed
 pub mod RowNames

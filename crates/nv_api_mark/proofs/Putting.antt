@@ -1,5 +1,5 @@
 -- Values put behind others.
-use Rattle.std.proofs.Common.{◌≡◌, ◌∙◌, List, [], ◌∷◌, ◌++◌, map, refl, ap, append_assoc}
+use Rattle.std.proofs.Common.{◌≡◌, ◌∙◌, List, [], ◌∷◌, ◌++◌, map, ap, append_assoc}
 use Rattle.std.proofs.lemmas.List.{map-append}
 
 -- one more at the end, before the rest

@@ -1,5 +1,5 @@
 -- Marks that are removed one after another.
-use Rattle.std.proofs.Common.{◌≡◌, ◌∙◌, sym, ap, subst, ℕ, ℤ, ◌+◌, ◌<◌, List, [], ◌∷◌, ◌++◌, length, take, get_or, map}
+use Rattle.std.proofs.Common.{◌≡◌, ◌∙◌, sym, ap, subst, ℕ, ℤ, ◌+◌, ◌<◌, List, [], ◌∷◌, ◌++◌, length, take, get_or}
 use Rattle.std.proofs.lemmas.List.{map-append, take_more}
 use Rattle.nv_marks.specs.declared.extmark.Mark.{Mark}
 use Rattle.nv_model.specs.Editors.{ModelEditor}

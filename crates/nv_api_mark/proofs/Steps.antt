@@ -1,11 +1,12 @@
 -- Steps of a call that decide what it answers.
-use Rattle.std.proofs.Common.{◌≡◌, ℕ, ℤ, Bool, List, [], ◌∷◌, ◌++◌, refl, sym, ap, subst, ◌∙◌, Ok, Err, Result, Option, Some, None, append-nil}
+use Rattle.std.proofs.Common.{◌≡◌, ℤ, List, [], refl, sym, ap, subst, ◌∙◌, Ok, Err, Result, Option, Some, None, append-nil}
 use Rattle.std.specs.Prelude.{option_map}
 use Rattle.std.specs.Result.{IsErrAnd}
 use Rattle.nv_value.specs.Content.{Tree}
 use Rattle.nv_value.specs.View.{content}
 use Rattle.nv_value.specs.declared.fault.ApiFault.{ApiFault}
 use Rattle.nv_value.specs.declared.value.Value.{Value}
+use Rattle.nv_rpc.specs.declared.outcome.Outcome.{Outcome}
 use Rattle.nv_args.specs.Faults.{no_buffer}
 use Rattle.nv_args.specs.Refusals.{Finds, Refuses}
 use Rattle.nv_args.specs.declared.faults.Fail.{Fail}
@@ -13,13 +14,14 @@ use Rattle.nv_args.specs.declared.faults.Fail.TheVariants.{Api, NoMemory}
 use Rattle.nv_buffer.specs.Content.{Content}
 use Rattle.nv_windows.specs.Workspace.{current_buffer}
 use Rattle.nv_model.specs.Answers.{Answer, Fact, refused, replied, or_refused, on_buffer}
-use Rattle.nv_model.specs.Answering.{fault_or, reply_of}
+use Rattle.nv_model.specs.Answering.{fault_or}
 use Rattle.nv_model.specs.Editors.{at_handle}
 use Rattle.nv_model.specs.Operations.{Operation}
 use Rattle.nv_model.specs.Seen.{SeenBuffer}
 use Rattle.nv_model.specs.Stage.{or_current}
 use Rattle.nv_model.specs.Standing.{PresentEditor, seen_now, seen_buffer_now}
 use Rattle.nv_editor.specs.Doing.{Does, GivesAnswer, ReadsAnswer, Replies}
+use Rattle.nv_api_mark.specs.Outcomes.{ReadsOutcome}
 use Rattle.nv_api_mark.specs.inside.Steps.{Decides}
 
 -- the buffer that a call names is live, or it isn't
@@ -57,6 +59,12 @@ reads_stop answer between rest fail (Ok value) is d e = absurd e
 reads_stop {A} answer between rest (Api fault) (Err given) is d e = subst (λ (f : Fail). ReadsAnswer answer (Err f)) (sym e) (is ∙ d.0, d.1)
 reads_stop {A} answer between rest NoMemory (Err given) is d e = subst (λ (f : Fail). ReadsAnswer answer (Err f)) (sym e) tt
 
+pub outcome_stop : {A : Type 0} (answer between : Answer) (rest : A → Answer) (fail : Fail) (result : Result Outcome Fail) → answer ≡ between → Decides between rest (Err fail)
+    → IsErrAnd result (λ y. y ≡ fail) → ReadsOutcome answer result
+outcome_stop answer between rest fail (Ok outcome) is d e = absurd e
+outcome_stop {A} answer between rest (Api fault) (Err given) is d e = subst (λ (f : Fail). ReadsOutcome answer (Err f)) (sym e) (is ∙ d.0, d.1)
+outcome_stop {A} answer between rest NoMemory (Err given) is d e = subst (λ (f : Fail). ReadsOutcome answer (Err f)) (sym e) tt
+
 pub gives_stop : {A : Type 0} (answer between : Answer) (rest : A → Answer) (fail : Fail) (result : Result Value Fail) (e : PresentEditor) (told : List Fact)
     → answer ≡ between → Decides between rest (Err fail) → IsErrAnd result (λ y. y ≡ fail) → GivesAnswer answer result e e told told
 gives_stop answer between rest fail (Ok value) e told is d err = absurd err
@@ -87,6 +95,9 @@ decides_on {A} answer between rest result is d = subst (λ (a : Answer). Decides
 
 pub reads_on : (answer between : Answer) (result : Result Value Fail) → answer ≡ between → ReadsAnswer between result → ReadsAnswer answer result
 reads_on answer between result is reads = subst (λ (a : Answer). ReadsAnswer a result) (sym is) reads
+
+pub outcome_on : (answer between : Answer) (result : Result Outcome Fail) → answer ≡ between → ReadsOutcome between result → ReadsOutcome answer result
+outcome_on answer between result is reads = subst (λ (a : Answer). ReadsOutcome a result) (sym is) reads
 
 pub gives_on : (answer between : Answer) (result : Result Value Fail) (e later : PresentEditor) (told now : List Fact) → answer ≡ between
     → GivesAnswer between result e later told now → GivesAnswer answer result e later told now

@@ -1,4 +1,5 @@
 pub mod Namespaces
+pub mod Outcomes
 pub mod Groups
 pub mod Setting
 pub mod MarkRows

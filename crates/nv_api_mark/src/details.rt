@@ -9,10 +9,12 @@ ghost use Rattle.nv_model.specs.Answering.{array_of};
 ghost use Rattle.nv_api_mark.specs.Listing.{listed_mark};
 ghost use Rattle.nv_api_mark.specs.MarkRows.{details_of, end_details, paint_details, place_values, place_values_if_any};
 ghost use Rattle.nv_api_mark.specs.inside.Marking.{IsGroupTold};
+ghost use Rattle.nv_api_mark.specs.inside.Picking.{listed_triple};
 
 use crate::values::{natural_value, put_natural, put_text, put_truth};
 use nv_buffer::{Far, Mark, Paint};
 use nv_hl::Groups;
+use nv_rpc::Triple;
 use nv_value::{Fields, Value};
 use std::alloc::{AllocError, Global};
 
@@ -103,8 +105,8 @@ pub fn place_value(
     Ok(Value::List(vec![in alloc; row, col]?))
 }
 
-// A mark as it is listed with its details.
-fn detailed_value(alloc: Global, groups: &Groups, mark: Mark) -> Result<Value, AllocError>
+/// A mark as it is listed with its details.
+pub fn detailed_value(alloc: Global, groups: &Groups, mark: Mark) -> Result<Value, AllocError>
     requires { IsOfGroups groups.now mark }
     ensures told { IfOk result (λ value. content value ≡ listed_mark groups.now true mark) }
     ensures spelled { IfOk result (λ value. HasSpelling (content value)) }
@@ -116,22 +118,13 @@ fn detailed_value(alloc: Global, groups: &Groups, mark: Mark) -> Result<Value, A
     Ok(Value::List(vec![in alloc; id, row, col, told]?))
 }
 
-/// A mark as it is listed: its id and its place, and its details where they are wanted.
-pub fn listed_value(
-    alloc: Global,
-    groups: &Groups,
-    details: bool,
-    mark: Mark,
-) -> Result<Value, AllocError>
-    requires { IsOfGroups groups.now mark }
-    ensures told { IfOk result (λ value. content value ≡ listed_mark groups.now details mark) }
-    ensures spelled { IfOk result (λ value. HasSpelling (content value)) }
+/// A mark as it is listed without its details: its id and its place.
+pub fn listed_triple(mark: Mark) -> Triple
+    ensures { result ≡ listed_triple mark }
 {
-    if details {
-        return detailed_value(alloc, groups, mark);
+    Triple {
+        first: mark.id,
+        second: mark.start.row,
+        third: mark.start.col,
     }
-    let id = natural_value(mark.id);
-    let row = natural_value(mark.start.row);
-    let col = natural_value(mark.start.col);
-    Ok(Value::List(vec![in alloc; id, row, col]?))
 }

@@ -20,4 +20,5 @@ mod telling;
 mod values;
 
 pub use laws::telling_laws;
+pub use listing::nvim_buf_get_extmarks;
 pub use table::call_method;

@@ -1,9 +1,10 @@
 //! Listing marks (help: nvim_buf_get_extmarks()).
-ghost use Rattle.std.specs.Prelude.{◌≡◌, ℕ, pos, All, IfOk, false, filter, map, reverse, take, unwrap_or};
+ghost use Rattle.std.specs.Prelude.{◌≡◌, ◌<◌, ◌^◌, ℕ, pos, All, IfOk, false, true, filter, length, map, reverse, take, unwrap_or};
 ghost use Rattle.nv_places.specs.Places.{is_before};
 ghost use Rattle.nv_value.specs.View.{content, pair_content};
 ghost use Rattle.nv_msgpack.specs.Shortest.{HasSpelling};
 ghost use Rattle.nv_msgpack.specs.Handle.{integer_of};
+ghost use Rattle.nv_rpc.specs.Outcomes.{outcome_content};
 ghost use Rattle.nv_args.specs.Args.{typed_arguments};
 ghost use Rattle.nv_args.specs.Arguments.{last_pairs};
 ghost use Rattle.nv_args.specs.Reading.{object_at};
@@ -13,13 +14,13 @@ ghost use Rattle.nv_args.specs.Rules.{key_of};
 ghost use Rattle.nv_model.specs.Answers.{Answer};
 ghost use Rattle.nv_model.specs.Answering.{array_of, reply_of};
 ghost use Rattle.nv_model.specs.Standing.{seen_now, seen_buffer_now};
-ghost use Rattle.nv_editor.specs.Doing.{ReadsAnswer};
 ghost use Rattle.nv_editor.specs.Sound.{IsOfGroups};
 ghost use Rattle.nv_api_mark.specs.Listing.{first_marks, is_meant, listed_mark, listing_keys, marks_from, nvim_buf_get_extmarks, place_by_number, place_of_value, place_pair, reaches};
+ghost use Rattle.nv_api_mark.specs.Outcomes.{ReadsOutcome};
 ghost use Rattle.nv_api_mark.specs.inside.Steps.{Decides};
-ghost use Rattle.nv_api_mark.specs.inside.Picking.{first_looked_at, is_looked_at, is_picked, marks_answer, span_answer, spanned_answer};
+ghost use Rattle.nv_api_mark.specs.inside.Picking.{first_looked_at, is_looked_at, is_picked, listed_triple, marks_answer, span_answer, spanned_answer};
 
-use crate::details::listed_value;
+use crate::details::{detailed_value, listed_triple};
 use crate::naming::meant_namespace;
 use crate::places::{mark_numbered, place_or_last};
 use nv_args::{
@@ -28,6 +29,7 @@ use nv_args::{
 use nv_buffer::{Buffer, Mark, Pos};
 use nv_editor::Editor;
 use nv_hl::Groups;
+use nv_rpc::{Outcome, Triple};
 use nv_value::{Pair, Value};
 use std::alloc::{AllocError, Global};
 
@@ -224,26 +226,53 @@ fn marks_from(
     marks_ahead(alloc, buffer, picks, limit)
 }
 
+// Marks as they are listed with their details.
+fn detailed_marks(alloc: Global, groups: &Groups, marks: &[Mark]) -> Result<Value, AllocError>
+    requires groups { All (IsOfGroups groups.now) marks.now }
+    requires few { length marks.now < 2 ^ 32 }
+    ensures told { IfOk result (λ value. content value
+        ≡ array_of (map (listed_mark groups.now true) marks.now)) }
+    ensures spelled { IfOk result (λ value. HasSpelling (content value)) }
+{
+    let mut items = Vec::with_capacity(alloc, marks.len())?;
+    for mark in marks {
+        items.push(detailed_value(alloc, groups, *mark)?)?;
+    }
+    Ok(Value::List(items))
+}
+
+// Marks as they are listed without them.
+fn plain_marks(alloc: Global, marks: &[Mark]) -> Result<Vec<Triple>, AllocError>
+    ensures { IfOk result (λ triples. triples.items ≡ map listed_triple marks.now) }
+{
+    let mut triples = Vec::with_capacity(alloc, marks.len())?;
+    for mark in marks {
+        triples.push(listed_triple(*mark))?;
+    }
+    Ok(triples)
+}
+
 // Marks as they are listed.
-fn marks_value(
+fn listed_marks(
     alloc: Global,
     groups: &Groups,
     details: bool,
     marks: &[Mark],
-) -> Result<Value, AllocError>
+) -> Result<Outcome, AllocError>
     requires { All (IsOfGroups groups.now) marks.now }
-    ensures told { IfOk result (λ value. content value
+    ensures told { IfOk result (λ outcome. outcome_content outcome
         ≡ array_of (map (listed_mark groups.now details) marks.now)) }
-    ensures spelled { IfOk result (λ value. HasSpelling (content value)) }
+    ensures spelled { IfOk result (λ outcome. HasSpelling (outcome_content outcome)) }
 {
     if marks.len() > u32::MAX as usize {
         return Err(AllocError);
     }
-    let mut items = Vec::with_capacity(alloc, marks.len())?;
-    for mark in marks {
-        items.push(listed_value(alloc, groups, details, *mark)?)?;
+    if details {
+        let value = detailed_marks(alloc, groups, marks)?;
+        return Ok(Outcome::Value(value));
     }
-    Ok(Value::List(items))
+    let triples = plain_marks(alloc, marks)?;
+    Ok(Outcome::Triples(triples))
 }
 
 // The place that one number names: 0 the first, -1 the last, another one that of a mark.
@@ -345,44 +374,49 @@ fn listing_fault(alloc: Global, pairs: &[Pair]) -> Result<(), Fail>
 }
 
 // The marks of a span as they are listed.
-fn span_value(
+fn span_listed(
     editor: &Editor,
     buffer: &Buffer,
     span: Span,
     pairs: &[Pair],
-) -> Result<Value, AllocError>
+) -> Result<Outcome, AllocError>
     requires painted { All (IsOfGroups editor.now.stage.groups) buffer.now.marks.marks }
-    ensures row { IfOk result (λ value. spanned_answer (seen_now editor.now)
+    ensures row { IfOk result (λ outcome. spanned_answer (seen_now editor.now)
         (seen_buffer_now buffer.now) (last_pairs (map pair_content pairs.now)) span
-        ≡ reply_of (content value)) }
-    ensures spelled { IfOk result (λ value. HasSpelling (content value)) }
+        ≡ reply_of (outcome_content outcome)) }
+    ensures spelled { IfOk result (λ outcome. HasSpelling (outcome_content outcome)) }
 {
     let alloc = editor.alloc();
     let overlap = flag_or(pairs, "overlap", false);
     let details = flag_or(pairs, "details", false);
     let limit = integer_from(pairs, "limit", 1);
     let marks = marks_from(alloc, buffer, span, overlap, limit)?;
-    marks_value(alloc, editor.groups(), details, marks.as_slice())
+    listed_marks(alloc, editor.groups(), details, marks.as_slice())
 }
 
 // The marks of a buffer that a call lists.
-fn marks_told(editor: &Editor, buffer: &Buffer, args: &Args, pairs: &[Pair]) -> Result<Value, Fail>
+fn marks_told(
+    editor: &Editor,
+    buffer: &Buffer,
+    args: &Args,
+    pairs: &[Pair],
+) -> Result<Outcome, Fail>
     requires painted { All (IsOfGroups editor.now.stage.groups) buffer.now.marks.marks }
-    ensures row { ReadsAnswer (marks_answer (seen_now editor.now) (seen_buffer_now buffer.now)
+    ensures row { ReadsOutcome (marks_answer (seen_now editor.now) (seen_buffer_now buffer.now)
         (typed_arguments args.now) (last_pairs (map pair_content pairs.now))) result }
-    ensures spelled { IfOk result (λ value. HasSpelling (content value)) }
+    ensures spelled { IfOk result (λ outcome. HasSpelling (outcome_content outcome)) }
 {
     listing_fault(editor.alloc(), pairs)?;
     let span = span_given(editor, buffer, args)?;
-    Ok(span_value(editor, buffer, span, pairs)?)
+    Ok(span_listed(editor, buffer, span, pairs)?)
 }
 
 /// `nvim_buf_get_extmarks`: the marks from one place to another, both included.
-pub fn nvim_buf_get_extmarks(editor: &Editor, args: &Args) -> Result<Value, Fail>
+pub fn nvim_buf_get_extmarks(editor: &Editor, args: &Args) -> Result<Outcome, Fail>
     ensures row { (session : ℕ)
-        → ReadsAnswer (nvim_buf_get_extmarks (seen_now editor.now) session
+        → ReadsOutcome (nvim_buf_get_extmarks (seen_now editor.now) session
         (typed_arguments args.now)) result }
-    ensures spelled { IfOk result (λ value. HasSpelling (content value)) }
+    ensures spelled { IfOk result (λ outcome. HasSpelling (outcome_content outcome)) }
 {
     editor.known();
     let given = args.number(0);

@@ -2,10 +2,13 @@
 ghost use Rattle.std.specs.Prelude.{IfOk, IfSome};
 ghost use Rattle.nv_value.specs.View.{content};
 ghost use Rattle.nv_msgpack.specs.Shortest.{HasSpelling};
+ghost use Rattle.nv_rpc.specs.Outcomes.{outcome_content};
 ghost use Rattle.nv_args.specs.Args.{typed_arguments};
 ghost use Rattle.nv_args.specs.Methods.{method_name};
+ghost use Rattle.nv_model.specs.Answers.{Answer};
 ghost use Rattle.nv_model.specs.Standing.{seen_now};
-ghost use Rattle.nv_editor.specs.Doing.{AnswersRow, row_among};
+ghost use Rattle.nv_editor.specs.Doing.{AnswersRow, ReadsAnswer, row_among};
+ghost use Rattle.nv_api_mark.specs.Outcomes.{ReadsOutcome};
 ghost use Rattle.nv_api_mark.specs.Rows.{mark_rows};
 
 use crate::clearing::nvim_buf_clear_namespace;
@@ -16,7 +19,21 @@ use crate::naming::{nvim_create_namespace, nvim_get_namespaces};
 use crate::telling::nvim_get_hl;
 use nv_args::{Args, Fail, Method};
 use nv_editor::{Editor, Happened};
+use nv_rpc::Outcome;
 use nv_value::Value;
+use std::alloc::Global;
+
+// What a listing gave, as a value.
+fn as_value(alloc: Global, given: Result<Outcome, Fail>) -> Result<Value, Fail>
+    ensures read { (answer : Answer) → ReadsOutcome answer given → ReadsAnswer answer result }
+    ensures spelled { IfOk given (λ outcome. HasSpelling (outcome_content outcome))
+        → IfOk result (λ value. HasSpelling (content value)) }
+{
+    match given {
+        Ok(outcome) => Ok(outcome.into_value(alloc)?),
+        Err(fail) => Err(fail),
+    }
+}
 
 /// Calls a method on namespaces, marks or highlight groups for a session; nothing where the method
 /// is another one.
@@ -38,7 +55,10 @@ pub fn call_method(
         Method::BufSetExtmark => Some(nvim_buf_set_extmark(editor, args)),
         Method::BufDelExtmark => Some(nvim_buf_del_extmark(editor, args)),
         Method::BufGetExtmarkById => Some(nvim_buf_get_extmark_by_id(editor, args)),
-        Method::BufGetExtmarks => Some(nvim_buf_get_extmarks(editor, args)),
+        Method::BufGetExtmarks => Some(as_value(
+            editor.alloc(),
+            nvim_buf_get_extmarks(editor, args),
+        )),
         Method::BufClearNamespace => Some(nvim_buf_clear_namespace(editor, args)),
         Method::SetHl => Some(nvim_set_hl(editor, args)),
         Method::GetHl => Some(nvim_get_hl(editor, args)),

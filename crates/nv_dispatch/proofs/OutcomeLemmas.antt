@@ -5,6 +5,7 @@ use Rattle.std.proofs.lemmas.List.{length-map}
 use Rattle.nv_value.specs.Content.{Tree}
 use Rattle.nv_value.specs.View.{content}
 use Rattle.nv_value.specs.declared.fault.ApiFault.{ApiFault}
+use Rattle.nv_rpc.specs.Outcomes.{outcome_content}
 use Rattle.nv_args.specs.Reading.{Arg}
 use Rattle.nv_args.specs.Args.{typed_arguments}
 use Rattle.nv_args.specs.Arguments.{tree_list}
@@ -218,7 +219,7 @@ pub goes_on :
     → ((k : ModelEditor) → Stands middle k → GaveOutcome (outcome_of_value k session value) k given after between now)
     → IsMadeSoFar wanted m session (map content later.values.items) later.is_seen left after told now
 goes_on wanted m session (Ok done) made later value left middle after told between now t going so_far gave =
-    let more = one_made wanted m session (map content made.values.items) made.is_seen value left middle after told between now so_far (content done.result) done.is_seen
+    let more = one_made wanted m session (map content made.values.items) made.is_seen value left middle after told between now so_far (outcome_content done.result) done.is_seen
     (gave (after_operations so_far.operations m) so_far.stands) in
     subst (λ (b : Bool). IsMadeSoFar wanted m session (map content later.values.items) b left after told now) (sym t.2)
     (subst (λ (rs : List Tree). IsMadeSoFar wanted m session rs (made.is_seen || done.is_seen) left after told now) (sym t.0) more)
@@ -280,7 +281,7 @@ taken_light (Ok done) made later value left t some few =
       ap (length {A = Tree}) t.0,
       length-map later.values.items content,
       length-map made.values.items content,
-      length-append (map content made.values.items) (content done.result ∷ []),
+      length-append (map content made.values.items) (outcome_content done.result ∷ []),
     )
 taken_light (Err (Api fault)) made later value left t some few =
     omega (arith, few, ap (length {A = Tree}) t.0, length-map later.values.items content, length-map made.values.items content)

@@ -1,5 +1,5 @@
 -- What a method gave by its row is what a call of it comes to.
-use Rattle.std.proofs.Common.{◌≡◌, ◌⊎◌, inl, inr, ℕ, List, refl, sym, ap, ◌∙◌, subst, Bool, true, false, Option, Some, None, Result, Ok, Err}
+use Rattle.std.proofs.Common.{◌≡◌, ◌⊎◌, inl, inr, ℕ, List, refl, sym, ap, ◌∙◌, subst, append-nil, Bool, true, false, Option, Some, None, Result, Ok, Err}
 use Rattle.std.specs.Prelude.{is_some, ◌++◌, ◌∷◌, [], cond, option_map, find, bytes_eq}
 use Rattle.nv_value.specs.Content.{Tree}
 use Rattle.nv_value.specs.View.{content}
@@ -15,9 +15,11 @@ use Rattle.nv_args.specs.declared.faults.Fail.TheVariants.{Api, NoMemory}
 use Rattle.nv_model.specs.Editors.{ModelEditor}
 use Rattle.nv_model.specs.Seen.{Seen, seen_of}
 use Rattle.nv_model.specs.Answers.{Answer, Fact, refused}
+use Rattle.nv_model.specs.Answering.{reply_of}
 use Rattle.nv_model.specs.Rows.{Row}
 use Rattle.nv_model.specs.Standing.{PresentEditor, Stands, seen_now}
 use Rattle.nv_editor.specs.Doing.{AnswersRow, row_among, GivesAnswer, Replies}
+use Rattle.nv_api_mark.specs.Outcomes.{ReadsOutcome}
 use Rattle.nv_dispatch.specs.Calls.{CallOutcome, outcome_of_answer, answer_to_args, outcome_by_row, outcome_of_method, row_named}
 use Rattle.nv_dispatch.specs.Outcomes.{IsOutcome, GaveOutcome, GivesOutcome}
 use Rattle.nv_dispatch.specs.inside.Rows.{outcome_of_row, IsUnknown}
@@ -34,12 +36,12 @@ refuses_outcome answer fault (Api given) is_seen m before after told now r is e 
     refused_outcome answer given is_seen m before after told now is (e ∙ ap refused (sym r.0)) f g
 
 gave_ok :
-    (row : Row) (session : ℕ) (args : List Arg) (is_seen : Bool) (value : Value) (before after : PresentEditor) (told now : List Fact)
-    → GivesAnswer (row (seen_now before) session args) (Ok value) before after told now → (m : ModelEditor) → Stands before m
-    → IsOutcome (outcome_of_answer is_seen (row (seen_of m) session args)) m (Ok (content value)) is_seen after told now
-gave_ok row session args is_seen value before after told now h m is =
-    replies_outcome (row (seen_of m) session args) (content value) is_seen m before after told now is
-    (subst (λ (a : Answer). Replies a (content value) before after told now) (row_seen row session args before m is) h)
+    (row : Row) (session : ℕ) (args : List Arg) (is_seen : Bool) (t : Tree) (before after : PresentEditor) (told now : List Fact)
+    → Replies (row (seen_now before) session args) t before after told now → (m : ModelEditor) → Stands before m
+    → IsOutcome (outcome_of_answer is_seen (row (seen_of m) session args)) m (Ok t) is_seen after told now
+gave_ok row session args is_seen t before after told now h m is =
+    replies_outcome (row (seen_of m) session args) t is_seen m before after told now is
+    (subst (λ (a : Answer). Replies a t before after told now) (row_seen row session args before m is) h)
 
 gave_err :
     (row : Row) (session : ℕ) (args : List Arg) (is_seen : Bool) (fail : Fail) (before after : PresentEditor) (told now : List Fact)
@@ -57,7 +59,7 @@ pub row_ok :
 row_ok None name session args is_seen seen value before after told now h e m is = absurd h
 row_ok (Some row) name session args is_seen seen value before after told now h e m is =
     subst (λ (b : Bool). IsOutcome (outcome_of_answer is_seen (row (seen_of m) session args)) m (Ok (content value)) b after told now) (sym e)
-    (gave_ok row session args is_seen value before after told now h m is)
+    (gave_ok row session args is_seen (content value) before after told now h m is)
 
 pub row_err :
     (row : Option Row) (name : List ℕ) (session : ℕ) (args : List Arg) (is_seen : Bool) (fail : Fail) (before after : PresentEditor) (told now : List Fact)
@@ -74,6 +76,25 @@ pub row_none :
 row_none None name session args is_seen fail before after told now h r m is =
     refuses_outcome (refused (unknown_method name)) (unknown_method name) fail false m before after told now r is refl h.0 h.1
 row_none (Some row) name session args is_seen fail before after told now h r m is = absurd h
+
+-- what a listing read
+pub listed_ok :
+    (found : Option Row) (row : Row) (name : List ℕ) (session : ℕ) (args : List Arg) (is_seen : Bool) (t : Tree) (e : PresentEditor) (told : List Fact)
+    → found ≡ Some row → row (seen_now e) session args ≡ reply_of t → (m : ModelEditor) → Stands e m
+    → IsOutcome (outcome_of_row m session is_seen name found args) m (Ok t) is_seen e told told
+listed_ok found row name session args is_seen t e told there h m is =
+    subst (λ (r : Option Row). IsOutcome (outcome_of_row m session is_seen name r args) m (Ok t) is_seen e told told) (sym there)
+    (gave_ok row session args is_seen t e e told told
+    (subst (λ (a : Answer). Replies a t e e told told) (sym h) (refl, (λ n stands. stands), sym (append-nil told))) m is)
+
+pub listed_err :
+    (found : Option Row) (row : Row) (name : List ℕ) (session : ℕ) (args : List Arg) (is_seen : Bool) (fail : Fail) (e : PresentEditor) (told : List Fact)
+    → found ≡ Some row → ReadsOutcome (row (seen_now e) session args) (Err fail) → (m : ModelEditor) → Stands e m
+    → GaveOutcome (outcome_of_row m session is_seen name found args) m (Err fail) e told told
+listed_err found row name session args is_seen NoMemory e told there h m is = tt
+listed_err found row name session args is_seen (Api fault) e told there h m is =
+    subst (λ (r : Option Row). GaveOutcome (outcome_of_row m session is_seen name r args) m (Err (Api fault)) e told told) (sym there)
+    (gave_err row session args is_seen (Api fault) e e told told (h.0, h.1, refl, refl) m is)
 
 -- ---- rows of several crates
 

@@ -1,9 +1,9 @@
 -- What a call gave, beside what it comes to by the definitions.
 use Rattle.std.specs.Prelude.{◌≡◌, ◌++◌, Bool, false, ⊤, List, Result, Ok, Err}
 use Rattle.nv_value.specs.Content.{Tree}
-use Rattle.nv_value.specs.View.{content}
 use Rattle.nv_value.specs.declared.fault.ApiFault.{ApiFault}
 use Rattle.nv_msgpack.specs.Shortest.{HasSpelling}
+use Rattle.nv_rpc.specs.Outcomes.{outcome_content}
 use Rattle.nv_args.specs.Refusals.{CanBeTold}
 use Rattle.nv_args.specs.declared.faults.Fail.{Fail}
 use Rattle.nv_args.specs.declared.faults.Fail.TheVariants.{Api, NoMemory}
@@ -27,7 +27,7 @@ pub record IsOutcome (wanted : CallOutcome) (m : ModelEditor) (result : Result T
 abbrev pub GaveOutcome : CallOutcome → ModelEditor → Result Done Fail → PresentEditor → List Fact
     → List Fact → Type 0
 GaveOutcome wanted m (Ok done) after told now =
-    IsOutcome wanted m (Ok (content done.result)) done.is_seen after told now
+    IsOutcome wanted m (Ok (outcome_content done.result)) done.is_seen after told now
 GaveOutcome wanted m (Err (Api fault)) after told now =
     IsOutcome wanted m (Err fault) false after told now
 GaveOutcome wanted m (Err NoMemory) after told now = ⊤
@@ -40,7 +40,7 @@ GivesOutcome wanted result before after told now =
 
 -- the result or the fault can be spelled in a message
 abbrev pub CanBeSent : Result Done Fail → Type 0
-CanBeSent (Ok done) = HasSpelling (content done.result)
+CanBeSent (Ok done) = HasSpelling (outcome_content done.result)
 CanBeSent (Err (Api fault)) = CanBeTold fault
 CanBeSent (Err NoMemory) = ⊤
 

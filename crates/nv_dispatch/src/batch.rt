@@ -72,7 +72,8 @@ impl Results {
     {
         match given {
             Ok(done) => {
-                self.values.push(done.result)?;
+                let value = done.result.into_value(*self.values.allocator())?;
+                self.values.push(value)?;
                 self.is_seen = self.is_seen || done.is_seen;
                 Ok(self)
             }

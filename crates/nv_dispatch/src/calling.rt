@@ -1,15 +1,16 @@
 //! The call of a method, and of calls one after another (Neovim help `api`, `nvim_call_atomic()`).
-ghost use Rattle.std.specs.Prelude.{◌≡◌, ◌<◌, ◌^◌, ◌++◌, [], codes, is_some, length, map, true, IfOk, IfSome, MatchOption, IfNone, Ok, OnOk, Some};
+ghost use Rattle.std.specs.Prelude.{◌≡◌, ◌<◌, ◌^◌, ◌++◌, ℕ, List, [], codes, is_some, length, map, true, IfOk, IfSome, MatchOption, IfNone, Ok, OnOk, Some};
 ghost use Rattle.nv_value.specs.Content.{list};
 ghost use Rattle.nv_value.specs.View.{content, contents};
 ghost use Rattle.nv_msgpack.specs.Shortest.{HasSpelling};
 ghost use Rattle.nv_args.specs.Args.{typed_arguments};
 ghost use Rattle.nv_args.specs.Reading.{read};
-ghost use Rattle.nv_args.specs.declared.methods.Method.TheVariants.{CallAtomic};
+ghost use Rattle.nv_args.specs.declared.methods.Method.TheVariants.{BufGetExtmarks, CallAtomic};
 ghost use Rattle.nv_args.specs.Methods.{method_name, signature_of};
 ghost use Rattle.nv_args.specs.Refusals.{CanBeTold, RefusedKeeps};
 ghost use Rattle.nv_args.specs.Table.{method_named};
 ghost use Rattle.nv_args.specs.Weight.{AreLight, weight};
+ghost use Rattle.nv_model.specs.Answers.{Fact};
 ghost use Rattle.nv_model.specs.Editors.{ModelEditor};
 ghost use Rattle.nv_model.specs.Standing.{seen_now, Stands};
 ghost use Rattle.nv_editor.specs.Doing.{AnswersRow, row_among};
@@ -27,8 +28,10 @@ ghost use Rattle.nv_dispatch.specs.inside.Weights.{list_weight};
 use crate::batch::Results;
 use crate::done::Done;
 use crate::table::{has_row, is_seen};
+use nv_api_mark::nvim_buf_get_extmarks;
 use nv_args::{Args, Fail, Method, NamedCall, call_in, method_of, read, unknown_method};
 use nv_editor::{Editor, Happened};
+use nv_rpc::Outcome;
 use nv_value::Value;
 use std::alloc::AllocError;
 
@@ -100,6 +103,49 @@ fn row_of(
     }
 }
 
+// Calls a method by its row, once its arguments were read.
+fn call_row(
+    editor: &mut Editor,
+    session: u64,
+    method: Method,
+    args: &Args,
+    happened: &mut Happened,
+) -> Result<Done, Fail>
+    requires light { AreLightArgs (typed_arguments args.now) }
+    ensures outcome { GivesOutcome (λ m. outcome_of_row m session (signature_of method).is_seen
+        (method_name method) (row_named (method_name method)) (typed_arguments args.now))
+        result editor.old editor.new happened.old happened.new }
+    ensures refused { RefusedKeeps result editor.new editor.old }
+    ensures quiet { RefusedKeeps result happened.new happened.old }
+    ensures sendable { CanBeSent result }
+{
+    match row_of(editor, session, method, args, happened) {
+        Some(Ok(value)) => Ok(Done {
+            result: Outcome::Value(value),
+            is_seen: is_seen(method),
+        }),
+        Some(Err(fail)) => Err(fail),
+        None => Err(unknown_method(editor.alloc(), method.name().as_bytes())),
+    }
+}
+
+// Lists marks. The result has no memory of its own for each of them.
+fn list_marks(editor: &Editor, args: &Args) -> Result<Done, Fail>
+    ensures outcome { (session : ℕ) (told : List Fact) → GivesOutcome
+        (λ m. outcome_of_row m session (signature_of BufGetExtmarks).is_seen
+        (method_name BufGetExtmarks) (row_named (method_name BufGetExtmarks))
+        (typed_arguments args.now)) result editor.now editor.now told told }
+    ensures sendable { CanBeSent result }
+{
+    match nvim_buf_get_extmarks(editor, args) {
+        Ok(result) => Ok(Done {
+            result,
+            is_seen: false,
+        }),
+        Err(fail) => Err(fail),
+    }
+}
+
 // Calls a method whose arguments were read.
 fn call_method(
     editor: &mut Editor,
@@ -116,13 +162,9 @@ fn call_method(
     ensures quiet { RefusedKeeps result happened.new happened.old }
     ensures sendable { CanBeSent result }
 {
-    match row_of(editor, session, method, args, happened) {
-        Some(Ok(result)) => Ok(Done {
-            result,
-            is_seen: is_seen(method),
-        }),
-        Some(Err(fail)) => Err(fail),
-        None => Err(unknown_method(editor.alloc(), method.name().as_bytes())),
+    match method {
+        Method::BufGetExtmarks => list_marks(editor, args),
+        _ => call_row(editor, session, method, args, happened),
     }
 }
 
@@ -235,8 +277,11 @@ fn call_read(
 {
     let made = call_each(editor, session, args.values(0), happened)?;
     let is_seen = made.is_seen;
-    let result = made.into_value(editor.alloc())?;
-    Ok(Done { result, is_seen })
+    let value = made.into_value(editor.alloc())?;
+    Ok(Done {
+        result: Outcome::Value(value),
+        is_seen,
+    })
 }
 
 // A call of any method, which leaves the open changes open.

@@ -5,4 +5,5 @@ pub mod Inverse
 pub mod OtherLengths
 pub mod Sendable
 pub mod Spelled
+pub mod Triples
 pub mod WholeRequests

@@ -3,6 +3,7 @@ pub mod Calls
 pub mod Frames
 pub mod MessageView
 pub mod Messages
+pub mod Outcomes
 pub mod Received
 pub mod Steps
 pub mod inside

@@ -1,5 +1,6 @@
 //! Replies and events: what the server sends.
-use nv_value::{ApiFault, Items, Value};
+use crate::outcome::Outcome;
+use nv_value::{ApiFault, Items};
 
 /// The type of a buffer's handle among the extension types (Neovim help `api-types`).
 pub const BUFFER: i8 = 0;
@@ -12,7 +13,7 @@ pub enum Message {
     Reply {
         msgid: u32,
         fault: Option<ApiFault>,
-        result: Value,
+        result: Outcome,
     },
     /// Lines of a buffer have changed (Neovim help `nvim_buf_lines_event`).
     Lines {

@@ -5,8 +5,10 @@ ghost use Rattle.nv_value.specs.View.{content, contents};
 ghost use Rattle.nv_msgpack.specs.Shortest.{HasSpelling};
 ghost use Rattle.nv_rpc.specs.Messages.{reply, message_tree, IsSendable, items, error, response, notification};
 ghost use Rattle.nv_rpc.specs.MessageView.{sent_of};
+ghost use Rattle.nv_rpc.specs.Outcomes.{outcome_content};
 
 use crate::message::{BUFFER, Message};
+use crate::outcome::Outcome;
 use nv_msgpack::handle;
 use nv_value::{ApiFault, Bytes, Items, Value};
 use std::alloc::{AllocError, Global};
@@ -137,13 +139,13 @@ fn reply(
     alloc: Global,
     msgid: u32,
     fault: Option<ApiFault>,
-    outcome: Value,
+    outcome: Outcome,
 ) -> Result<Value, AllocError>
     ensures { IfOk result (λ value. content value ≡ message_tree
-        (reply msgid fault (content outcome))) }
+        (reply msgid fault (outcome_content outcome))) }
 {
     match fault {
-        None => response(alloc, msgid, Value::Nil, outcome),
+        None => response(alloc, msgid, Value::Nil, outcome.into_value(alloc)?),
         Some(fault) => {
             let error = error(alloc, fault)?;
             response(alloc, msgid, error, Value::Nil)

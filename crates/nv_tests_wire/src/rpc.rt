@@ -5,7 +5,9 @@ ghost use Rattle.nv_rpc.specs.MessageView.{sent_of};
 
 use crate::spelling::spelled;
 use nv_msgpack::{Bounds, Decoded, decode};
-use nv_rpc::{Frame, Message, Names, call_of, decode_call, message_of, put_message, value_of};
+use nv_rpc::{
+    Frame, Message, Names, Outcome, Triple, call_of, decode_call, message_of, put_message, value_of,
+};
 use nv_value::{ApiFault, Bytes, Value};
 use std::alloc::{AllocError, Global};
 use std::process::Abort;
@@ -16,6 +18,9 @@ use std::test::Fail;
 const SUCCESS: &[u8] = b"\x94\x01\x01\xc0\x01";
 
 const FAILURE: &[u8] = b"\x94\x01\x02\x92\x01\xb3Index out of bounds\xc0";
+
+const LISTING: &[u8] =
+    b"\x94\x01\x01\xc0\x92\x93\x00\x7f\xcc\x80\x93\xcc\xff\xcd\x01\x00\xce\x00\x01\x00\x00";
 
 const LINES: &[u8] =
     b"\x93\x02\xb4nvim_buf_lines_event\x96\xd4\x00\x01\x02\x00\xff\x92\xa0\xa1a\xc2";
@@ -56,7 +61,7 @@ fn success() -> Message
     Message::Reply {
         msgid: 1,
         fault: None,
-        result: Value::Int(1),
+        result: Outcome::Value(Value::Int(1)),
     }
 }
 
@@ -71,7 +76,27 @@ fn failure(alloc: Global) -> Result<Message, AllocError>
     Ok(Message::Reply {
         msgid: 2,
         fault: Some(fault),
-        result: Value::Truth(true),
+        result: Outcome::Value(Value::Truth(true)),
+    })
+}
+
+fn listing(alloc: Global) -> Result<Message, AllocError>
+    ensures { IfOk result (λ message. IsSendable (sent_of message)) }
+{
+    let small = Triple {
+        first: 0,
+        second: 127,
+        third: 128,
+    };
+    let large = Triple {
+        first: 255,
+        second: 256,
+        third: 65536,
+    };
+    Ok(Message::Reply {
+        msgid: 1,
+        fault: None,
+        result: Outcome::Triples(vec![in alloc; small, large]?),
     })
 }
 
@@ -80,6 +105,7 @@ fn replies_are_told(rt: HostRuntime) -> Result<(), Fail> {
     let alloc = rt.alloc();
     assert_told(&rt, alloc, success(), SUCCESS)?;
     assert_told(&rt, alloc, failure(alloc)?, FAILURE)?;
+    assert_told(&rt, alloc, listing(alloc)?, LISTING)?;
     Ok(())
 }
 
@@ -144,6 +170,14 @@ fn width(value: &Value) -> usize {
     match value {
         Value::List(items) => items.len(),
         _ => 0,
+    }
+}
+
+// The same of a result.
+fn width_of(outcome: &Outcome) -> usize {
+    match outcome {
+        Outcome::Value(value) => width(value),
+        Outcome::Triples(triples) => triples.len(),
     }
 }
 
@@ -293,10 +327,10 @@ fn reply_shown(
     alloc: Global,
     msgid: u32,
     fault: &Option<ApiFault>,
-    outcome: &Value,
+    outcome: &Outcome,
 ) -> Result<String, AllocError> {
     match fault {
-        None => format!(in alloc; "reply {msgid} of {}", width(outcome)),
+        None => format!(in alloc; "reply {msgid} of {}", width_of(outcome)),
         Some(fault) => format!(in alloc;
             "reply {msgid} failed {} {}",
             fault.kind,

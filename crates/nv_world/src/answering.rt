@@ -14,7 +14,7 @@ ghost use Rattle.nv_world.specs.inside.Answers.{AnswersFrame, CallsMethod, CanBe
 use nv_args::Fail;
 use nv_dispatch::call;
 use nv_editor::{Editor, Fact, Happened};
-use nv_rpc::{Frame, Message};
+use nv_rpc::{Frame, Message, Outcome};
 use nv_value::{ApiFault, Value};
 use std::alloc::{AllocError, Global};
 
@@ -22,7 +22,7 @@ use std::alloc::{AllocError, Global};
 /// others are told of it.
 #[derive(Drop)]
 pub struct Called {
-    pub result: Result<Value, ApiFault>,
+    pub result: Result<Outcome, ApiFault>,
     pub is_seen: bool,
     pub facts: Vec<Fact>,
 }
@@ -69,7 +69,7 @@ fn call_method(
 }
 
 // What answers a call that came to this.
-fn answer_of(frame: &Frame, given: Result<Value, ApiFault>) -> Option<Message>
+fn answer_of(frame: &Frame, given: Result<Outcome, ApiFault>) -> Option<Message>
     requires sendable { CanBeReplied given }
     ensures answer { option_map sent_of result
         ≡ reply_message (call_of_frame frame.now) (result_content given) }
@@ -84,7 +84,7 @@ fn answer_of(frame: &Frame, given: Result<Value, ApiFault>) -> Option<Message>
         (Frame::Request { msgid, .. }, Err(fault)) => Some(Message::Reply {
             msgid: *msgid,
             fault: Some(fault),
-            result: Value::Nil,
+            result: Outcome::Value(Value::Nil),
         }),
         (Frame::Notice { .. }, Ok(_)) => None,
         (Frame::Notice { .. }, Err(fault)) => Some(Message::Fault { fault }),

@@ -1,8 +1,8 @@
--- inside: which marks a call lists or removes.
-use Rattle.std.specs.Prelude.{ℕ, ℤ, Bool, ◌&&◌, ◌||◌, nat_lt, List, [], filter, Option, if◌then◌else◌}
+-- inside: which marks a call lists or removes, and how.
+use Rattle.std.specs.Prelude.{ℕ, ℤ, Bool, ◌&&◌, ◌||◌, nat_lt, List, [], filter, if◌then◌else◌}
 use Rattle.nv_value.specs.Content.{Tree, nil}
 use Rattle.nv_places.specs.declared.place.Pos.{Pos}
-use Rattle.nv_args.specs.Arguments.{last_pairs}
+use Rattle.nv_rpc.specs.declared.outcome.Triple.{Triple}
 use Rattle.nv_args.specs.Faults.{out_of_bounds}
 use Rattle.nv_args.specs.Maps.{map_fault}
 use Rattle.nv_args.specs.Reading.{Arg, number_at, object_at}
@@ -27,6 +27,10 @@ first_looked_at picks = if picks.overlap then first_place else picks.low
 
 abbrev pub is_looked_at : Picks → Mark → Bool
 is_looked_at picks m = starts_within (first_looked_at picks) picks.high m
+
+-- a mark as it is listed without its details: its id and its place
+abbrev pub listed_triple : Mark → Triple
+listed_triple m = record { first = m.id; second = m.start.row; third = m.start.col }
 
 -- a mark is removed from rows
 abbrev pub is_cleared : Rows → Mark → Bool

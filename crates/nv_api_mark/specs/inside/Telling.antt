@@ -1,18 +1,17 @@
 -- inside: what is answered of marks of a buffer, step by step.
-use Rattle.std.specs.Prelude.{ℕ, ℤ, List, [], ◌∷◌, length, codes, Option, Some, None, option_and_then, false}
+use Rattle.std.specs.Prelude.{List, [], ◌∷◌, codes, Option, false}
 use Rattle.nv_value.specs.Content.{Tree}
 use Rattle.nv_args.specs.Arguments.{last_pairs}
 use Rattle.nv_args.specs.Dicts.{flag_key, flag_or}
 use Rattle.nv_args.specs.Faults.{out_of_bounds}
-use Rattle.nv_args.specs.KeyValues.{integer_from}
-use Rattle.nv_args.specs.Maps.{map_fault, value_of}
-use Rattle.nv_args.specs.Reading.{Arg, number_at, object_at, pairs_at}
+use Rattle.nv_args.specs.Maps.{map_fault}
+use Rattle.nv_args.specs.Reading.{Arg, number_at, pairs_at}
 use Rattle.nv_marks.specs.declared.extmark.Mark.{Mark}
 use Rattle.nv_model.specs.Answers.{Answer, or_refused}
 use Rattle.nv_model.specs.Answering.{reply_of, fault_or, array_of}
 use Rattle.nv_model.specs.Seen.{Seen, SeenBuffer}
 use Rattle.nv_api_mark.specs.Namespaces.{namespace_of_id}
-use Rattle.nv_api_mark.specs.MarkRows.{mark_numbered, place_values_if_any, removal_answer}
+use Rattle.nv_api_mark.specs.MarkRows.{mark_numbered, place_values_if_any}
 
 -- the place of one mark
 abbrev pub place_told : Seen → List (Tree × Tree) → Option Mark → Answer

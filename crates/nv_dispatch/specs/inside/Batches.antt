@@ -4,6 +4,7 @@ use Rattle.nv_value.specs.Content.{Tree, trees_of}
 use Rattle.nv_value.specs.View.{content}
 use Rattle.nv_value.specs.declared.fault.ApiFault.{ApiFault}
 use Rattle.nv_msgpack.specs.Shortest.{HaveSpellings}
+use Rattle.nv_rpc.specs.Outcomes.{outcome_content}
 use Rattle.nv_args.specs.Refusals.{CanBeTold}
 use Rattle.nv_args.specs.declared.faults.Fail.{Fail}
 use Rattle.nv_args.specs.declared.faults.Fail.TheVariants.{Api, NoMemory}
@@ -61,7 +62,8 @@ pub record IsMadeSoFar (wanted : Batch) (m : ModelEditor) (session : ℕ) (resul
 -- what is known of calls after one more: its result is behind the others, or they stopped at it
 abbrev pub TakesResult : Result Done Fail → Results → Results → Type 0
 TakesResult (Ok done) made later =
-    (map content later.values.items ≡ map content made.values.items ++ content done.result ∷ [])
+    (map content later.values.items
+    ≡ map content made.values.items ++ outcome_content done.result ∷ [])
     × (later.stopped ≡ None) × (later.is_seen ≡ (made.is_seen || done.is_seen))
 TakesResult (Err (Api fault)) made later =
     (map content later.values.items ≡ map content made.values.items)

@@ -1,12 +1,12 @@
 -- inside: what the call of a request came to.
 use Rattle.std.specs.Prelude.{◌≡◌, ◌^◌, ◌<◌, ℕ, Bool, List, length, Option, Result, Ok, Err}
 use Rattle.nv_value.specs.Content.{Tree, Trees}
-use Rattle.nv_value.specs.View.{content}
-use Rattle.nv_value.specs.declared.value.Value.{Value}
 use Rattle.nv_value.specs.declared.fault.ApiFault.{ApiFault}
 use Rattle.nv_msgpack.specs.Shortest.{HasSpelling}
 use Rattle.nv_rpc.specs.Calls.{Call}
 use Rattle.nv_rpc.specs.Messages.{Sent}
+use Rattle.nv_rpc.specs.Outcomes.{outcome_content}
+use Rattle.nv_rpc.specs.declared.outcome.Outcome.{Outcome}
 use Rattle.nv_args.specs.Arguments.{tree_list}
 use Rattle.nv_model.specs.Answers.{Fact}
 use Rattle.nv_model.specs.Editors.{ModelEditor}
@@ -16,13 +16,13 @@ use Rattle.nv_history.specs.Sessions.{reply_message}
 use Rattle.nv_history.specs.Worlds.{outcome_of_frame}
 
 -- a result, or a fault
-abbrev pub result_content : Result Value ApiFault → Result Tree ApiFault
-result_content (Ok value) = Ok (content value)
+abbrev pub result_content : Result Outcome ApiFault → Result Tree ApiFault
+result_content (Ok outcome) = Ok (outcome_content outcome)
 result_content (Err fault) = Err fault
 
 -- it can be spelled in a message
-abbrev pub CanBeReplied : Result Value ApiFault → Type 0
-CanBeReplied (Ok value) = HasSpelling (content value)
+abbrev pub CanBeReplied : Result Outcome ApiFault → Type 0
+CanBeReplied (Ok outcome) = HasSpelling (outcome_content outcome)
 CanBeReplied (Err fault) = length fault.words < 2 ^ 32
 
 -- a call came to this: its result, whether it may have changed what is seen, what it tells, and the

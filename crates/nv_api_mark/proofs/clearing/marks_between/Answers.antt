@@ -1,4 +1,4 @@
-use Rattle.std.proofs.Common.{◌≡◌, ◌∙◌, List, length, take, rules, ap}
+use Rattle.std.proofs.Common.{◌≡◌, ◌∙◌, length, take, rules, ap}
 use Rattle.std.specs.Prelude.{filter, unwrap_or}
 use Rattle.nv_marks.specs.Order.{starts_within}
 use Rattle.nv_api_mark.specs.inside.Picking.{is_cleared, row_place}

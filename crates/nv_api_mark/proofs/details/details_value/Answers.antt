@@ -1,4 +1,4 @@
-use Rattle.std.proofs.Common.{◌≡◌, ◌∙◌, ◌++◌, [], ◌∷◌, List, map, sym, ap, append-nil}
+use Rattle.std.proofs.Common.{◌∙◌, ◌++◌, [], ◌∷◌, List, map, sym, ap, append-nil}
 use Rattle.nv_value.specs.Content.{Tree, truth}
 use Rattle.nv_value.specs.View.{pair_content}
 use Rattle.nv_value.specs.declared.value.Pair.{Pair}

@@ -1,9 +1,7 @@
-use Rattle.std.proofs.Common.{◌≡◌, ◌∙◌, ℤ, List, map, rules, ap, sym, w64, to_z, of_z}
-use Rattle.nv_value.specs.Content.{Tree}
-use Rattle.nv_value.specs.View.{pair_content}
+use Rattle.std.proofs.Common.{◌≡◌, rules, sym, w64, to_z, of_z}
 use Rattle.nv_args.specs.Args.{typed_arguments}
 use Rattle.nv_args.specs.Arguments.{last_pairs}
-use Rattle.nv_args.specs.Reading.{number_at, pairs_at, string_at}
+use Rattle.nv_args.specs.Reading.{number_at}
 use Rattle.nv_api_mark.specs.GroupRows.{group_answer}
 use Rattle.nv_api_mark.proofs.Steps.{gives_on}
 use Rattle.nv_api_mark.proofs.grouping.nvim_set_hl.Goals as goal

@@ -8,7 +8,7 @@ use Rattle.nv_model.specs.Answering.{fault_or}
 use Rattle.nv_model.specs.Standing.{seen_now, seen_buffer_now}
 use Rattle.nv_api_mark.specs.Listing.{listing_keys}
 use Rattle.nv_api_mark.specs.inside.Picking.{span_answer, spanned_answer}
-use Rattle.nv_api_mark.proofs.Steps.{reads_stop}
+use Rattle.nv_api_mark.proofs.Steps.{outcome_stop}
 use Rattle.nv_api_mark.proofs.listing.marks_told.Goals as goal
 
 pub returns-in_err-span-clause-row : goal.returns-in_err-span-clause-row
@@ -18,6 +18,6 @@ returns-in_err-span-clause-row c =
     let args = typed_arguments c.args.args.now in
     let pairs = last_pairs (map pair_content c.args.pairs.now) in
     let none : map_fault listing_keys pairs ≡ None = c.in_ok-listing_fault.ensures in
-    reads_stop _ _ (spanned_answer s b pairs) c.in_err-span.field-0.0 c.from_residual-in_err-span.result
+    outcome_stop _ _ (spanned_answer s b pairs) c.in_err-span.field-0.0 c.from_residual-in_err-span.result
     (ap (λ (w : Option ApiFault). fault_or w (span_answer s b args (spanned_answer s b pairs))) none)
     (c.in_err-span.ensures.row (spanned_answer s b pairs)) c.from_residual-in_err-span.ensures.1

@@ -14,7 +14,7 @@ use Rattle.nv_model.specs.Standing.{seen_now, seen_buffer_now}
 use Rattle.nv_editor.specs.Sound.{IsOfGroups}
 use Rattle.nv_editor.proofs.Updating.{looked_up}
 use Rattle.nv_api_mark.specs.inside.Picking.{marks_answer}
-use Rattle.nv_api_mark.proofs.Steps.{on_found, reads_on}
+use Rattle.nv_api_mark.proofs.Steps.{on_found, outcome_on}
 use Rattle.nv_api_mark.proofs.listing.nvim_buf_get_extmarks.Goals as goal
 
 pub marks_told-requires : goal.marks_told-requires
@@ -34,7 +34,7 @@ returns-in-Some-clause-row c = λ session.
     let h = or_current (current_buffer e.stage.workspace) (number_at args 0) in
     let at : at_handle e.buffers h ≡ Some b = search rules in
     let next : ℤ → SeenBuffer → Answer = λ n b. marks_answer (seen_now e) b args (last_pairs (pairs_at args 4)) in
-    reads_on _ (marks_answer (seen_now e) (seen_buffer_now b) args (last_pairs (map pair_content c.pairs.result.now))) c.marks_told.result
+    outcome_on _ (marks_answer (seen_now e) (seen_buffer_now b) args (last_pairs (map pair_content c.pairs.result.now))) c.marks_told.result
     (on_found e (number_at args 0) b next at
     ∙ ap (λ (ps : List (Tree × Tree)). marks_answer (seen_now e) (seen_buffer_now b) args (last_pairs ps)) (sym c.pairs.ensures))
     c.marks_told.ensures.row

@@ -1,5 +1,4 @@
-use Rattle.std.proofs.Common.{◌≡◌, ◌∙◌, List, sym, ap, map, rules}
-use Rattle.nv_value.specs.Content.{Tree}
+use Rattle.std.proofs.Common.{◌∙◌, List, sym, ap, map}
 use Rattle.nv_value.specs.View.{content}
 use Rattle.nv_value.specs.declared.value.Value.{Value}
 use Rattle.nv_value.proofs.Contents.{content-List}

@@ -1,4 +1,4 @@
-use Rattle.std.proofs.Common.{◌≡◌, ◌∙◌, sym, subst, rules, Option}
+use Rattle.std.proofs.Common.{◌≡◌, subst, rules, Option}
 use Rattle.std.specs.Prelude.{IfSome}
 use Rattle.nv_args.specs.Args.{typed_arguments}
 use Rattle.nv_args.specs.Reading.{number_at}

@@ -1,4 +1,4 @@
-use Rattle.std.proofs.Common.{◌≡◌, ◌∙◌, ℤ, true, false, [], ◌∷◌, Some, None, rules, ap, subst, w64, to_z, of_z}
+use Rattle.std.proofs.Common.{◌≡◌, ◌∙◌, ℤ, true, false, [], ◌∷◌, Some, rules, ap, subst, w64, to_z, of_z}
 use Rattle.nv_value.specs.Content.{truth}
 use Rattle.nv_value.specs.declared.value.Value.{Truth}
 use Rattle.nv_value.proofs.Contents.{content-Truth}

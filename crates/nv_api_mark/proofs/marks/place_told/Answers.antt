@@ -1,5 +1,4 @@
-use Rattle.std.proofs.Common.{◌≡◌, ◌∙◌, [], ◌∷◌, None, Option, map, rules, ap, sym, codes}
-use Rattle.nv_value.specs.View.{pair_content}
+use Rattle.std.proofs.Common.{◌≡◌, ◌∙◌, [], ◌∷◌, None, Option, ap, sym, codes}
 use Rattle.nv_value.specs.declared.fault.ApiFault.{ApiFault}
 use Rattle.nv_args.specs.Args.{typed_arguments}
 use Rattle.nv_args.specs.Arguments.{last_pairs}

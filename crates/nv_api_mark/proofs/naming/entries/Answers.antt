@@ -1,6 +1,6 @@
 use Rattle.std.proofs.Common.{◌≡◌, ◌∙◌, ℕ, sym, ap, subst, List, [], ◌∷◌, ◌++◌, map, arith, Bor}
 use Rattle.std.proofs.lemmas.List.{map-append}
-use Rattle.nv_value.specs.Content.{Tree, in_turn, pairs, text}
+use Rattle.nv_value.specs.Content.{Tree, in_turn, text}
 use Rattle.nv_value.specs.View.{pair_content}
 use Rattle.nv_value.proofs.Contents.{content-Pairs}
 use Rattle.nv_msgpack.specs.Shortest.{HasSpelling, HaveSpellings}

@@ -1,4 +1,4 @@
-use Rattle.std.proofs.Common.{◌≡◌, ◌∙◌, ℕ, sym, ap, List, map, Bor}
+use Rattle.std.proofs.Common.{◌∙◌, ℕ, sym, ap, List, map, Bor}
 use Rattle.std.proofs.lemmas.Simd.{map-map}
 use Rattle.nv_value.specs.Content.{Tree, text}
 use Rattle.nv_model.specs.Answering.{dict_of, natural, reply_of}

@@ -1,5 +1,4 @@
-use Rattle.std.proofs.Common.{◌≡◌, ◌<ℤ◌, ℤ, pos, subst, rules, arith}
-use Rattle.std.proofs.lemmas.Int.{ints}
+use Rattle.std.proofs.Common.{◌<ℤ◌, pos, rules}
 use Rattle.nv_api_mark.proofs.MarkLookups.{numbered_none}
 use Rattle.nv_api_mark.proofs.places.mark_numbered.Goals as goal
 

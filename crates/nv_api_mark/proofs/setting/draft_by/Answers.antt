@@ -1,11 +1,9 @@
-use Rattle.std.proofs.Common.{◌≡◌, ◌∙◌, sym, ℕ, true, List, Some, codes, map, rules}
+use Rattle.std.proofs.Common.{◌≡◌, ◌∙◌, sym, true, Some, codes, map, rules}
 use Rattle.nv_value.specs.View.{pair_content}
-use Rattle.nv_places.specs.declared.place.Pos.{Pos}
 use Rattle.nv_args.specs.Args.{typed_arguments}
 use Rattle.nv_args.specs.Arguments.{last_pairs}
 use Rattle.nv_args.specs.Dicts.{flag_or}
 use Rattle.nv_args.specs.Reading.{number_at}
-use Rattle.nv_model.specs.Answers.{Answer}
 use Rattle.nv_model.specs.Standing.{seen_now, seen_buffer_now}
 use Rattle.nv_api_mark.specs.Namespaces.{namespace_of_id}
 use Rattle.nv_api_mark.specs.MarkRows.{mark_answer}

@@ -20,8 +20,8 @@ returns-in-BufGetExtmarkById-clause-row c =
 
 pub returns-in-BufGetExtmarks-clause-row : goal.returns-in-BufGetExtmarks-clause-row
 returns-in-BufGetExtmarks-clause-row c =
-    reads_row c.args.method BufGetExtmarks nvim_buf_get_extmarks c.args.session (typed_arguments c.args.args.now) c.nvim_buf_get_extmarks.result c.args.editor.now c.args.happened.now c.in-BufGetExtmarks.is has-BufGetExtmarks
-    (c.nvim_buf_get_extmarks.ensures.row c.args.session)
+    reads_row c.args.method BufGetExtmarks nvim_buf_get_extmarks c.args.session (typed_arguments c.args.args.now) c.as_value.result c.args.editor.now c.args.happened.now c.in-BufGetExtmarks.is has-BufGetExtmarks
+    (c.as_value.ensures.read (nvim_buf_get_extmarks (seen_now c.args.editor.now) c.args.session (typed_arguments c.args.args.now)) (c.nvim_buf_get_extmarks.ensures.row c.args.session))
 
 pub returns-in-GetHl-clause-row : goal.returns-in-GetHl-clause-row
 returns-in-GetHl-clause-row c =

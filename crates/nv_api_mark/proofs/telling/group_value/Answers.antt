@@ -1,4 +1,4 @@
-use Rattle.std.proofs.Common.{◌≡◌, ◌∙◌, ◌++◌, [], List, Option, Some, map, sym, ap, subst, append-nil}
+use Rattle.std.proofs.Common.{◌∙◌, ◌++◌, [], List, Option, Some, map, sym, ap, subst, append-nil}
 use Rattle.nv_value.specs.View.{pair_content}
 use Rattle.nv_value.specs.declared.value.Pair.{Pair}
 use Rattle.nv_value.proofs.Contents.{content-Pairs}

@@ -1,4 +1,4 @@
-use Rattle.std.proofs.Common.{◌≡◌, ◌∙◌, ◌++◌, List, map, ap, sym}
+use Rattle.std.proofs.Common.{◌∙◌, ◌++◌, List, map, ap, sym}
 use Rattle.nv_value.specs.Content.{Tree}
 use Rattle.nv_value.specs.View.{pair_content}
 use Rattle.nv_api_mark.proofs.AttrsTold.{attr_rest}

@@ -9,6 +9,6 @@ use Rattle.nv_dispatch.proofs.calling.call_read.Goals as goal
 pub returns-clause-outcome : goal.returns-clause-outcome
 returns-clause-outcome c = λ m is.
     let calls = c.values.result.now in
-    atomic_read m c.args.session (Ok (typed_arguments c.args.args.now)) (typed_arguments c.args.args.now) (map content calls) c.in_ok-made.made (content c.in_ok-result.result)
+    atomic_read m c.args.session (Ok (typed_arguments c.args.args.now)) (typed_arguments c.args.args.now) (map content calls) c.in_ok-made.made (content c.in_ok-value.value)
     c.call_each.new.editor c.args.happened.now c.call_each.new.happened refl
-    (sym (tree_list-contents calls) ∙ ap tree_list c.values.ensures) (c.in_ok-made.ensures.batch m is) c.in_ok-result.ensures.value
+    (sym (tree_list-contents calls) ∙ ap tree_list c.values.ensures) (c.in_ok-made.ensures.batch m is) c.in_ok-value.ensures.value

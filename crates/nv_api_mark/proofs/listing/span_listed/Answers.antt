@@ -4,10 +4,10 @@ use Rattle.nv_hl.specs.Groups.{NamedGroup}
 use Rattle.nv_marks.specs.declared.extmark.Mark.{Mark}
 use Rattle.nv_editor.specs.Sound.{IsOfGroups}
 use Rattle.nv_api_mark.proofs.Picked.{all_listed}
-use Rattle.nv_api_mark.proofs.listing.span_value.Goals as goal
+use Rattle.nv_api_mark.proofs.listing.span_listed.Goals as goal
 
-pub marks_value-requires : goal.marks_value-requires
-marks_value-requires c =
+pub listed_marks-requires : goal.listed_marks-requires
+listed_marks-requires c =
     let groups = c.args.editor.now.stage.groups in
     let span = c.args.span in
     let same : c.groups.result.now ≡ groups = search rules in
