@@ -8,7 +8,7 @@ mod looks;
 mod places;
 
 pub use laws::row_laws;
-pub use lines::{cells, first_cells, first_rows, rows};
+pub use lines::{cells, first_cells, first_rows, is_plain, rows};
 pub use looks::{Looks, Span};
 pub use places::place_of_byte;
 

@@ -89,20 +89,19 @@ fn fill(flow: &mut Flow, d: &Drawn, most: usize) -> Result<(), AllocError>
     put_blanks(&mut flow.cells, n, d)
 }
 
-// Whether a line has at most so many bytes, all of them printable characters of ASCII, each of
-// which is a cell by itself. Of a longer line no byte is looked at.
-fn is_plain(line: &[u8], most: usize) -> bool
+/// Whether a line has at most so many bytes, all of them printable characters of ASCII, each of
+/// which is a cell by itself. Of a longer line no byte is looked at.
+pub fn is_plain(line: &[u8], most: usize) -> bool
     ensures { IsTrue result → list_all (is_in_range 0x20 0x7E) line.now ≡ true }
 {
     if most < line.len() {
         return false;
     }
+    let mut plain = true;
     for byte in line {
-        if !(0x20..=0x7E).contains(byte) {
-            return false;
-        }
+        plain &= (0x20..=0x7E).contains(byte);
     }
-    true
+    plain
 }
 
 // How many spaces fill the last row of so many cells, each by itself.

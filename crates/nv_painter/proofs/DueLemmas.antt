@@ -3,7 +3,7 @@ use Rattle.std.proofs.Common.{◌≡◌, ◌≢◌, ℕ, zero, suc, ◌+◌, ◌
 use Rattle.std.proofs.Math.ListN.{drop_of_length-le}
 use Rattle.std.proofs.lemmas.Bool.{cases_eq, cases_lt, false≢true}
 use Rattle.std.proofs.lemmas.Bool.Decides.{nat_tests}
-use Rattle.std.proofs.lemmas.List.{length-map, drop-drop, drop-map, drop-set-lt, get_or-drop, get_or-map, get_or-set_other, get_or-set_same, get_or-take, get_or_append_left, get_or_past, get_or_push, length-drop, length-replicate, length-take, take-append-drop, take_more_set}
+use Rattle.std.proofs.lemmas.List.{length-map, drop-drop, drop-map, drop-set-lt, get_or-drop, get_or-map, get_or-set_other, get_or-set_same, get_or-take, get_or_append_left, get_or_past, get_or_push, length-drop, length-replicate, length-take, take-append-drop, take-map, take_more_set}
 use Rattle.std.proofs.lemmas.List.Elements.{All-from_get_or}
 use Rattle.std.specs.List.{AllByRecursion}
 use Rattle.nv_hl.specs.declared.attribute.Attr.{Attr}
@@ -20,11 +20,11 @@ use Rattle.nv_linegrid.proofs.TableLemmas.{Grows, rows_grow}
 use Rattle.nv_linegrid.proofs.DueLemmas.{row_shown, row_told}
 use Rattle.nv_painter.specs.inside.Due.{AreDue, IsDue, ShowsBut}
 use Rattle.nv_painter.specs.declared.lent.LentRow.{LentRow}
-use Rattle.nv_painter.specs.inside.Lent.{AreLent, lent_cells, lent_rows}
+use Rattle.nv_painter.specs.inside.Lent.{AreLent, IsLikeBut, lent_cells, lent_rows}
 use Rattle.nv_painter.specs.inside.Moving.{moves, rows_to_move}
 use Rattle.nv_painter.specs.inside.Sketch.{HaveIds, IsIdOf, IsSketch, ShowsCells}
 use Rattle.nv_painter.proofs.LineLemmas.{front_step, row_step, same_shown_itself}
-use Rattle.nv_painter.proofs.SketchLemmas.{ToldTo, adds_none, have_more, shows_more}
+use Rattle.nv_painter.proofs.SketchLemmas.{ToldTo, adds_none, have_more, shows_more, shows_none}
 use Rattle.nv_painter.proofs.ToldLemmas.{size_is}
 
 -- ---- cells that are shown don't differ
@@ -282,6 +282,40 @@ back_later attrs cells row k m le s =
       row_is = ap (drop n) s.row_is ∙ drop-map Some n (map (shown_cell attrs) (drop k cells))
           ∙ ap (map Some) (drop-map (shown_cell attrs) n (drop k cells));
     })
+
+have_take : (attrs : List Attr) (cells : List Cell) (n : ℕ) → HaveIds attrs cells → HaveIds attrs (take n cells)
+have_take attrs cells zero h = tt
+have_take attrs [] (suc n) h = tt
+have_take attrs (c ∷ cells) (suc n) h = (h.0, have_take attrs cells n h.1)
+
+front_of : (attrs : List Attr) (cells : List Cell) (row : List (Option Shown)) (n : ℕ) → ShowsCells attrs cells row
+    → ShowsCells attrs (take n cells) (take n row)
+front_of attrs cells row n s = record {
+  ids = have_take attrs cells n s.ids;
+  row_is = ap (take n) s.row_is ∙ take-map Some n (map (shown_cell attrs) cells) ∙ ap (map Some) (take-map (shown_cell attrs) n cells);
+}
+
+-- a row that shows cells shows others but for those in which they differ
+pub shows_but : (attrs : List Attr) (old new : List Cell) (row : List (Option Shown)) (from to : ℕ) → ShowsCells attrs old row
+    → IsLikeBut old new from to → ShowsBut attrs new row from to
+shows_but attrs old new row from to s like = record {
+  order = like.order;
+  within = like.within;
+  count = ap length s.row_is ∙ length-map (map (shown_cell attrs) old) Some ∙ length-map old (shown_cell attrs) ∙ like.count;
+  front = subst (λ cs. ShowsCells attrs cs (take from row)) like.front (front_of attrs old row from s);
+  back = subst (λ cs. ShowsCells attrs cs (drop to row)) like.back (back_later attrs old row 0 to (omega arith) s);
+}
+
+-- where nothing is known, all cells may differ
+pub all_may_differ : (attrs : List Attr) (cells : List Cell) (row : List (Option Shown)) → length row ≡ length cells
+    → ShowsBut attrs cells row 0 (length cells)
+all_may_differ attrs cells row count = record {
+  order = omega arith;
+  within = omega arith;
+  count = count;
+  front = shows_none attrs;
+  back = back_none attrs cells row (length cells) count (omega arith);
+}
 
 pub back_more : (attrs : List Attr) (cells : List Cell) (row : List (Option Shown)) (k id : ℕ) (cell : Cell) → k < length row → k < length cells
     → cell ≡ get_or cells k cell → get_or row k None ≡ Some (record { text = cell.text; id = id }) → IsIdOf attrs cell.attr id

@@ -1,9 +1,10 @@
 -- The list of kept keys, and what is kept under them.
-use Rattle.std.proofs.Common.{◌≡◌, ◌≤◌, ◌<◌, ◌-◌, ◌/◌, min, ℕ, zero, suc, Bool, true, false, cond, ◌||◌, nat_le, List, [], ◌∷◌, length, take, Some, None, refl, sym, ap, subst, ◌∙◌, arith, is_some}
+use Rattle.std.proofs.Common.{◌≡◌, ◌≤◌, ◌<◌, ◌-◌, ◌/◌, min, ℕ, zero, suc, Bool, true, false, cond, ◌||◌, nat_le, List, [], ◌∷◌, get_or, length, take, Some, None, refl, sym, ap, subst, ◌∙◌, arith, is_some}
 use Rattle.std.proofs.lemmas.Bool.{false≢true}
 use Rattle.std.proofs.lemmas.Bool.Decides.{nat_tests}
 use Rattle.std.proofs.lemmas.List.{length-take, take_all}
-use Rattle.std.specs.List.{AllByRecursion, list_any}
+use Rattle.std.proofs.lemmas.Option.{get_or_from_slice_get}
+use Rattle.std.specs.List.{AllByRecursion, list_any, slice_get}
 use Rattle.std.specs.Map.{keys_of, lookup, lookup_entry, remove_entry}
 use Rattle.std.specs.Option.{option_map_or, unwrap_or}
 use Rattle.lru.specs.LruCache.{LruCache, lru_cache, promoted, put_entries}
@@ -150,6 +151,22 @@ length-front : (n : ℕ) (es : List Entry) → length (take n es) ≤ n
 length-front zero es = omega arith
 length-front (suc n) [] = omega arith
 length-front (suc n) (e ∷ es) = omega (arith, length-front n es)
+
+-- what was used last then
+pub first_cells_are : (key : LineKey) (c d : LruCache LineKey (List Cell)) (e : Entry) → Promoted key c d → slice_get d.entries 0 ≡ Some e
+    → e.1 ≡ cells_of_key key
+first_cells_are key c d e m is =
+    ap (λ (p : Entry). p.1) (sym (get_or_from_slice_get d.entries 0 e e is) ∙ ap (λ (es : List Entry). get_or es 0 e) m.first) ∙ m.cells_are
+
+pub there_is_first : (key : LineKey) (c d : LruCache LineKey (List Cell)) → Promoted key c d → slice_get d.entries 0 ≡ None → ⊥
+there_is_first key c d m none =
+    false≢true (sym (ap is_some none) ∙ ap (λ (es : List Entry). is_some (slice_get es 0)) m.first)
+
+-- where there is none, all stays as it is
+pub not_promoted : (key : LineKey) (c d : LruCache LineKey (List Cell)) → is_some (lookup (same_line_key key) c.entries) ≡ false
+    → d ≡ lru_cache (promoted (same_line_key key) c.entries) c.cap → d ≡ c
+not_promoted key c d absent is =
+    is ∙ ap (λ o. lru_cache (option_map_or (λ e. e ∷ remove_entry (same_line_key key) c.entries) o c.entries) c.cap) (keys_as_before key c.entries absent).1
 
 -- what is there after a key was put with its cells
 pub record Put (key : LineKey) (c d : LruCache LineKey (List Cell)) : Type 0 where

@@ -1,7 +1,7 @@
 -- The scene that was painted last.
-use Rattle.std.proofs.Common.{◌≡◌, ◌<◌, ◌≤◌, ℕ, zero, suc, pos, List, [], ◌∷◌, ◌++◌, length, map, get_or, Bool, true, false, not, Option, Some, refl, ap, sym, subst, ◌∙◌, arith, ◌⊎◌, ⊎_elim}
+use Rattle.std.proofs.Common.{◌≡◌, ◌<◌, ◌≤◌, ℕ, zero, suc, pos, List, [], ◌∷◌, ◌++◌, length, length-append, map, get_or, Bool, true, false, not, IfSome, Option, None, Some, refl, ap, sym, subst, ◌∙◌, arith, ◌⊎◌, ⊎_elim}
 use Rattle.std.proofs.lemmas.Bool.{cases_lt}
-use Rattle.std.proofs.lemmas.List.{length-map, get_or_past}
+use Rattle.std.proofs.lemmas.List.{length-map, get_or_append_left, get_or_past, get_or_push}
 use Rattle.std.specs.List.{AllByRecursion}
 use Rattle.nv_hl.specs.declared.attribute.Attr.{Attr}
 use Rattle.nv_hl.specs.declared.cell.Cell.{Cell}
@@ -16,11 +16,13 @@ use Rattle.nv_screen.specs.declared.scene.Scene.{Scene}
 use Rattle.nv_screen.specs.Cursor.{cursor_of_scene}
 use Rattle.nv_painter.specs.Pictures.{picture_of, views_of}
 use Rattle.nv_painter.specs.inside.Last.{IsSketchOf}
-use Rattle.nv_painter.specs.inside.Lent.{AreLent}
-use Rattle.nv_painter.specs.inside.Moving.{ComesWhole, StaysIn}
+use Rattle.nv_painter.specs.inside.Due.{AreKnown, ShowsBut}
+use Rattle.nv_painter.specs.inside.Lent.{AreLent, AreLike, IsLikeBut}
+use Rattle.nv_painter.specs.inside.Moving.{ComesWhole, StayBut, StaysIn}
 use Rattle.nv_painter.proofs.MovedLemmas.{brought_is, there_is}
 use Rattle.nv_painter.specs.inside.Screens.{IsToldNext, TellsScreen}
 use Rattle.nv_painter.specs.inside.Sketch.{AreDrawn, AreShown, HaveIds, ShowsCells}
+use Rattle.nv_painter.proofs.DueLemmas.{shows_but}
 use Rattle.nv_painter.proofs.MoveLemmas.{stays}
 use Rattle.nv_painter.proofs.SketchLemmas.{adds_none}
 use Rattle.nv_painter.proofs.ToldLemmas.{told_by}
@@ -107,6 +109,50 @@ all_are_shown t w shifts width height before flags drawn screen same sized high 
     (λ (c : ComesWhole shifts width w.screen.rows drawn k). brought_are_shown t w shifts width height k drawn screen same sized high lent c)
     (either k e)
 
+-- one row more
+pub like_more : (known after : List (Option (ℕ × ℕ))) (places : Option (ℕ × ℕ)) (before drawn : List (List Cell)) (k : ℕ)
+    → length known ≡ k → after ≡ known ++ places ∷ []
+    → IfSome places (λ d. IsLikeBut (get_or before k []) (get_or drawn k []) d.0 d.1)
+    → AreLike known before drawn → AreLike after before drawn
+like_more known after places before drawn k count is here all j =
+    subst (λ (l : List (Option (ℕ × ℕ))). At (get_or l j None) j) (sym is)
+    (⊎_elim
+    (λ (front : j < k). subst (λ o. At o j) (sym (get_or_append_left known (places ∷ []) None j (omega (arith, front, count)))) (all j))
+    (λ (le : k ≤ j).
+    ⊎_elim
+    (λ (past : k < j).
+    subst (λ o. At o j) (sym (get_or_past (known ++ places ∷ []) j None (omega (arith, past, count, length-append known (places ∷ []))))) tt)
+    (λ (last : j ≤ k).
+    let same : k ≡ j = omega (arith, le, last) in
+    subst (λ o. At o j) (sym (get_or_push known places None j (count ∙ same))) (subst (λ i. At places i) same here))
+    (cases_lt k j))
+    (cases_lt j k))
+  where
+    At : Option (ℕ × ℕ) → ℕ → Type 0
+    At o i = IfSome o (λ d. IsLikeBut (get_or before i []) (get_or drawn i []) d.0 d.1)
+
+-- rows of a screen that are lent, where no window's text moved
+pub stay_but : (shifts : List Shift) (known : List (Option (ℕ × ℕ))) (before screen drawn : List (List Cell)) → shifts ≡ []
+    → AreLent before screen → AreLike known before drawn → StayBut shifts known screen drawn
+stay_but shifts known before screen drawn none lent like k = by (get_or known k None) (like k)
+  where
+    by : (o : Option (ℕ × ℕ)) → IfSome o (λ d. IsLikeBut (get_or before k []) (get_or drawn k []) d.0 d.1)
+        → IfSome o (λ d. (shifts ≡ []) × IsLikeBut (get_or screen k []) (get_or drawn k []) d.0 d.1)
+    by None p = tt
+    by (Some d) p = (none, subst (λ cs. IsLikeBut cs (get_or drawn k []) d.0 d.1) (lent k (omega (arith, p.count, p.some))) p)
+
+-- rows that are the same but for some cells show all others
+pub known_are_shown : (t : Told) (w : Wanted) (shifts : List Shift) (known : List (Option (ℕ × ℕ))) (drawn : List (List Cell))
+    → t ≡ told_after t w → StayBut shifts known w.screen.rows drawn → AreKnown known t.attrs drawn (rows_after_shifts shifts t.rows)
+known_are_shown t w shifts known drawn same stay k = by (get_or known k None) (stay k)
+  where
+    by : (o : Option (ℕ × ℕ)) → IfSome o (λ d. (shifts ≡ []) × IsLikeBut (get_or w.screen.rows k []) (get_or drawn k []) d.0 d.1)
+        → IfSome o (λ d. ShowsBut t.attrs (get_or drawn k []) (get_or (rows_after_shifts shifts t.rows) k []) d.0 d.1)
+    by None p = tt
+    by (Some d) p =
+        subst (λ ss. ShowsBut t.attrs (get_or drawn k []) (get_or (rows_after_shifts ss t.rows) k []) d.0 d.1) (sym p.0)
+        (shows_but t.attrs (get_or w.screen.rows k []) (get_or drawn k []) (get_or t.rows k []) d.0 d.1 (last_shows t w k same) p.1)
+
 pub last_size : (t : Told) (w : Wanted) → t ≡ told_after t w → t.size ≡ Some (w.screen.width, w.screen.height)
 unfolding told_after
 last_size t w same = ap (λ (x : Told). x.size) same
@@ -128,9 +174,9 @@ all_drawn flags drawn screen same below k e =
 pub not_resized : (t : Told) (w : Wanted) → is_size t.size w.screen.width w.screen.height ≡ true → is_resized t w ≡ false
 not_resized t w e = ap not e
 
-pub sketch_told : (t : Told) (s : Scene) (shifts : List Shift) (flags : List Bool) (drawn : List (List Cell)) (attrs : List Attr) (rows after : ShownRows)
-    (cursor : ℕ × ℕ) (views : List View) (e2 e6 e8 : List Redraw)
-    → IsWhole t → IsDrawn (picture_of s) → IsSketchOf t shifts flags drawn s → rows ≡ rows_after_shifts shifts t.rows
+pub sketch_told : (t : Told) (s : Scene) (shifts : List Shift) (flags : List Bool) (known : List (Option (ℕ × ℕ))) (drawn : List (List Cell)) (attrs : List Attr)
+    (rows after : ShownRows) (cursor : ℕ × ℕ) (views : List View) (e2 e6 e8 : List Redraw)
+    → IsWhole t → IsDrawn (picture_of s) → IsSketchOf t shifts flags known drawn s → rows ≡ rows_after_shifts shifts t.rows
     → cursor ≡ cursor_of_scene s → views ≡ views_of s.panes.items
     → e2 ≡ event_if (not (same_colours t.colours s.colours)) (DefaultColors s.colours)
     → TellsScreen false shifts (picture_of s).screen.rows t.attrs attrs rows after e2 e6
@@ -143,7 +189,7 @@ pub sketch_told : (t : Told) (s : Scene) (shifts : List Shift) (flags : List Boo
       cursor = Some cursor;
       views = views;
     })
-sketch_told t s shifts flags drawn attrs rows after cursor views e2 e6 e8 whole is_drawn is rows_are cursor_is views_are s2 tells s8 =
+sketch_told t s shifts flags known drawn attrs rows after cursor views e2 e6 e8 whole is_drawn is rows_are cursor_is views_are s2 tells s8 =
     let w = picture_of s in
     subst (λ (q : (ℕ × ℕ) × List View). IsToldNext t w e8 (record {
       size = Some (s.width, s.height);

@@ -5,7 +5,7 @@ ghost use Rattle.nv_linegrid.specs.Batch.{attrs_defined};
 ghost use Rattle.nv_hl.specs.declared.cell.Cell.{Cell as SpecCell};
 ghost use Rattle.nv_linegrid.specs.Client.{Shown, ShownRows};
 ghost use Rattle.nv_linegrid.specs.Told.{has_id, id_from, id_of, shown_cell, with_attr, with_attrs_of, with_attrs_of_rows};
-ghost use Rattle.nv_painter.specs.inside.Due.{AreDue, IsDue};
+ghost use Rattle.nv_painter.specs.inside.Due.{AreDue, AreKnown, IsDue, ShowsBut};
 ghost use Rattle.nv_painter.specs.inside.Lent.{lent_rows};
 ghost use Rattle.nv_painter.specs.inside.Sketch.{IsIdOf, IsSketch, ShowsCells};
 ghost use Rattle.std.specs.List.{list_any};
@@ -254,14 +254,24 @@ fn is_shown_at(row: &[Option<ShownCell>], at: usize, cell: &Cell, id: u64) -> bo
     }
 }
 
-// How many cells from the first on a row surely shows, all of whose attributes have ids.
-fn front_shown(cells: &[Cell], attrs: &[Attr], row: &[Option<ShownCell>]) -> usize
-    ensures within { result ≤ length cells.now }
+// How many cells from the first on a row surely shows, all of whose attributes have ids, where it
+// shows those in front of `from`; at most `to`.
+fn front_shown(
+    cells: &[Cell],
+    attrs: &[Attr],
+    row: &[Option<ShownCell>],
+    from: usize,
+    to: usize,
+) -> usize
+    requires order { from ≤ to }
+    requires within { to ≤ length cells.now }
+    requires shown { ShowsCells attrs.now (take from cells.now) (take from row.now) }
+    ensures within { result ≤ to }
     ensures shown { ShowsCells attrs.now (take result cells.now) (take result row.now) }
 {
     let mut last = &Attr::EMPTY;
     let mut id = 0;
-    for k in 0..cells.len() {
+    for k in from..to {
         let cell = &cells[k];
         let Some(next) = next_known_id(attrs, &cell.attr, last, id) else {
             return k;
@@ -272,21 +282,29 @@ fn front_shown(cells: &[Cell], attrs: &[Attr], row: &[Option<ShownCell>]) -> usi
         last = &cell.attr;
         id = next;
     }
-    cells.len()
+    to
 }
 
-// From which cell on a row surely shows its last cells, all of whose attributes have ids; none in
-// front of `from` is looked at.
-fn back_shown(cells: &[Cell], attrs: &[Attr], row: &[Option<ShownCell>], from: usize) -> usize
-    requires from { from ≤ length cells.now }
+// From which cell on a row surely shows its last cells, all of whose attributes have ids, where it
+// shows those from `to` on; none in front of `from` is looked at.
+fn back_shown(
+    cells: &[Cell],
+    attrs: &[Attr],
+    row: &[Option<ShownCell>],
+    from: usize,
+    to: usize,
+) -> usize
+    requires order { from ≤ to }
+    requires within { to ≤ length cells.now }
     requires count { length row.now ≡ length cells.now }
+    requires shown { ShowsCells attrs.now (drop to cells.now) (drop to row.now) }
     ensures order { from ≤ result }
     ensures within { result ≤ length cells.now }
     ensures shown { ShowsCells attrs.now (drop result cells.now) (drop result row.now) }
 {
     let mut last = &Attr::EMPTY;
     let mut id = 0;
-    for k in (from..cells.len()).rev() {
+    for k in (from..to).rev() {
         let cell = &cells[k];
         let Some(next) = next_known_id(attrs, &cell.attr, last, id) else {
             return k + 1;
@@ -300,20 +318,43 @@ fn back_shown(cells: &[Cell], attrs: &[Attr], row: &[Option<ShownCell>], from: u
     from
 }
 
-// The cells of a row that may differ from what it shows, from one to before another; `None` where
-// it shows all of them.
-fn due_in(cells: &[Cell], attrs: &[Attr], row: &[Option<ShownCell>]) -> Option<(usize, usize)>
+// The cells of a row that may differ from what it shows, from one to before another, where those
+// that do lie between two places; `None` where it shows all of them.
+fn due_between(
+    cells: &[Cell],
+    attrs: &[Attr],
+    row: &[Option<ShownCell>],
+    first: usize,
+    end: usize,
+) -> Option<(usize, usize)>
+    requires { ShowsBut attrs.now cells.now row.now first end }
+    ensures { IsDue result attrs.now cells.now cells.now row.now }
+{
+    let from = front_shown(cells, attrs, row, first, end);
+    if from == cells.len() {
+        return None;
+    }
+    Some((from, back_shown(cells, attrs, row, from, end)))
+}
+
+// The same, where such places may be known.
+fn due_in(
+    cells: &[Cell],
+    attrs: &[Attr],
+    row: &[Option<ShownCell>],
+    known: Option<(usize, usize)>,
+) -> Option<(usize, usize)>
+    requires { IfSome known (λ d. ShowsBut attrs.now cells.now row.now d.0 d.1) }
     ensures { length row.now ≡ length cells.now
         → IsDue result attrs.now cells.now cells.now row.now }
 {
     if row.len() != cells.len() {
         return None;
     }
-    let from = front_shown(cells, attrs, row);
-    if from == cells.len() {
-        return None;
+    match known {
+        Some(places) => due_between(cells, attrs, row, places.0, places.1),
+        None => due_between(cells, attrs, row, 0, cells.len()),
     }
-    Some((from, back_shown(cells, attrs, row, from)))
 }
 
 // The same of a row of a sketch: one with a flag shows its cells.
@@ -322,7 +363,9 @@ fn due_of(
     cells: &[Cell],
     attrs: &[Attr],
     row: &[Option<ShownCell>],
+    known: Option<(usize, usize)>,
 ) -> Option<(usize, usize)>
+    requires { IfSome known (λ d. ShowsBut attrs.now cells.now row.now d.0 d.1) }
     ensures { (screen : List SpecCell) → (is_shown ≡ false → cells.now ≡ screen)
         → (is_shown ≡ true → ShowsCells attrs.now screen row.now)
         → length row.now ≡ length screen
@@ -331,26 +374,30 @@ fn due_of(
     if is_shown {
         return None;
     }
-    due_in(cells, attrs, row)
+    due_in(cells, attrs, row, known)
 }
 
 /// For each row of a sketch the cells that may differ from what is shown, from one to before
-/// another; `None` where none does.
+/// another; `None` where none does. Where it is known that some don't, they aren't looked at.
 pub fn dues_of(
     alloc: Global,
     attrs: &[Attr],
     flags: &[bool],
+    known: &[Option<(usize, usize)>],
     drawn: &[LentRow],
     rows: &[ShownRow],
 ) -> Result<Vec<Option<(usize, usize)>>, AllocError>
-    requires { length rows.now ≡ length drawn.now }
+    requires count { length rows.now ≡ length drawn.now }
+    requires known { AreKnown known.now attrs.now (lent_rows drawn.now) rows.now }
     ensures { IfOk result (λ dues. (screen : List (List SpecCell))
         → IsSketch flags.now (lent_rows drawn.now) attrs.now rows.now screen
         → AreDue dues.items (lent_rows drawn.now) attrs.now rows.now screen) }
 {
     let mut dues = Vec::with_capacity(alloc, drawn.len())?;
     for k in 0..drawn.len() {
-        let due = due_of(has_flag(flags, k), drawn[k].cells, attrs, rows[k].cells());
+        let cells = drawn[k].cells;
+        let row = rows[k].cells();
+        let due = due_of(has_flag(flags, k), cells, attrs, row, due_at(known, k));
         dues.push(due)?;
     }
     Ok(dues)

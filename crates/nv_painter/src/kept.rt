@@ -81,12 +81,13 @@ fn promote(cache: &mut LruCache<LineKey, Row>, key: LentKey) -> Option<usize>
         × (keys_of cache.new.entries
         ≡ keys_with_line (lent_content key.entry) (keys_of cache.old.entries))) }
 {
-    let Some(cells) = kept_cells(cache, key) else {
+    if !cache.promote(key) {
         return None;
-    };
-    let count = cells.len();
-    cache.promote(key);
-    Some(count)
+    }
+    match cache.peek_mru() {
+        Some(entry) => Some(entry.1.cells().len()),
+        None => None,
+    }
 }
 
 // Puts the cells of a line under its key.

@@ -1,16 +1,16 @@
 //! Rows of cells that are lent.
 
 ghost use Rattle.nv_painter.specs.Keys.{cells_of_key};
-ghost use Rattle.nv_painter.specs.inside.Lent.{AreLent, IsOfLine, lent_cells, lent_content, lent_rows};
+ghost use Rattle.nv_painter.specs.inside.Lent.{AreLent, DifferBetween, IsLikeBut, IsLone, IsOfLine, lent_cells, lent_content, lent_rows};
 ghost use Rattle.nv_hl.specs.declared.cell.Cell.{Cell as SpecCell};
 ghost use Rattle.nv_screen.specs.Drawing.{drawn_rows, pane_rows};
 ghost use Rattle.nv_screen.specs.Sound.{IsDrawable, IsSoundScene};
-ghost use Rattle.std.specs.Prelude.{◌≡◌, ◌<◌, ◌≤◌, ◌+◌, ◌*◌, [], All, List, ℕ, IfOk, IsTrue, drop, get_or, length, take};
+ghost use Rattle.std.specs.Prelude.{◌≡◌, ◌<◌, ◌≤◌, ◌+◌, ◌*◌, [], All, List, ℕ, IfOk, IfSome, IsTrue, drop, get_or, length, take};
 
 use crate::kept::{KeptLines, lent_key};
 use crate::key::LentKey;
 use nv_hl::{Cell, Row};
-use nv_linedraw::Looks;
+use nv_linedraw::{Looks, is_plain};
 use nv_screen::{Pane, Scene};
 use std::alloc::{AllocError, Global};
 
@@ -41,6 +41,78 @@ pub fn is_same_row(a: &LentRow, b: &LentRow) -> bool
         return false;
     };
     old == new
+}
+
+// Whether a line without spans is one row of printable characters of ASCII, with spaces behind.
+fn is_lone(key: &LentKey) -> bool
+    ensures { IsTrue result → IsLone (lent_content key.now) }
+{
+    let count = key.bytes.len();
+    0 < count && count < key.width as usize && key.spans.is_empty() && is_plain(key.bytes, count)
+}
+
+// How many bytes from the first on are the same.
+fn same_front(a: &[u8], b: &[u8]) -> usize
+    ensures a { result ≤ length a.now }
+    ensures b { result ≤ length b.now }
+    ensures same { take result a.now ≡ take result b.now }
+{
+    let end = a.len().min(b.len());
+    for k in 0..end {
+        if a[k] != b[k] {
+            return k;
+        }
+    }
+    end
+}
+
+// From which byte on texts of one length are the same; none in front of `from` is looked at.
+fn same_back(a: &[u8], b: &[u8], from: usize) -> usize
+    requires from { from ≤ length a.now }
+    requires count { length a.now ≡ length b.now }
+    ensures order { from ≤ result }
+    ensures within { result ≤ length a.now }
+    ensures same { drop result a.now ≡ drop result b.now }
+{
+    for k in (from..a.len()).rev() {
+        if a[k] != b[k] {
+            return k + 1;
+        }
+    }
+    from
+}
+
+// The places between which texts differ, where spaces stand behind them.
+fn places_between(a: &[u8], b: &[u8]) -> (usize, usize)
+    ensures { DifferBetween a.now b.now result.0 result.1 }
+{
+    let from = same_front(a, b);
+    if a.len() == b.len() {
+        return (from, same_back(a, b, from));
+    }
+    (from, a.len().max(b.len()))
+}
+
+/// The places between which two rows may differ, where that can be told by the lines that they are
+/// of.
+pub fn places_of(a: &LentRow, b: &LentRow) -> Option<(usize, usize)>
+    requires a { IsOfLine a.now }
+    requires b { IsOfLine b.now }
+    ensures { IfSome result (λ d. IsLikeBut (lent_cells a.now) (lent_cells b.now) d.0 d.1) }
+{
+    if a.number != 0 || b.number != 0 {
+        return None;
+    }
+    let Some(old) = a.line else {
+        return None;
+    };
+    let Some(new) = b.line else {
+        return None;
+    };
+    if old.width != new.width || !is_lone(&old) || !is_lone(&new) {
+        return None;
+    }
+    Some(places_between(old.bytes, new.bytes))
 }
 
 /// Rows, lent.

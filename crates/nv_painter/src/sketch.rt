@@ -2,15 +2,15 @@
 
 ghost use Rattle.nv_painter.specs.Pictures.{views_of};
 ghost use Rattle.nv_painter.specs.inside.Last.{IsSketchOf, IsToldOf, IsToldOfLast};
-ghost use Rattle.nv_painter.specs.inside.Lent.{IsOfLine, lent_rows};
-ghost use Rattle.nv_painter.specs.inside.Moving.{ComesAsIs, ComesWhole};
+ghost use Rattle.nv_painter.specs.inside.Lent.{AreLike, IsLikeBut, IsOfLine, lent_rows};
+ghost use Rattle.nv_painter.specs.inside.Moving.{ComesAsIs, ComesWhole, StayBut};
 ghost use Rattle.nv_screen.specs.Drawing.{drawn_rows};
 ghost use Rattle.nv_screen.specs.Sound.{IsSoundScene};
 ghost use Rattle.std.specs.Prelude.{◌≡◌, ◌<◌, ◌⊎◌, [], ℕ, All, false, true, get_or, IfOk, IfSome, IsTrue, OnOk, length};
 
 use crate::ids::has_flag;
 use crate::kept::KeptLines;
-use crate::lent::{LentRow, is_same_row, lent_rows};
+use crate::lent::{LentRow, is_same_row, lent_rows, places_of};
 use crate::scrolling::{Shift, clear_moved, is_whole, origin_of};
 use crate::told::{Sketch, ToldScreen};
 use crate::view::PaneView;
@@ -41,6 +41,46 @@ fn is_brought(shift: &Shift, before: &[LentRow], drawn: &[LentRow], row: usize) 
         return false;
     };
     from < before.len() && is_same_row(&before[from], &drawn[row])
+}
+
+// The places between which a row may differ from the one before, where they are looked for and can
+// be told.
+fn places_at(
+    flags: &[bool],
+    before: &[LentRow],
+    drawn: &[LentRow],
+    row: usize,
+) -> Option<(usize, usize)>
+    requires before { All IsOfLine before.now }
+    requires drawn { All IsOfLine drawn.now }
+    requires row { row < length drawn.now }
+    ensures { IfSome result (λ d. IsLikeBut (get_or (lent_rows before.now) row [])
+        (get_or (lent_rows drawn.now) row []) d.0 d.1) }
+{
+    if row >= before.len() || has_flag(flags, row) {
+        return None;
+    }
+    places_of(&before[row], &drawn[row])
+}
+
+// The same of all rows; those with a flag aren't looked at.
+fn places_of_rows(
+    alloc: Global,
+    flags: &[bool],
+    before: &[LentRow],
+    drawn: &[LentRow],
+) -> Result<Vec<Option<(usize, usize)>>, AllocError>
+    requires before { All IsOfLine before.now }
+    requires drawn { All IsOfLine drawn.now }
+    ensures { IfOk result (λ known. AreLike known.items (lent_rows before.now)
+        (lent_rows drawn.now)) }
+{
+    let mut known = Vec::with_capacity(alloc, drawn.len())?;
+    for k in 0..drawn.len() {
+        let places = places_at(flags, before, drawn, k);
+        known.push(places)?;
+    }
+    Ok(known)
 }
 
 // Sets the flags of the rows that a shift brings as they are: of the same line before it and after.
@@ -83,6 +123,28 @@ fn flag_moved(
     Ok(())
 }
 
+// The same after the scene that was painted last; of no row where windows' texts moved.
+fn known_places(
+    alloc: Global,
+    kept: &KeptLines,
+    flags: &[bool],
+    shifts: &[Shift],
+    last: &Scene,
+    drawn: &[LentRow],
+) -> Result<Vec<Option<(usize, usize)>>, AllocError>
+    requires sound { IsSoundScene last.now }
+    requires drawn { All IsOfLine drawn.now }
+    ensures { IfOk result (λ known. StayBut shifts.now known.items (drawn_rows last.now)
+        (lent_rows drawn.now)) }
+{
+    if !shifts.is_empty() {
+        return Ok(Vec::new(alloc));
+    }
+    let before = lent_rows(alloc, kept, last)?;
+    let known = places_of_rows(alloc, flags, before.as_slice(), drawn)?;
+    Ok(known)
+}
+
 // What differs from the scene that was painted last.
 fn sketch_after<'a>(
     alloc: Global,
@@ -96,8 +158,8 @@ fn sketch_after<'a>(
     requires last { IsToldOf told.now last.now }
     requires views { views.now ≡ views_of scene.now.panes.items }
     ensures { IfOk result (λ sketch. IfSome sketch
-        (λ s. IsSketchOf told.now s.shifts.items s.flags.items (lent_rows s.drawn.items)
-        scene.now)) }
+        (λ s. IsSketchOf told.now s.shifts.items s.flags.items s.known.items
+        (lent_rows s.drawn.items) scene.now)) }
 {
     if !told.has_size(scene.width, scene.height) {
         return Ok(None);
@@ -118,10 +180,19 @@ fn sketch_after<'a>(
     if !are_drawn(flags.as_slice(), drawn.as_slice()) {
         return Ok(None);
     }
+    let known = known_places(
+        alloc,
+        kept,
+        flags.as_slice(),
+        shifts.as_slice(),
+        last,
+        drawn.as_slice(),
+    )?;
     Ok(Some(Sketch {
         shifts,
         flags,
         drawn,
+        known,
     }))
 }
 
@@ -139,8 +210,8 @@ pub fn sketch_of<'a>(
     requires last { IsToldOfLast told.now last }
     requires views { views.now ≡ views_of scene.now.panes.items }
     ensures { IfOk result (λ sketch. IfSome sketch
-        (λ s. IsSketchOf told.now s.shifts.items s.flags.items (lent_rows s.drawn.items)
-        scene.now)) }
+        (λ s. IsSketchOf told.now s.shifts.items s.flags.items s.known.items
+        (lent_rows s.drawn.items) scene.now)) }
 {
     match last {
         Some(last) => sketch_after(alloc, told, kept, &last, scene, views),

@@ -7,6 +7,7 @@ ghost use Rattle.nv_linegrid.specs.Laws.{ShowsWanted};
 ghost use Rattle.nv_linegrid.specs.Told.{AreSized, IsDrawn, nothing_told};
 ghost use Rattle.nv_linegrid.specs.Scrolls.{shifts_between};
 ghost use Rattle.nv_painter.specs.Pictures.{picture_of, views_of};
+ghost use Rattle.nv_painter.specs.inside.Due.{AreKnown};
 ghost use Rattle.nv_painter.specs.inside.Last.{IsSketchOf};
 ghost use Rattle.nv_painter.specs.inside.Lent.{lent_rows};
 ghost use Rattle.nv_painter.specs.inside.Moving.{EndsInReach, moves, rows_to_move};
@@ -89,12 +90,14 @@ impl Model for ToldScreen {
 }
 
 /// What a scene shows otherwise than the one before: how the texts of windows moved, a flag for
-/// each row that stays as it is, and the rows, of which those count that have none.
+/// each row that stays as it is, the rows, of which those count that have none, and between which
+/// places of a row cells may differ, where that is known.
 #[derive(Drop)]
 pub struct Sketch<'a> {
     pub shifts: Vec<Shift>,
     pub flags: Vec<bool>,
     pub drawn: Vec<LentRow<'a>>,
+    pub known: Vec<Option<(usize, usize)>>,
 }
 
 fn is_size(size: Option<(u32, u32)>, width: u32, height: u32) -> bool
@@ -201,9 +204,11 @@ fn push_screen(
     is_resized: bool,
     shifts: &[Shift],
     flags: &[bool],
+    known: &[Option<(usize, usize)>],
     drawn: &[LentRow],
 ) -> Result<(), AllocError>
     requires high { length rows.old.items ≡ length drawn.now }
+    requires known { AreKnown known.now attrs.old.items (lent_rows drawn.now) rows.old.items }
     requires rows { length drawn.now < 2 ^ 32 }
     requires cells { All (λ row. length row < 2 ^ 32) (lent_rows drawn.now) }
     ensures { OnOk result ((screen : List (List SpecCell))
@@ -211,7 +216,14 @@ fn push_screen(
         → TellsScreen is_resized shifts.now screen attrs.old.items attrs.new.items rows.old.items
         rows.new.items events.old.items events.new.items) }
 {
-    let dues = dues_of(alloc, attrs.as_slice(), flags, drawn, rows.as_slice())?;
+    let dues = dues_of(
+        alloc,
+        attrs.as_slice(),
+        flags,
+        known,
+        drawn,
+        rows.as_slice(),
+    )?;
     let count = attrs.len();
     add_attrs_of_rows(attrs, dues.as_slice(), drawn)?;
     push_attrs(events, attrs.as_slice(), count)?;
@@ -284,6 +296,7 @@ fn told_next(
         is_resized,
         shifts,
         &[],
+        &[],
         lent.as_slice(),
     )?;
     let cursor = cursor_before(is_resized, old.cursor);
@@ -312,7 +325,7 @@ fn told_of_sketch(
     requires cursor { cursor ≡ cursor_of_scene scene.now }
     requires views { views.items ≡ views_of scene.now.panes.items }
     requires sketch { IsSketchOf old sketch.now.shifts.items sketch.now.flags.items
-        (lent_rows sketch.now.drawn.items) scene.now }
+        sketch.now.known.items (lent_rows sketch.now.drawn.items) scene.now }
     ensures { IfOk result (λ next. IsToldNext old (picture_of scene.now) next.0.items next.1) }
 {
     let shifts = sketch.shifts.as_slice();
@@ -328,6 +341,7 @@ fn told_of_sketch(
         false,
         shifts,
         sketch.flags.as_slice(),
+        sketch.known.as_slice(),
         sketch.drawn.as_slice(),
     )?;
     push_end(&mut events, old.cursor, cursor)?;
@@ -399,7 +413,8 @@ impl ToldScreen {
         requires cursor { cursor ≡ cursor_of_scene scene.now }
         requires views { views.items ≡ views_of scene.now.panes.items }
         requires sketch { IsSketchOf self.old sketch.now.shifts.items
-            sketch.now.flags.items (lent_rows sketch.now.drawn.items) scene.now }
+            sketch.now.flags.items sketch.now.known.items (lent_rows sketch.now.drawn.items)
+            scene.now }
         ensures events { IfOk result
             (λ events. events.items ≡ batch self.old (picture_of scene.now)) }
         ensures told { OnOk result (self.new ≡ told_after self.old (picture_of scene.now)) }

@@ -1,5 +1,5 @@
 -- inside: which cells of a row may differ from what it shows.
-use Rattle.std.specs.Prelude.{◌≡◌, ◌<◌, ◌≤◌, ℕ, List, [], drop, get_or, length, take, Option, Some, None}
+use Rattle.std.specs.Prelude.{◌≡◌, ◌<◌, ◌≤◌, ℕ, IfSome, List, [], drop, get_or, length, take, Option, Some, None}
 use Rattle.nv_hl.specs.declared.attribute.Attr.{Attr}
 use Rattle.nv_hl.specs.declared.cell.Cell.{Cell}
 use Rattle.nv_linegrid.specs.Client.{Shown, ShownRows}
@@ -13,6 +13,12 @@ pub record ShowsBut (attrs : List Attr) (cells : List Cell) (row : List (Option 
   pub count : length row ≡ length cells
   pub front : ShowsCells attrs (take from cells) (take from row)
   pub back : ShowsCells attrs (drop to cells) (drop to row)
+
+-- inside: of each row for which two places are known, all cells are shown but for those between
+abbrev pub AreKnown : List (Option (ℕ × ℕ)) → List Attr → List (List Cell) → ShownRows → Type 0
+AreKnown known attrs drawn rows =
+    (k : ℕ) → IfSome (get_or known k None)
+    (λ d. ShowsBut attrs (get_or drawn k []) (get_or rows k []) d.0 d.1)
 
 -- inside: a row shows these cells already, or they are drawn and it shows them but for some
 abbrev pub IsDue : Option (ℕ × ℕ) → List Attr → List Cell → List Cell → List (Option Shown) → Type 0

@@ -1,5 +1,7 @@
 -- inside: keys and rows that are lent.
-use Rattle.std.specs.Prelude.{◌≡◌, ◌<◌, ◌*◌, ℕ, IfSome, List, [], ◌∷◌, drop, get_or, length, map, take}
+use Rattle.std.specs.Prelude.{◌≡◌, ◌<◌, ◌≤◌, ◌+◌, ◌-◌, ◌*◌, ℕ, true, IfSome, List, [], ◌∷◌, drop, get_or, length, map, take, Option, None}
+use Rattle.std.specs.Int.{is_in_range}
+use Rattle.std.specs.List.{list_all}
 use Rattle.std.specs.Hash.{u32}
 use Rattle.nv_hl.specs.declared.cell.Cell.{Cell}
 use Rattle.nv_painter.specs.declared.key.LentKey.{LentKey}
@@ -38,3 +40,35 @@ IsOfLine r =
 abbrev pub AreLent : List (List Cell) → List (List Cell) → Type 0
 AreLent rows screen =
     (k : ℕ) → 0 < length (get_or rows k []) → get_or rows k [] ≡ get_or screen k []
+
+-- inside: a line without spans that is one row of printable ASCII and spaces behind them
+pub record IsLone (k : LineKey) : Type 0 where
+  pub some : 0 < length k.bytes
+  pub short : length k.bytes < k.width
+  pub spans : k.spans ≡ []
+  pub plain : list_all (is_in_range 0x20 0x7E) k.bytes ≡ true
+
+-- inside: two texts, with spaces behind them, differ between two places alone
+pub record DifferBetween (a b : List ℕ) (from to : ℕ) : Type 0 where
+  pub order : from ≤ to
+  pub in_a : from ≤ length a
+  pub in_b : from ≤ length b
+  pub within : to ≤ length a + (length b - length a)
+  pub ends : length a + (to - length a) ≡ length b + (to - length b)
+  pub front : take from a ≡ take from b
+  pub back : drop to a ≡ drop to b
+
+-- inside: two rows that have cells have the same ones, but for those between two places
+pub record IsLikeBut (old new : List Cell) (from to : ℕ) : Type 0 where
+  pub order : from ≤ to
+  pub within : to ≤ length new
+  pub count : length old ≡ length new
+  pub some : 0 < length new
+  pub front : take from old ≡ take from new
+  pub back : drop to old ≡ drop to new
+
+-- inside: the same of each row for which two places are known
+abbrev pub AreLike : List (Option (ℕ × ℕ)) → List (List Cell) → List (List Cell) → Type 0
+AreLike known before drawn =
+    (k : ℕ) → IfSome (get_or known k None)
+    (λ d. IsLikeBut (get_or before k []) (get_or drawn k []) d.0 d.1)

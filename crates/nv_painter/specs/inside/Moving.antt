@@ -1,10 +1,11 @@
 -- inside: windows whose text moved.
-use Rattle.std.specs.Prelude.{◌≡◌, ℕ, ℤ, pos, neg_ℤ, ◌+◌, ◌-◌, ◌^◌, ◌<◌, Bool, false, true, ◌&&◌, nat_le, nat_lt, if◌then◌else◌, List, [], ◌∷◌, get_or, length, replicate, Option, Some, None}
+use Rattle.std.specs.Prelude.{◌≡◌, ℕ, ℤ, pos, neg_ℤ, ◌+◌, ◌-◌, ◌^◌, ◌<◌, Bool, false, true, ◌&&◌, nat_le, nat_lt, if◌then◌else◌, List, [], ◌∷◌, get_or, length, replicate, IfSome, Option, Some, None}
 use Rattle.nv_hl.specs.declared.cell.Cell.{Cell}
 use Rattle.nv_hl.specs.Cells.{Screen}
 use Rattle.nv_linegrid.specs.Client.{Shown, ShownRows, cells_from, row_between, row_from}
 use Rattle.nv_linegrid.specs.Scrolls.{Shift, shifts_between}
 use Rattle.nv_linegrid.specs.Told.{View, blank_shown_rows}
+use Rattle.nv_painter.specs.inside.Lent.{IsLikeBut}
 
 -- inside: rows up, or down as a number below 0
 abbrev pub rows_up : ℕ → Bool → ℤ
@@ -74,6 +75,13 @@ pub record ComesAsIs (s : Shift) (before drawn : List (List Cell)) (k : ℕ) : T
   pub is : ComesFrom s k from
   pub same : get_or before from [] ≡ get_or drawn k []
   pub some : 0 < length (get_or drawn k [])
+
+-- inside: no shift, and rows that are the same but for some cells
+abbrev pub StayBut : List Shift → List (Option (ℕ × ℕ)) → List (List Cell) → List (List Cell)
+    → Type 0
+StayBut shifts known before drawn =
+    (k : ℕ) → IfSome (get_or known k None)
+    (λ d. (shifts ≡ []) × IsLikeBut (get_or before k []) (get_or drawn k []) d.0 d.1)
 
 -- inside: the same of the only shift, which is as wide as the screen
 pub record ComesWhole (shifts : List Shift) (width : ℕ) (before drawn : List (List Cell)) (k : ℕ)

@@ -1,13 +1,10 @@
 use Rattle.std.proofs.Common.{arith}
-use Rattle.nv_painter.proofs.DueLemmas.{back_later, back_none}
+use Rattle.nv_painter.proofs.DueLemmas.{back_later}
 use Rattle.nv_painter.proofs.SketchLemmas.{empty_is_id_0}
 use Rattle.nv_painter.proofs.ids.back_shown.Goals as goal
 
 pub loop-k-init : goal.loop-k-init
-loop-k-init c = record {
-  back = back_none c.args.attrs.now c.args.cells.now c.args.row.now _ c.requires.count (omega arith);
-  id = empty_is_id_0 c.args.attrs.now;
-}
+loop-k-init c = record { back = c.requires.shown; id = empty_is_id_0 c.args.attrs.now }
 
 pub returns-clause-shown : goal.returns-clause-shown
 returns-clause-shown c =

@@ -7,9 +7,9 @@ use Rattle.nv_screen.specs.Drawing.{drawn_rows}
 use Rattle.nv_screen.proofs.WholeScreens.{screens_are_whole}
 use Rattle.nv_painter.specs.Pictures.{picture_of, views_of}
 use Rattle.nv_painter.specs.inside.Lent.{lent_cells, lent_rows}
-use Rattle.nv_painter.specs.inside.Moving.{EndsInReach, StaysIn}
+use Rattle.nv_painter.specs.inside.Moving.{EndsInReach, StayBut, StaysIn}
 use Rattle.nv_painter.proofs.DueLemmas.{lent_are_short, same_width, shifts_keep_sized}
-use Rattle.nv_painter.proofs.LastLemmas.{all_are_shown, all_drawn}
+use Rattle.nv_painter.proofs.LastLemmas.{all_are_shown, all_drawn, known_are_shown}
 use Rattle.nv_painter.proofs.PictureLemmas.{sound_is_shown, views_end_in_reach}
 use Rattle.nv_painter.proofs.sketch.sketch_after.Goals as goal
 
@@ -40,6 +40,7 @@ returns c =
     length-map drawn lent_cells ∙ c.in_ok-drawn.ensures.count ∙ sym whole.high in
     let there : (k : ℕ) → k < length drawn → get_or flags k false ≡ false → 0 < length (get_or (lent_rows drawn) k []) = search rules in
     let steady : (k : ℕ) → get_or cleared k false ≡ true → (get_or c.in_ok-flags.flags.items k false ≡ true) × StaysIn shifts k = search rules in
+    let stay : StayBut shifts c.in_ok-known.known.items (drawn_rows c.args.last.now) (lent_rows drawn) = search rules in
     record {
       size = size;
       moves = moved;
@@ -53,5 +54,7 @@ returns c =
         wide = same_width s.width s.height (rows_after_shifts shifts t.rows) screen (shifts_keep_sized s.width s.height shifts t.rows sized)
             whole.high whole.wide;
       };
+      places = known_are_shown t (picture_of c.args.last.now) shifts c.in_ok-known.known.items (lent_rows drawn) c.requires.last.same
+          stay;
       short = lent_are_short s.width (lent_rows drawn) screen wide c.in_ok-drawn.ensures.lent whole.wide;
     }

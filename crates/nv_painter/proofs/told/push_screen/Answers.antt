@@ -8,11 +8,16 @@ use Rattle.nv_linegrid.specs.Rows.{lines_of_rows}
 use Rattle.nv_linegrid.specs.Scrolls.{scroll_of}
 use Rattle.nv_linegrid.specs.Told.{known_rows, shown_rows, with_attrs_of_rows}
 use Rattle.nv_linegrid.proofs.TableLemmas.{Grows, rows_grow}
-use Rattle.nv_painter.specs.inside.Due.{AreDue}
+use Rattle.nv_painter.specs.inside.Due.{AreDue, AreKnown}
 use Rattle.nv_painter.specs.inside.Lent.{lent_rows}
 use Rattle.nv_painter.specs.inside.Sketch.{IsSketch}
 use Rattle.nv_painter.proofs.DueLemmas.{due_grows}
 use Rattle.nv_painter.proofs.told.push_screen.Goals as goal
+
+pub dues_of-requires-clause-known : goal.dues_of-requires-clause-known
+dues_of-requires-clause-known c =
+    subst (λ (q : List Attr × ShownRows). AreKnown c.args.known.now q.0 (lent_rows c.args.drawn.now) q.1)
+    (λ i. (sym c.as_slice.ensures.value i, sym c.as_slice-2.ensures.value i)) c.requires.known
 
 pub returns : goal.returns
 returns c screen sketch =
