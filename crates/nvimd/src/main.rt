@@ -58,9 +58,19 @@ fn keep_free_memory(alloc: Global) {
     let _ = Vec::<u8>::with_capacity(alloc, KEPT_FREE);
 }
 
+// How many pages are touched at first: somewhat less than a block that the allocator maps.
+const TOUCHED: usize = 240;
+
+// Touches the first pages of the heap, which are free then and stay at hand. A page that is touched
+// for the first time is a fault of the kernel's, and some hundred requests take one each.
+fn touch_memory(alloc: Global) {
+    let _ = vec![in alloc; [1u8; 4096]; TOUCHED];
+}
+
 fn main(rt: HostRuntime) -> ExitCode {
     let alloc = rt.alloc();
     keep_free_memory(alloc);
+    touch_memory(alloc);
     let mut errors = StdErr::new(rt.stderr());
     let Ok(strings) = strings_of(&rt) else {
         return want_of_memory(&rt, &mut errors);
