@@ -1,11 +1,13 @@
 #!/usr/bin/env python3
-"""redraw.py [PROGRAM]: what a change costs from its request to the flush of its batch, beside Neovim (`nvim` on the path), for a
-UI of 120 by 40 over a text of 10,000 lines. Prints medians in microseconds and the bytes of a batch. One request at a time: the
-next is sent when the flush of the one before has come, so both figures hold the same reading and writing of this script."""
+"""redraw.py [PROGRAM]: what a change costs from its request to the flush of its batch, beside Neovim (`nvim` on the path) as it is
+installed (`--clean`) and bare, without the plugins that come with it (`-u NONE`), for a UI of 120 by 40 over a text of 10,000
+lines. Prints medians in microseconds and the bytes of a batch. One request at a time: the next is sent when the flush of the one
+before has come, so all figures hold the same reading and writing of this script. Ten servers of each kind run in turn; each takes
+100 rounds of a figure after 20 that don't count, and the medians are over all."""
 import os, shutil, statistics, subprocess, sys, time
 import msgpack
 
-ROUNDS = 400
+SERVERS, WARM, ROUNDS = 10, 20, 100
 FLUSH = b"\xa5flush"
 
 
@@ -48,19 +50,26 @@ class Server:
                 time.sleep(0.01)
         os.set_blocking(self.child.stdout.fileno(), True)
 
+    def close(self):
+        self.child.stdin.close()
+        self.child.stdout.close()
+        self.child.kill()
+        self.child.wait()
+
 
 def measure(words):
+    """The rounds of one server by figure: the microseconds and the bytes of each. The first ones of a figure don't count: in
+    them Neovim's cursor moves to the last row of its window, from which on each step scrolls."""
     server = Server(words)
     lines = [f"line {k} of a text that is long enough to fill some columns" for k in range(10000)]
     server.send("nvim_buf_set_lines", 0, 0, -1, True, lines)
-    server.drain(0.5)
+    server.drain(0.3)
     server.send("nvim_ui_attach", 120, 40, {"ext_linegrid": True, "rgb": True})
-    server.drain(0.5)
+    server.drain(0.3)
     figures = {}
 
     def rounds(name, call):
-        took = [call(k) for k in range(ROUNDS)]
-        figures[name] = (statistics.median(t for t, _ in took), statistics.median(n for _, n in took))
+        figures[name] = [call(k) for k in range(WARM + ROUNDS)][WARM:]
 
     rounds("a character", lambda k: server.asks("nvim_buf_set_text", 0, 5, 3, 5, 3, ["x"]) if k % 2 == 0
            else server.asks("nvim_buf_set_text", 0, 5, 3, 5, 4, [""]))
@@ -69,21 +78,34 @@ def measure(words):
     server.asks("nvim_win_set_cursor", 0, [100, 0])
     rounds("a scroll by one", lambda k: server.asks("nvim_win_set_cursor", 0, [101 + k, 0]))
     rounds("a far jump", lambda k: server.asks("nvim_win_set_cursor", 0, [1000 + 4000 * (k % 2) + k, 0]))
-    server.child.kill()
+    server.close()
     return figures
+
+
+def medians(runs, name):
+    """The medians of one figure over the rounds of all servers: microseconds and bytes."""
+    took, count = zip(*[one for run in runs for one in run[name]])
+    return statistics.median(took), statistics.median(count)
 
 
 def main():
     program = sys.argv[1] if len(sys.argv) > 1 else "crates/nvimd/out/nvimd"
-    ours = measure([program, "embed"])
-    theirs = measure(["nvim", "--clean", "--embed"]) if shutil.which("nvim") else None
-    print(f"    {'a figure':<30}{'Neovim':>9}{'nvimd':>9}  ratio{'bytes there':>13}{'here':>7}")
-    for name, (took, count) in ours.items():
-        if theirs:
-            other, size = theirs[name]
-            print(f"    {name + ', us':<30}{other:9.1f}{took:9.1f}  {took / other:5.2f}{size:13.0f}{count:7.0f}")
-        else:
-            print(f"    {name + ', us':<30}{'':9}{took:9.1f}       {'':13}{count:7.0f}")
+    kinds = [[program, "embed"]]
+    if shutil.which("nvim"):
+        kinds += [["nvim", "--clean", "--embed"], ["nvim", "-u", "NONE", "-i", "NONE", "-n", "--embed"]]
+    runs = [[] for _ in kinds]
+    for _ in range(SERVERS):
+        for words, done in zip(kinds, runs):
+            done.append(measure(words))
+    print(f"    {'a figure':<30}{'nvimd':>9}{'Neovim':>9}  ratio{'bare':>9}  ratio{'bytes here':>12}{'there':>7}")
+    for name in runs[0][0]:
+        took, count = medians(runs[0], name)
+        beside, there = "", ""
+        for done in runs[1:]:
+            other, size = medians(done, name)
+            beside += f"{other:9.1f}  {took / other:5.2f}"
+            there = f"{size:7.0f}"
+        print(f"    {name + ', us':<30}{took:9.1f}{beside:<32}{count:12.0f}{there}")
 
 
 main()
