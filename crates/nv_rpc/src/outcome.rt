@@ -27,7 +27,7 @@ pub enum Outcome {
 
 impl Outcome {
     /// The same result: the strings of a value are shared.
-    pub fn copy(&self, alloc: Global) -> Result<Outcome, AllocError>
+    pub(crate) fn copy(&self, alloc: Global) -> Result<Outcome, AllocError>
         ensures { IfOk result (λ copy. outcome_content copy ≡ outcome_content self.now) }
     {
         match self {
@@ -51,7 +51,7 @@ impl Outcome {
     }
 
     /// Adds the shortest spelling of the result at the end of `into`.
-    pub fn put(&self, into: &mut Vec<u8>) -> Result<(), AllocError>
+    pub(crate) fn put(&self, into: &mut Vec<u8>) -> Result<(), AllocError>
         requires { HasSpelling (outcome_content self.now) }
         ensures { OnOk result (into.new.items
             ≡ into.old.items ++ shortest (outcome_content self.now)) }

@@ -62,7 +62,7 @@ fn keep_free_memory(alloc: Global) {
 const TOUCHED: usize = 240;
 
 // Touches the first pages of the heap, which are free then and stay at hand. A page that is touched
-// for the first time is a fault of the kernel's, and some hundred requests take one each.
+// for the first time is a fault of the kernel's, and of the first requests one in ten takes one.
 fn touch_memory(alloc: Global) {
     let _ = vec![in alloc; [1u8; 4096]; TOUCHED];
 }
