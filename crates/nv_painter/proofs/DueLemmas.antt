@@ -20,7 +20,7 @@ use Rattle.nv_linegrid.proofs.TableLemmas.{Grows, rows_grow}
 use Rattle.nv_linegrid.proofs.DueLemmas.{row_shown, row_told}
 use Rattle.nv_painter.specs.inside.Due.{AreDue, IsDue, ShowsBut}
 use Rattle.nv_painter.specs.declared.lent.LentRow.{LentRow}
-use Rattle.nv_painter.specs.inside.Lent.{AreLent, IsLikeBut, lent_cells, lent_rows}
+use Rattle.nv_painter.specs.inside.Lent.{AreLent, IsLikeBut, lent_cells, lent_rows, placed_cells, placed_rows}
 use Rattle.nv_painter.specs.inside.Moving.{moves, rows_to_move}
 use Rattle.nv_painter.specs.inside.Sketch.{HaveIds, IsIdOf, IsSketch, ShowsCells}
 use Rattle.nv_painter.proofs.LineLemmas.{front_step, row_step, same_shown_itself}
@@ -502,18 +502,18 @@ lent_are_short width drawn screen wide lent all =
     by k [] e = omega (arith, ap length e)
     by k (c ∷ cs) e = omega (arith, wide, at_most screen k all, ap length (lent k (omega (arith, ap length e))))
 
-map-put : (rows : List LentRow) (n : ℕ) (row : LentRow) → lent_rows (set rows n row) ≡ set (lent_rows rows) n (lent_cells row)
+map-put : (rows : List LentRow) (n : ℕ) (row : LentRow) → placed_rows (set rows n row) ≡ set (placed_rows rows) n (placed_cells row)
 map-put [] n row = refl
 map-put (r ∷ rows) zero row = refl
-map-put (r ∷ rows) (suc n) row = ap (λ l. lent_cells r ∷ l) (map-put rows n row)
+map-put (r ∷ rows) (suc n) row = ap (λ l. placed_cells r ∷ l) (map-put rows n row)
 
 -- one row more is lent
-pub lent_step : (rows : List LentRow) (row : LentRow) (cells : List Cell) (n : ℕ) (screen : List (List Cell)) → lent_cells row ≡ cells
-    → cells ≡ get_or screen n [] → AreLent (lent_rows rows) screen → AreLent (lent_rows (set rows n row)) screen
+pub lent_step : (rows : List LentRow) (row : LentRow) (cells : List Cell) (n : ℕ) (screen : List (List Cell)) → placed_cells row ≡ cells
+    → cells ≡ get_or screen n [] → AreLent (placed_rows rows) screen → AreLent (placed_rows (set rows n row)) screen
 lent_step rows row cells n screen is here lent k some =
-    let put : get_or (lent_rows (set rows n row)) k [] ≡ get_or (set (lent_rows rows) n cells) k [] =
-    ap (λ l. get_or l k []) (map-put rows n row ∙ ap (set (lent_rows rows) n) is) in
-    put ∙ by (lent_rows rows) n k here (lent k) (omega (arith, some, ap length put))
+    let put : get_or (placed_rows (set rows n row)) k [] ≡ get_or (set (placed_rows rows) n cells) k [] =
+    ap (λ l. get_or l k []) (map-put rows n row ∙ ap (set (placed_rows rows) n) is) in
+    put ∙ by (placed_rows rows) n k here (lent k) (omega (arith, some, ap length put))
   where
     past : (ls : List (List Cell)) (n k : ℕ) → length ls ≤ n → n ≡ k → get_or (set ls n cells) k [] ≡ []
     past ls n k le same = get_or_past (set ls n cells) k [] (omega (arith, le, same, length-set ls n cells))

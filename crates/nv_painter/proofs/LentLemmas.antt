@@ -1,14 +1,15 @@
 -- Rows of lines that are lent.
-use Rattle.std.specs.Prelude.{IfSome}
+use Rattle.std.specs.Prelude.{All, IfSome}
 use Rattle.nv_painter.specs.Keys.{LineKey, cells_of_key, same_line_key}
 use Rattle.nv_painter.specs.declared.key.LentKey.{LentKey}
 use Rattle.nv_painter.specs.declared.lent.LentRow.{LentRow}
-use Rattle.nv_painter.specs.inside.Lent.{DifferBetween, IsLikeBut, IsLone, IsOfLine, lent_cells, lent_content}
+use Rattle.nv_painter.specs.inside.Lent.{AreLent, DifferBetween, IsFound, IsLikeBut, IsLone, IsOfLine, cells_placed, lent_cells, lent_content, lent_rows, placed_cells, placed_rows, row_of_key}
 use Rattle.nv_painter.specs.inside.SameKeys.{key_decides}
 use Rattle.std.proofs.Common.{Some, true, false, cond, subst, ◌≡◌, ◌==◌, ◌<◌, ◌≤◌, ◌+◌, ◌-◌, ◌*◌, ◌/◌, ◌%◌, ◌∙◌, ◌++◌, ℕ, List, [], ◌∷◌, get_or, length, length-append, map, replicate, take, drop, ap, ap₂, sym, arith}
-use Rattle.std.proofs.Math.Nat.{mod-eq_of_lt}
+use Rattle.std.proofs.Math.Nat.{div-mul-le_self, div_self, mod-eq_of_lt, mul-le-mul_right}
 use Rattle.std.proofs.lemmas.Bool.Decides.{nat_tests}
-use Rattle.std.proofs.lemmas.List.{drop-map, drop-replicate, length-map, length-replicate, take-append-le, take-map, take_all}
+use Rattle.std.proofs.lemmas.List.{drop-map, drop-replicate, get_or-map, length-drop, length-map, length-replicate, length-take, take-append-le, take-map, take_all}
+use Rattle.std.proofs.lemmas.List.Elements.{All-get_or}
 use Rattle.nv_lines.proofs.Ranges.{drop-append}
 use Rattle.nv_hl.specs.declared.cell.Cell.{Cell}
 use Rattle.nv_hl.specs.Attributes.{empty_attr}
@@ -23,6 +24,7 @@ use Rattle.nv_screen.specs.declared.scene.SceneLine.{SceneLine}
 use Rattle.nv_screen.specs.Drawing.{drawn_rows, pane_rows, scene_cells, text_rows}
 use Rattle.nv_screen.specs.Sound.{IsSoundScene}
 use Rattle.nv_screen.proofs.SteadyLemmas.{line_behind, row_of_line, wide_text}
+use Rattle.nv_painter.proofs.MovedLemmas.{there_is}
 
 module _ (w t : ℕ) (looks : Looks) (height room n : ℕ) (line : SceneLine) (lines rest : List SceneLine) (cells : List Cell)
     (pane : List (List Cell)) (split : rest ≡ line ∷ lines) (cells_are : cells ≡ scene_cells w t looks line) (count : n ≡ length cells / w)
@@ -61,18 +63,56 @@ wide_rows_are s sound plain i p d lt is col width k below =
 
 -- ---- rows of the same line
 
-cells_of_line : (r : LentRow) (k : LentKey) → IsOfLine r → r.line ≡ Some k
-    → lent_cells r ≡ take k.width (drop (r.number * k.width) (cells_of_key (lent_content k)))
-cells_of_line r k of is =
-    subst (λ o. IfSome o (λ k. lent_cells r ≡ take k.width (drop (r.number * k.width) (cells_of_key (lent_content k))))) is of
+placed_is : (r : LentRow) (k : LentKey) → r.line ≡ Some k → placed_cells r ≡ row_of_key (lent_content k) r.number
+placed_is r k is = ap (λ o. cells_placed o r.number) is
 
-pub same_rows : (a b : LentRow) (old new : LentKey) → IsOfLine a → IsOfLine b → a.line ≡ Some old → b.line ≡ Some new → a.number ≡ b.number
-    → same_line_key (lent_content old) (lent_content new) ≡ true → lent_cells a ≡ lent_cells b
-same_rows a b old new of_a of_b is_a is_b numbers same =
+pub same_rows : (a b : LentRow) (old new : LentKey) → a.line ≡ Some old → b.line ≡ Some new → a.number ≡ b.number
+    → same_line_key (lent_content old) (lent_content new) ≡ true → placed_cells a ≡ placed_cells b
+same_rows a b old new is_a is_b numbers same =
     let keys : lent_content old ≡ lent_content new = (key_decides (lent_content old) (lent_content new)).0 same in
-    cells_of_line a old of_a is_a
-    ∙ (λ i. take (keys i).width (drop (numbers i * (keys i).width) (cells_of_key (keys i))))
-    ∙ sym (cells_of_line b new of_b is_b)
+    placed_is a old is_a ∙ ap₂ row_of_key keys numbers ∙ sym (placed_is b new is_b)
+
+pub has_cells : (r : LentRow) (k : LentKey) → IsOfLine r → r.line ≡ Some k → 0 < length (placed_cells r)
+has_cells r k of is = subst (λ o. IfSome o (λ k. 0 < length (placed_cells r))) is of.some
+
+row_fits : (w count n : ℕ) (cells : List Cell) → 0 < w → count ≡ length cells / w → n < count → 0 < length (take w (drop (n * w) cells))
+row_fits w count n cells wide is lt =
+    let most : count * w ≤ length cells = subst (λ m. m * w ≤ length cells) (sym is) (div-mul-le_self (length cells) w) in
+    let less : (n + 1) * w ≤ count * w = mul-le-mul_right w (omega (arith, lt)) in
+    let next : (n + 1) * w ≡ n * w + w = omega arith in
+    omega (arith, wide, most, less, next, length-take w (drop (n * w) cells), length-drop (n * w) cells)
+
+no_row : (w n : ℕ) (cells : List Cell) → 0 < length (take w (drop (n * w) cells)) → 0 < length cells
+no_row w n cells some = omega (arith, some, length-take w (drop (n * w) cells), length-drop (n * w) cells)
+
+-- a row of a line that was found
+pub of_found : (r : LentRow) (k : LentKey) (n : ℕ) (cells : List Cell) (count : ℕ) → 0 < k.width → n < count → IsFound (lent_content k) cells count
+    → r.line ≡ Some k → r.number ≡ n → lent_cells r ≡ take k.width (drop (n * k.width) cells) → IsOfLine r
+of_found r k n cells count wide lt found is number are =
+    let placed : placed_cells r ≡ row_of_key (lent_content k) n = placed_is r k is ∙ ap (row_of_key (lent_content k)) number in
+    let some : 0 < length (placed_cells r) =
+    omega (arith, ap length placed, row_fits k.width count n (cells_of_key (lent_content k)) wide found.rows lt) in record {
+      some = subst (λ o. IfSome o (λ k. 0 < length (placed_cells r))) (sym is) some;
+      cells = λ there. are
+          ∙ ap (λ cs. take k.width (drop (n * k.width) cs)) (found.same (no_row k.width n cells (omega (arith, there, ap length are))))
+          ∙ sym placed;
+    }
+
+-- the cells of rows that were looked up
+lent_at_place : (rows : List LentRow) (k : ℕ) → All IsOfLine rows → 0 < length (get_or (lent_rows rows) k [])
+    → get_or (lent_rows rows) k [] ≡ get_or (placed_rows rows) k []
+lent_at_place [] k all some = absurd (omega (arith, some))
+lent_at_place (r ∷ rs) k all some =
+    let rows = r ∷ rs in
+    let lt : k < length rows = omega (arith, there_is (lent_rows rows) k some, length-map rows lent_cells) in
+    let lent : get_or (lent_rows rows) k [] ≡ lent_cells (get_or rows k r) = get_or-map lent_cells rows k r [] lt in
+    lent ∙ (All-get_or IsOfLine rows k r lt all).cells (omega (arith, some, ap length lent)) ∙ sym (get_or-map placed_cells rows k r [] lt)
+
+pub lent_of_placed : (rows : List LentRow) (screen : List (List Cell)) → All IsOfLine rows → AreLent (placed_rows rows) screen
+    → AreLent (lent_rows rows) screen
+lent_of_placed rows screen all placed k some =
+    let is = lent_at_place rows k all some in
+    is ∙ placed k (omega (arith, some, ap length is))
 
 -- ---- rows of lines that differ between two places alone
 
@@ -96,16 +136,28 @@ blanks_of w n some lt =
     ∙ ap (λ m. cond (m == 0) 0 (w - m)) (mod-eq_of_lt lt)
     ∙ ap (λ b. cond b 0 (w - n)) more
 
-lone_cells : (k : LineKey) → IsLone k → take k.width (drop (0 * k.width) (cells_of_key k)) ≡ lone_row k.width k.bytes
+lone_line : (k : LineKey) → IsLone k → cells_of_key k ≡ lone_row k.width k.bytes
+lone_line k lone =
+    let w = k.width in
+    ap (λ ss. cells_of_key (record { bytes = k.bytes; spans = ss; width = w; tabstop = k.tabstop; looks = k.looks })) lone.spans
+    ∙ cells_of_plain w k.tabstop k.bytes k.looks (omega (arith, lone.short)) lone.plain
+    ∙ ap (λ n. map byte_cell k.bytes ++ replicate n (space empty_attr)) (blanks_of w (length k.bytes) lone.some lone.short)
+
+lone_cells : (k : LineKey) → IsLone k → row_of_key k 0 ≡ lone_row k.width k.bytes
 lone_cells k lone =
     let w = k.width in
     let none : 0 * w ≡ 0 = omega arith in
-    let whole : cells_of_key k ≡ lone_row w k.bytes =
-    ap (λ ss. cells_of_key (record { bytes = k.bytes; spans = ss; width = w; tabstop = k.tabstop; looks = k.looks })) lone.spans
-    ∙ cells_of_plain w k.tabstop k.bytes k.looks (omega (arith, lone.short)) lone.plain
-    ∙ ap (λ n. map byte_cell k.bytes ++ replicate n (space empty_attr)) (blanks_of w (length k.bytes) lone.some lone.short) in
-    ap₂ (λ n (cs : List Cell). take w (drop n cs)) none whole
+    ap₂ (λ n (cs : List Cell). take w (drop n cs)) none (lone_line k lone)
     ∙ take_all w (lone_row w k.bytes) (omega (arith, lone_count w k.bytes lone.short))
+
+-- such a line is one row
+pub lone_is_found : (k : LineKey) → IsLone k → IsFound k [] 1
+lone_is_found k lone = record {
+  rows =
+      let wide : 0 < k.width = omega (arith, lone.short) in
+      sym (div_self wide) ∙ ap (λ n. n / k.width) (sym (ap length (lone_line k lone) ∙ lone_count k.width k.bytes lone.short));
+  same = λ some. absurd (omega (arith, some));
+}
 
 front_is : (w from : ℕ) (line : List ℕ) → from ≤ length line → take from (lone_row w line) ≡ map byte_cell (take from line)
 front_is w from line le =
@@ -134,19 +186,15 @@ rows_like w a b from to in_a in_b d = record {
       ∙ sym (back_is w to b);
 }
 
-row_is : (r : LentRow) (k : LentKey) → IsOfLine r → r.line ≡ Some k → r.number ≡ 0 → IsLone (lent_content k)
-    → lent_cells r ≡ lone_row k.width k.bytes.now
-row_is r k of is first lone =
-    cells_of_line r k of is
-    ∙ ap (λ n. take k.width (drop (n * k.width) (cells_of_key (lent_content k)))) first
-    ∙ lone_cells (lent_content k) lone
+row_is : (r : LentRow) (k : LentKey) → r.line ≡ Some k → r.number ≡ 0 → IsLone (lent_content k) → placed_cells r ≡ lone_row k.width k.bytes.now
+row_is r k is first lone = placed_is r k is ∙ ap (row_of_key (lent_content k)) first ∙ lone_cells (lent_content k) lone
 
-pub places_are : (a b : LentRow) (old new : LentKey) (from to : ℕ) → IsOfLine a → IsOfLine b → a.line ≡ Some old → b.line ≡ Some new
-    → a.number ≡ 0 → b.number ≡ 0 → old.width ≡ new.width → IsLone (lent_content old) → IsLone (lent_content new)
-    → DifferBetween old.bytes.now new.bytes.now from to → IsLikeBut (lent_cells a) (lent_cells b) from to
-places_are a b old new from to of_a of_b is_a is_b first_a first_b widths lone_a lone_b d =
-    let cells_a : lent_cells a ≡ lone_row new.width old.bytes.now =
-    row_is a old of_a is_a first_a lone_a ∙ ap (λ w. lone_row w old.bytes.now) widths in
-    let cells_b : lent_cells b ≡ lone_row new.width new.bytes.now = row_is b new of_b is_b first_b lone_b in
+pub places_are : (a b : LentRow) (old new : LentKey) (from to : ℕ) → IsOfLine b → a.line ≡ Some old → b.line ≡ Some new
+    → a.number ≡ 0 → b.number ≡ 0 → 0 < length (lent_cells b) → old.width ≡ new.width → IsLone (lent_content old) → IsLone (lent_content new)
+    → DifferBetween old.bytes.now new.bytes.now from to → IsLikeBut (placed_cells a) (lent_cells b) from to
+places_are a b old new from to of_b is_a is_b first_a first_b some widths lone_a lone_b d =
+    let cells_a : placed_cells a ≡ lone_row new.width old.bytes.now =
+    row_is a old is_a first_a lone_a ∙ ap (λ w. lone_row w old.bytes.now) widths in
+    let cells_b : lent_cells b ≡ lone_row new.width new.bytes.now = of_b.cells some ∙ row_is b new is_b first_b lone_b in
     subst (λ (q : List Cell × List Cell). IsLikeBut q.0 q.1 from to) (λ i. (sym cells_a i, sym cells_b i))
     (rows_like new.width old.bytes.now new.bytes.now from to (omega (arith, lone_a.short, widths)) lone_b.short d)

@@ -1,12 +1,12 @@
 //! Rows of cells that are lent.
 
-ghost use Rattle.nv_painter.specs.Keys.{cells_of_key};
-ghost use Rattle.nv_painter.specs.inside.Lent.{AreLent, DifferBetween, IsLikeBut, IsLone, IsOfLine, lent_cells, lent_content, lent_rows};
+ghost use Rattle.nv_painter.specs.inside.Lent.{AreLent, DifferBetween, IsFound, IsLikeBut, IsLone, IsOfLine, lent_cells, lent_content, lent_rows, placed_cells, placed_rows, row_of_key};
 ghost use Rattle.nv_hl.specs.declared.cell.Cell.{Cell as SpecCell};
 ghost use Rattle.nv_screen.specs.Drawing.{drawn_rows, pane_rows};
 ghost use Rattle.nv_screen.specs.Sound.{IsDrawable, IsSoundScene};
-ghost use Rattle.std.specs.Prelude.{◌≡◌, ◌<◌, ◌≤◌, ◌+◌, ◌*◌, [], All, List, ℕ, IfOk, IfSome, IsTrue, drop, get_or, length, take};
+ghost use Rattle.std.specs.Prelude.{◌≡◌, ◌<◌, ◌≤◌, ◌+◌, ◌*◌, ◌^◌, [], All, List, ℕ, IfOk, IfSome, IsTrue, drop, get_or, length, take};
 
+use crate::ids::has_flag;
 use crate::kept::{KeptLines, lent_key};
 use crate::key::LentKey;
 use nv_hl::{Cell, Row};
@@ -17,21 +17,21 @@ use std::alloc::{AllocError, Global};
 /// A row of cells, lent.
 #[derive(Clone, Copy)]
 pub struct LentRow<'a> {
+    /// None where they weren't looked up.
     pub cells: &'a [Cell],
-    /// The line that it is of, where it is of one that is kept.
+    /// The line that it is of, where that is known.
     pub line: Option<LentKey<'a>>,
     /// Its number among the rows of the line.
     pub number: usize,
 }
 
-/// Whether both are the same row of the same line, and have cells.
+/// Whether both are the same row of the same line.
 pub fn is_same_row(a: &LentRow, b: &LentRow) -> bool
-    requires a { IsOfLine a.now }
-    requires b { IsOfLine b.now }
-    ensures same { IsTrue result → lent_cells a.now ≡ lent_cells b.now }
-    ensures some { IsTrue result → 0 < length (lent_cells b.now) }
+    requires { IsOfLine b.now }
+    ensures same { IsTrue result → placed_cells a.now ≡ placed_cells b.now }
+    ensures some { IsTrue result → 0 < length (placed_cells b.now) }
 {
-    if b.cells.is_empty() || a.number != b.number {
+    if a.number != b.number {
         return false;
     }
     let Some(old) = a.line else {
@@ -94,13 +94,12 @@ fn places_between(a: &[u8], b: &[u8]) -> (usize, usize)
 }
 
 /// The places between which two rows may differ, where that can be told by the lines that they are
-/// of.
+/// of. The first one's cells aren't looked at.
 pub fn places_of(a: &LentRow, b: &LentRow) -> Option<(usize, usize)>
-    requires a { IsOfLine a.now }
-    requires b { IsOfLine b.now }
-    ensures { IfSome result (λ d. IsLikeBut (lent_cells a.now) (lent_cells b.now) d.0 d.1) }
+    requires { IsOfLine b.now }
+    ensures { IfSome result (λ d. IsLikeBut (placed_cells a.now) (lent_cells b.now) d.0 d.1) }
 {
-    if a.number != 0 || b.number != 0 {
+    if a.number != 0 || b.number != 0 || b.cells.is_empty() {
         return None;
     }
     let Some(old) = a.line else {
@@ -130,11 +129,11 @@ pub fn lend(alloc: Global, rows: &[Row]) -> Result<Vec<LentRow<'_>>, AllocError>
     Ok(lent)
 }
 
-// So many rows without cells.
+// So many rows of no line.
 fn no_rows<'a>(alloc: Global, count: u32) -> Result<Vec<LentRow<'a>>, AllocError>
     ensures count { IfOk result (λ rows. length rows.items ≡ count) }
     ensures none { IfOk result (λ rows. (screen : List (List SpecCell))
-        → AreLent (lent_rows rows.items) screen) }
+        → AreLent (placed_rows rows.items) screen) }
     ensures lines { IfOk result (λ rows. All IsOfLine rows.items) }
 {
     let mut rows = Vec::with_capacity(alloc, count as usize)?;
@@ -148,6 +147,16 @@ fn no_rows<'a>(alloc: Global, count: u32) -> Result<Vec<LentRow<'a>>, AllocError
     Ok(rows)
 }
 
+// The row of a line that has this number; none where there are no cells.
+fn row_in(cells: &[Cell], number: usize, width: usize) -> &[Cell]
+    requires { number * width < 2 ^ 64 }
+    ensures { result.now ≡ take width (drop (number * width) cells.now) }
+{
+    let from = (number * width).min(cells.len());
+    let rest = &cells[from..];
+    &rest[..width.min(rest.len())]
+}
+
 // Lends the rows of a line from a row of the screen on.
 fn lend_line<'a>(
     rows: &mut Vec<LentRow<'a>>,
@@ -156,47 +165,60 @@ fn lend_line<'a>(
     at: usize,
     count: usize,
 )
-    requires { count * key.width ≤ length cells.now }
+    requires wide { 0 < key.width }
+    requires few { count < 2 ^ 32 }
     ensures count { length rows.new.items ≡ length rows.old.items }
     ensures lent { (screen : List (List SpecCell))
         → ((k : ℕ) → k < count
-        → take key.entry.width (drop (k * key.entry.width) cells.now) ≡ get_or screen (at + k) [])
-        → AreLent (lent_rows rows.old.items) screen
-        → AreLent (lent_rows rows.new.items) screen }
-    ensures lines { cells.now ≡ cells_of_key (lent_content key.entry)
+        → row_of_key (lent_content key.entry) k ≡ get_or screen (at + k) [])
+        → AreLent (placed_rows rows.old.items) screen
+        → AreLent (placed_rows rows.new.items) screen }
+    ensures lines { IsFound (lent_content key.entry) cells.now count
         → All IsOfLine rows.old.items → All IsOfLine rows.new.items }
 {
     let width = key.width as usize;
     let end = count.min(rows.len().saturating_sub(at));
     for k in 0..end {
-        let from = k * width;
         rows[at + k] = LentRow {
-            cells: &cells[from..from + width],
+            cells: row_in(cells, k, width),
             line: Some(key),
             number: k,
         };
     }
 }
 
-// Lends the rows of a window's text as far as its lines are kept and all rows of them fit.
+// The cells of a line, where they are kept, and how many rows it has. The cells of a line that is
+// surely one row aren't looked up.
+fn find_rows<'a>(kept: &'a KeptLines, key: LentKey) -> Option<(&'a [Cell], usize)>
+    requires { 0 < key.width }
+    ensures { IfSome result (λ rows. IsFound (lent_content key.entry) rows.0.now rows.1) }
+{
+    if is_lone(&key) {
+        return Some((&[], 1));
+    }
+    match kept.find(key) {
+        Some(cells) => Some((cells, cells.len() / key.width as usize)),
+        None => None,
+    }
+}
+
+// Lends the rows of a window's text as far as the rows of its lines are known and all of them fit.
 fn lend_pane<'a>(rows: &mut Vec<LentRow<'a>>, kept: &'a KeptLines, pane: &'a Pane, looks: &'a Looks)
     requires { IsDrawable pane.now }
     ensures count { length rows.new.items ≡ length rows.old.items }
     ensures lent { (screen : List (List SpecCell))
         → ((k : ℕ) → k < pane.now.rect.height
         → get_or (pane_rows looks.now pane.now) k [] ≡ get_or screen (pane.now.rect.row + k) [])
-        → AreLent (lent_rows rows.old.items) screen
-        → AreLent (lent_rows rows.new.items) screen }
+        → AreLent (placed_rows rows.old.items) screen
+        → AreLent (placed_rows rows.new.items) screen }
     ensures lines { All IsOfLine rows.old.items → All IsOfLine rows.new.items }
 {
-    let width = pane.rect.width as usize;
     let mut room = pane.rect.height;
     for line in pane.lines.as_slice() {
         let key = lent_key(line, pane.rect.width, pane.tabstop, looks);
-        let Some(cells) = kept.find(key) else {
+        let Some((cells, count)) = find_rows(kept, key) else {
             return;
         };
-        let count = cells.len() / width;
         if count > room as usize {
             return;
         }
@@ -220,8 +242,8 @@ fn lend_wide<'a>(
         → (pane.now.rect.col ≡ 0 → pane.now.rect.width ≡ width
         → (k : ℕ) → k < pane.now.rect.height
         → get_or (pane_rows looks.now pane.now) k [] ≡ get_or screen (pane.now.rect.row + k) [])
-        → AreLent (lent_rows rows.old.items) screen
-        → AreLent (lent_rows rows.new.items) screen }
+        → AreLent (placed_rows rows.old.items) screen
+        → AreLent (placed_rows rows.new.items) screen }
     ensures lines { All IsOfLine rows.old.items → All IsOfLine rows.new.items }
 {
     if pane.rect.col != 0 {
@@ -233,8 +255,9 @@ fn lend_wide<'a>(
     lend_pane(rows, kept, pane, looks);
 }
 
-/// As many rows as a scene has. Of windows as wide as the screen those are lent whose lines are
-/// kept and fit; each other row has no cells.
+/// As many rows as a scene has. Of windows as wide as the screen it is told which row of which line
+/// each is, where the lines above are kept or one row each; the cells of the latter aren't looked
+/// up.
 pub fn lent_rows<'a>(
     alloc: Global,
     kept: &'a KeptLines,
@@ -242,7 +265,7 @@ pub fn lent_rows<'a>(
 ) -> Result<Vec<LentRow<'a>>, AllocError>
     requires { IsSoundScene scene.now }
     ensures count { IfOk result (λ rows. length rows.items ≡ scene.now.height) }
-    ensures lent { IfOk result (λ rows. AreLent (lent_rows rows.items) (drawn_rows scene.now)) }
+    ensures lent { IfOk result (λ rows. AreLent (placed_rows rows.items) (drawn_rows scene.now)) }
     ensures lines { IfOk result (λ rows. All IsOfLine rows.items) }
 {
     let mut rows = no_rows(alloc, scene.height)?;
@@ -253,4 +276,37 @@ pub fn lent_rows<'a>(
         lend_wide(&mut rows, kept, scene.width, pane, &scene.looks);
     }
     Ok(rows)
+}
+
+// A row with its cells, unless it is shown already, where its line is kept.
+fn looked_up<'a>(kept: &'a KeptLines, is_shown: bool, row: LentRow<'a>) -> LentRow<'a>
+    requires { IsOfLine row }
+    ensures lines { IsOfLine result }
+    ensures placed { placed_cells result ≡ placed_cells row.entry }
+{
+    if is_shown || row.number != 0 || !row.cells.is_empty() {
+        return row;
+    }
+    let Some(key) = row.line else {
+        return row;
+    };
+    let Some(cells) = kept.find(key) else {
+        return row;
+    };
+    LentRow {
+        cells: row_in(cells, 0, key.width as usize),
+        line: row.line,
+        number: 0,
+    }
+}
+
+/// Looks up the cells of the rows without a flag.
+pub fn look_up<'a>(rows: &mut Vec<LentRow<'a>>, kept: &'a KeptLines, flags: &[bool])
+    requires { All IsOfLine rows.old.items }
+    ensures lines { All IsOfLine rows.new.items }
+    ensures placed { placed_rows rows.new.items ≡ placed_rows rows.old.items }
+{
+    for k in 0..rows.len() {
+        rows[k] = looked_up(kept, has_flag(flags, k), rows[k]);
+    }
 }

@@ -106,7 +106,7 @@ fn runs_of(alloc: Global, cells: &[ShownCell]) -> Result<Runs, AllocError>
     requires { length cells.now < 2 ^ 32 }
     ensures { IfOk result (λ runs. runs ≡ runs_of cells.now) }
 {
-    let mut runs = Vec::new(alloc);
+    let mut runs = Vec::with_capacity(alloc, cells.len())?;
     let mut last = None;
     let mut count = 1;
     for k in 0..cells.len() {

@@ -2,7 +2,7 @@
 
 ghost use Rattle.nv_painter.specs.Pictures.{views_of};
 ghost use Rattle.nv_painter.specs.inside.Last.{IsSketchOf, IsToldOf, IsToldOfLast};
-ghost use Rattle.nv_painter.specs.inside.Lent.{AreLike, IsLikeBut, IsOfLine, lent_rows};
+ghost use Rattle.nv_painter.specs.inside.Lent.{AreLike, IsLikeBut, IsOfLine, lent_rows, placed_rows};
 ghost use Rattle.nv_painter.specs.inside.Moving.{ComesAsIs, ComesWhole, StayBut};
 ghost use Rattle.nv_screen.specs.Drawing.{drawn_rows};
 ghost use Rattle.nv_screen.specs.Sound.{IsSoundScene};
@@ -10,7 +10,7 @@ ghost use Rattle.std.specs.Prelude.{◌≡◌, ◌<◌, ◌⊎◌, [], ℕ, All,
 
 use crate::ids::has_flag;
 use crate::kept::KeptLines;
-use crate::lent::{LentRow, is_same_row, lent_rows, places_of};
+use crate::lent::{LentRow, is_same_row, lent_rows, look_up, places_of};
 use crate::scrolling::{Shift, clear_moved, is_whole, origin_of};
 use crate::told::{Sketch, ToldScreen};
 use crate::view::PaneView;
@@ -32,10 +32,10 @@ fn are_drawn(flags: &[bool], drawn: &[LentRow]) -> bool
 
 // Whether a shift brings the row at a place as it is.
 fn is_brought(shift: &Shift, before: &[LentRow], drawn: &[LentRow], row: usize) -> bool
-    requires before { All IsOfLine before.now }
     requires drawn { All IsOfLine drawn.now }
     requires row { row < length drawn.now }
-    ensures { IsTrue result → ComesAsIs shift.now (lent_rows before.now) (lent_rows drawn.now) row }
+    ensures { IsTrue result
+        → ComesAsIs shift.now (placed_rows before.now) (placed_rows drawn.now) row }
 {
     let Some(from) = origin_of(shift, row) else {
         return false;
@@ -51,10 +51,9 @@ fn places_at(
     drawn: &[LentRow],
     row: usize,
 ) -> Option<(usize, usize)>
-    requires before { All IsOfLine before.now }
     requires drawn { All IsOfLine drawn.now }
     requires row { row < length drawn.now }
-    ensures { IfSome result (λ d. IsLikeBut (get_or (lent_rows before.now) row [])
+    ensures { IfSome result (λ d. IsLikeBut (get_or (placed_rows before.now) row [])
         (get_or (lent_rows drawn.now) row []) d.0 d.1) }
 {
     if row >= before.len() || has_flag(flags, row) {
@@ -70,9 +69,8 @@ fn places_of_rows(
     before: &[LentRow],
     drawn: &[LentRow],
 ) -> Result<Vec<Option<(usize, usize)>>, AllocError>
-    requires before { All IsOfLine before.now }
-    requires drawn { All IsOfLine drawn.now }
-    ensures { IfOk result (λ known. AreLike known.items (lent_rows before.now)
+    requires { All IsOfLine drawn.now }
+    ensures { IfOk result (λ known. AreLike known.items (placed_rows before.now)
         (lent_rows drawn.now)) }
 {
     let mut known = Vec::with_capacity(alloc, drawn.len())?;
@@ -85,11 +83,10 @@ fn places_of_rows(
 
 // Sets the flags of the rows that a shift brings as they are: of the same line before it and after.
 fn flag_brought(flags: &mut Vec<bool>, shift: &Shift, before: &[LentRow], drawn: &[LentRow])
-    requires before { All IsOfLine before.now }
-    requires drawn { All IsOfLine drawn.now }
+    requires { All IsOfLine drawn.now }
     ensures { (k : ℕ) → get_or flags.new.items k false ≡ true
         → (get_or flags.old.items k false ≡ true)
-        ⊎ ComesAsIs shift.now (lent_rows before.now) (lent_rows drawn.now) k }
+        ⊎ ComesAsIs shift.now (placed_rows before.now) (placed_rows drawn.now) k }
 {
     let end = flags.len().min(drawn.len());
     for k in 0..end {
@@ -113,7 +110,7 @@ fn flag_moved(
     requires drawn { All IsOfLine drawn.now }
     ensures { OnOk result ((k : ℕ) → get_or flags.new.items k false ≡ true
         → (get_or flags.old.items k false ≡ true)
-        ⊎ ComesWhole shifts.now width (drawn_rows last.now) (lent_rows drawn.now) k) }
+        ⊎ ComesWhole shifts.now width (drawn_rows last.now) (placed_rows drawn.now) k) }
 {
     if shifts.len() != 1 || !is_whole(&shifts[0], width) {
         return Ok(());
@@ -167,7 +164,7 @@ fn sketch_after<'a>(
     let shifts = told.shifts_to(alloc, views)?;
     let mut flags = steady_rows(alloc, last, scene)?;
     clear_moved(&mut flags, shifts.as_slice());
-    let drawn = lent_rows(alloc, kept, scene)?;
+    let mut drawn = lent_rows(alloc, kept, scene)?;
     flag_moved(
         alloc,
         kept,
@@ -177,6 +174,7 @@ fn sketch_after<'a>(
         scene.width,
         drawn.as_slice(),
     )?;
+    look_up(&mut drawn, kept, flags.as_slice());
     if !are_drawn(flags.as_slice(), drawn.as_slice()) {
         return Ok(None);
     }

@@ -1,5 +1,5 @@
 -- inside: keys and rows that are lent.
-use Rattle.std.specs.Prelude.{◌≡◌, ◌<◌, ◌≤◌, ◌+◌, ◌-◌, ◌*◌, ℕ, true, IfSome, List, [], ◌∷◌, drop, get_or, length, map, take, Option, None}
+use Rattle.std.specs.Prelude.{◌≡◌, ◌<◌, ◌≤◌, ◌+◌, ◌-◌, ◌*◌, ◌/◌, ℕ, true, IfSome, List, [], ◌∷◌, drop, get_or, length, map, take, Option, None, Some}
 use Rattle.std.specs.Int.{is_in_range}
 use Rattle.std.specs.List.{list_all}
 use Rattle.std.specs.Hash.{u32}
@@ -22,19 +22,40 @@ lent_content k = record {
 abbrev pub key_writes : LineKey → List (List ℕ)
 key_writes k = k.bytes ∷ u32 k.width
 
--- inside: the cells of a row that is lent
+-- inside: the row of a line that has this number
+abbrev pub row_of_key : LineKey → ℕ → List Cell
+row_of_key k n = take k.width (drop (n * k.width) (cells_of_key k))
+
+-- inside: the same of a line that is lent; no cells without a line
+abbrev pub cells_placed : Option LentKey → ℕ → List Cell
+cells_placed None n = []
+cells_placed (Some k) n = row_of_key (lent_content k) n
+
+-- inside: the cells of the row of a line that a row is, looked up or not
+abbrev pub placed_cells : LentRow → List Cell
+placed_cells r = cells_placed r.line r.number
+
+-- inside: the same of rows
+abbrev pub placed_rows : List LentRow → List (List Cell)
+placed_rows rows = map placed_cells rows
+
+-- inside: the cells that were looked up of a row
 abbrev pub lent_cells : LentRow → List Cell
 lent_cells r = r.cells.now
 
--- inside: the cells of rows that are lent
+-- inside: the same of rows
 abbrev pub lent_rows : List LentRow → List (List Cell)
 lent_rows rows = map lent_cells rows
 
--- inside: a row that is of a line is the row of it that has this number
-abbrev pub IsOfLine : LentRow → Type 0
-IsOfLine r =
-    IfSome r.line
-    (λ k. lent_cells r ≡ take k.width (drop (r.number * k.width) (cells_of_key (lent_content k))))
+-- inside: a row that is of a line has cells, and those looked up are these
+pub record IsOfLine (r : LentRow) : Type 0 where
+  pub some : IfSome r.line (λ k. 0 < length (placed_cells r))
+  pub cells : 0 < length (lent_cells r) → lent_cells r ≡ placed_cells r
+
+-- inside: a line has so many rows, and those of its cells that were looked up are all of them
+pub record IsFound (k : LineKey) (cells : List Cell) (count : ℕ) : Type 0 where
+  pub rows : count ≡ length (cells_of_key k) / k.width
+  pub same : 0 < length cells → cells ≡ cells_of_key k
 
 -- inside: each row that has cells is the screen's
 abbrev pub AreLent : List (List Cell) → List (List Cell) → Type 0

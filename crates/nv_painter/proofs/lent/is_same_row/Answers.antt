@@ -1,7 +1,7 @@
 use Rattle.std.proofs.Common.{◌≡◌, Some, arith, rules, true}
 use Rattle.nv_painter.specs.Keys.{same_line_key}
 use Rattle.nv_painter.specs.inside.Lent.{lent_content}
-use Rattle.nv_painter.proofs.LentLemmas.{same_rows}
+use Rattle.nv_painter.proofs.LentLemmas.{has_cells, same_rows}
 use Rattle.nv_painter.proofs.lent.is_same_row.Goals as goal
 
 pub returns-clause-same : goal.returns-clause-same
@@ -14,4 +14,11 @@ returns-clause-same c e =
     let is_b : b.line ≡ Some new = search rules in
     let numbers : a.number ≡ b.number = search (rules, arith) in
     let same : same_line_key (lent_content old) (lent_content new) ≡ true = search rules in
-    same_rows a b old new c.requires.a c.requires.b is_a is_b numbers same
+    same_rows a b old new is_a is_b numbers same
+
+pub returns-clause-some : goal.returns-clause-some
+returns-clause-some c e =
+    let b = c.args.b.now in
+    let new = c.in-Some-line.new in
+    let is_b : b.line ≡ Some new = search rules in
+    has_cells b new c.requires is_b

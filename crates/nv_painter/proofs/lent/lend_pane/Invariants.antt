@@ -1,7 +1,7 @@
 use Rattle.std.proofs.Common.{◌≡◌, ◌<◌, ◌≤◌, ◌+◌, ◌-◌, ℕ, All, List, [], drop, get_or, length}
 use Rattle.nv_hl.specs.declared.cell.Cell.{Cell}
 use Rattle.nv_screen.specs.Drawing.{pane_rows, text_rows}
-use Rattle.nv_painter.specs.inside.Lent.{AreLent, IsOfLine, lent_rows}
+use Rattle.nv_painter.specs.inside.Lent.{AreLent, IsOfLine, placed_rows}
 use Rattle.nv_painter.proofs.lent.lend_pane.Given as goal
 
 abbrev pub invariant-loop-line : goal.invariant-loop-line
@@ -13,7 +13,7 @@ invariant-loop-line l = record {
       ≡ get_or (pane_rows l.looks l.pane) (l.pane.rect.height - l.room + k) [];
   lent : (screen : List (List Cell))
       → ((k : ℕ) → k < l.pane.rect.height → get_or (pane_rows l.looks l.pane) k [] ≡ get_or screen (l.pane.rect.row + k) [])
-      → AreLent (lent_rows l.fn.rows.items) screen
-      → AreLent (lent_rows l.rows.items) screen;
+      → AreLent (placed_rows l.fn.rows.items) screen
+      → AreLent (placed_rows l.rows.items) screen;
   lines : All IsOfLine l.fn.rows.items → All IsOfLine l.rows.items;
 }

@@ -1,5 +1,5 @@
-use Rattle.std.proofs.Common.{◌≡◌, Some, arith, rules}
-use Rattle.nv_painter.specs.inside.Lent.{IsLone, lent_content}
+use Rattle.std.proofs.Common.{◌≡◌, ◌<◌, Some, arith, length, rules}
+use Rattle.nv_painter.specs.inside.Lent.{IsLone, lent_cells, lent_content}
 use Rattle.nv_painter.proofs.LentLemmas.{places_are}
 use Rattle.nv_painter.proofs.lent.places_of.Goals as goal
 
@@ -16,5 +16,6 @@ returns c =
     let widths : old.width ≡ new.width = search (rules, arith) in
     let lone_a : IsLone (lent_content old) = search rules in
     let lone_b : IsLone (lent_content new) = search rules in
-    places_are a b old new c.places_between.result.0 c.places_between.result.1 c.requires.a c.requires.b is_a is_b first_a first_b widths lone_a
-    lone_b c.places_between.ensures
+    let some : 0 < length (lent_cells b) = search (rules, arith) in
+    places_are a b old new c.places_between.result.0 c.places_between.result.1 c.requires is_a is_b first_a first_b some widths lone_a lone_b
+    c.places_between.ensures
