@@ -71,10 +71,14 @@ def measure(words):
     def rounds(name, call):
         figures[name] = [call(k) for k in range(WARM + ROUNDS)][WARM:]
 
+    def line_put(row):
+        return lambda k: (server.asks("nvim_buf_set_lines", 0, row, row, True, ["a line that was put in"]) if k % 2 == 0
+                          else server.asks("nvim_buf_set_lines", 0, row, row + 1, True, []))
+
     rounds("a character", lambda k: server.asks("nvim_buf_set_text", 0, 5, 3, 5, 3, ["x"]) if k % 2 == 0
            else server.asks("nvim_buf_set_text", 0, 5, 3, 5, 4, [""]))
-    rounds("a line put in, or taken out", lambda k: server.asks("nvim_buf_set_lines", 0, 5, 5, True, ["a line that was put in"])
-           if k % 2 == 0 else server.asks("nvim_buf_set_lines", 0, 5, 6, True, []))
+    rounds("a line put in, or taken out", line_put(5))
+    rounds("the same in the last row", line_put(37))
     server.asks("nvim_win_set_cursor", 0, [100, 0])
     rounds("a scroll by one", lambda k: server.asks("nvim_win_set_cursor", 0, [101 + k, 0]))
     rounds("a far jump", lambda k: server.asks("nvim_win_set_cursor", 0, [1000 + 4000 * (k % 2) + k, 0]))
