@@ -1,21 +1,12 @@
 //! A headless Neovim: an editor that programs use through Neovim's API over MessagePack-RPC.
 #![tactic(auto)]
 
-mod command;
-mod lanes;
-mod replaying;
-mod serving;
-mod telling;
-mod whole;
-
-use command::run;
 use nv_io::{DiskFiles, Ended, SockPort, StdErr, StdIn, StdOut};
-use nv_watch::{AnyWatcher, BufferFold, Counter, GridFold, MarkCheck};
+use nv_run::{all_watchers, run, status_of, tell_end};
 use nv_world::History;
 use std::alloc::{AllocError, Global};
 use std::process::ExitCode;
 use std::{env, io};
-use telling::{status_of, tell_end};
 
 // The words of the command line, without the program's name.
 fn words_of(rt: &HostRuntime) -> io::Result<Vec<String>> {
@@ -36,15 +27,6 @@ fn strings_of(rt: &HostRuntime) -> Result<Vec<String>, AllocError> {
         Err(error) if error.kind() == io::ErrorKind::OutOfMemory => Err(AllocError),
         Err(_) => Ok(Vec::new(rt.alloc())),
     }
-}
-
-// Each watcher once, which has seen nothing.
-fn all_watchers(alloc: Global) -> Result<Vec<AnyWatcher>, AllocError> {
-    let buffers = AnyWatcher::Buffers(BufferFold::new(alloc));
-    let grids = AnyWatcher::Grids(GridFold::new(alloc));
-    let marks = AnyWatcher::Marks(MarkCheck::new(alloc));
-    let replies = AnyWatcher::Replies(Counter::new(alloc));
-    Ok(vec![in alloc; buffers, grids, marks, replies]?)
 }
 
 // Half of what the C library's allocator is to keep of the memory that is free at the end of its
@@ -98,14 +80,3 @@ fn main(rt: HostRuntime) -> ExitCode {
     port.close(&rt);
     ExitCode::from(status)
 }
-
-#[cfg(test)]
-mod book_tests;
-#[cfg(test)]
-mod hostile_tests;
-#[cfg(test)]
-mod in_memory;
-#[cfg(test)]
-mod serving_tests;
-#[cfg(test)]
-mod tests;

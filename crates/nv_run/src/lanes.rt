@@ -1,0 +1,53 @@
+//! The lanes of a port: those that are taken to be served, and those that go back.
+ghost use Rattle.std.specs.Prelude.{◌≡◌, ◌+◌, ◌≤◌, [], All, option_map, vec_len, vec_capacity};
+ghost use Rattle.std.specs.Bool.{OnFalse, OnTrue};
+ghost use Rattle.nv_io.specs.Faults.{Rose};
+ghost use Rattle.nv_io.specs.Known.{append_items};
+ghost use Rattle.nv_io.specs.Lanes.{IsFreshLane};
+ghost use Rattle.nv_serve.specs.Jobs.{lanes_of};
+ghost use Rattle.nv_run.specs.inside.Lanes.{AreOut};
+
+use nv_io::{Lane, Port};
+use nv_serve::Job;
+use std::net::{Net, TcpListener, TcpStream};
+
+/// Takes so many lanes, for which `jobs` has room. `false` is a fault, and says that `jobs` has
+/// the lanes that were got before it.
+pub fn take_lanes<R: Net<Listener = TcpListener, Stream = TcpStream>, P: Port>(
+    rt: &R,
+    port: &mut P,
+    count: usize,
+    jobs: &mut Vec<Job<P::Line>>,
+) -> bool
+    requires none { jobs.old.items ≡ [] }
+    requires room { count ≤ vec_capacity jobs.old }
+    ensures all { OnTrue result (vec_len jobs.new ≡ count) }
+    ensures few { vec_len jobs.new ≤ count }
+    ensures fresh { All (λ lane. IsFreshLane (P.Line.Lane.over lane) (P.Line.Lane.lent lane)
+        (P.Line.Lane.faults lane)) (lanes_of jobs.new.items) }
+    ensures returned { P.returned port.new ≡ P.returned port.old }
+    ensures lent { P.lent port.new ≡ option_map (λ n. n + vec_len jobs.new) (P.lent port.old) }
+    ensures later { P.faults port.old ≤ P.faults port.new }
+    ensures failed { OnFalse result (Rose (P.faults port.old) (P.faults port.new)) }
+{
+    for _ in 0..count {
+        let Some(lane) = port.lane(rt) else {
+            return false;
+        };
+        jobs.push_reserved(Job::new(lane));
+    }
+    true
+}
+
+/// Hands lanes back that are out, in order.
+pub fn give_back<P: Port>(port: &mut P, jobs: Vec<Job<P::Line>>)
+    requires out { AreOut (P.lent port.old) (vec_len jobs) }
+    ensures returned { P.returned port.new
+        ≡ append_items (P.returned port.old) (lanes_of jobs.items) }
+    ensures lent { P.lent port.old ≡ option_map (λ n. n + vec_len jobs) (P.lent port.new) }
+    ensures later { P.faults port.old ≤ P.faults port.new }
+{
+    for job in jobs {
+        port.back(job.lane);
+    }
+}

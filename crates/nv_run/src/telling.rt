@@ -1,0 +1,227 @@
+//! What the program says of its end: a status, and a line on the errors' stream. It takes no
+//! memory.
+ghost use Rattle.std.specs.Prelude.{◌≡◌, ◌++◌, codes, decimal, flat_map};
+ghost use Rattle.nv_io.specs.Streams.{Tells};
+ghost use Rattle.nv_io.specs.declared.ending.Ended.TheVariants.{Malformed};
+ghost use Rattle.nv_replay.specs.declared.ending.ReplayEnd.TheVariants.{Objects};
+ghost use Rattle.nv_run.specs.Statuses.{line_of, line_of_replay, line_of_script, line_of_server, malformed_line, status_of, status_of_replay, status_of_script, status_of_server};
+
+use crate::serving::ServerEnd;
+use itoa::Buffer;
+use nv_io::{Ended, Flaw, Sink, put_all};
+use nv_replay::{ReplayEnd, WriteEnd};
+use std::net::{Net, TcpListener, TcpStream};
+
+/// The status of an end.
+pub fn status_of(ended: Ended) -> u8
+    ensures { result ≡ status_of ended }
+{
+    match ended {
+        Ended::Closed | Ended::Quit(_) => 0,
+        Ended::NoMemory => 1,
+        Ended::ReadFault => 3,
+        Ended::WriteFault => 4,
+        Ended::Malformed(_) => 6,
+        Ended::Overflowed(_) => 7,
+    }
+}
+
+/// The status of the end of a server.
+pub fn status_of_server(ended: ServerEnd) -> u8
+    ensures { result ≡ status_of_server ended }
+{
+    match ended {
+        ServerEnd::Done => 0,
+        ServerEnd::NoMemory => 1,
+        ServerEnd::Failed => 5,
+        ServerEnd::WriteFault => 4,
+    }
+}
+
+/// The status of the end of a replay.
+pub fn status_of_replay(ended: ReplayEnd) -> u8
+    ensures { result ≡ status_of_replay ended }
+{
+    match ended {
+        ReplayEnd::Done => 0,
+        ReplayEnd::NoMemory => 1,
+        ReplayEnd::ReadFault => 3,
+        ReplayEnd::WriteFault => 4,
+        ReplayEnd::Malformed(_) => 6,
+        ReplayEnd::Differs(_) | ReplayEnd::Objects { .. } => 8,
+    }
+}
+
+/// The status of the end of the writing of a script's book.
+pub fn status_of_script(ended: WriteEnd) -> u8
+    ensures { result ≡ status_of_script ended }
+{
+    match ended {
+        WriteEnd::Done => 0,
+        WriteEnd::NoMemory => 1,
+        WriteEnd::WriteFault => 4,
+    }
+}
+
+/// Writes the parts of a line to `errors`, one after another, up to a fault.
+pub fn tell<R: Net<Listener = TcpListener, Stream = TcpStream>, E: Sink>(
+    rt: &R,
+    errors: &mut E,
+    parts: &[&str],
+)
+    ensures { Tells (flat_map (λ part. part.now) parts.now) (E.taken errors.old)
+        (E.taken errors.new) (E.faults errors.old) (E.faults errors.new) }
+{
+    for part in parts {
+        if !put_all(rt, errors, part.as_bytes()) {
+            return;
+        }
+    }
+}
+
+// The word of a flaw, and its place.
+fn word_of(flaw: Flaw) -> (&'static str, u64)
+    ensures { line_of (Malformed flaw) ≡ malformed_line result.0.now result.1 }
+{
+    match flaw {
+        Flaw::Bad(place) => ("bad", place),
+        Flaw::TooDeep(place) => ("deep", place),
+        Flaw::TooLong(place) => ("long", place),
+        Flaw::Inside(place) => ("cut", place),
+        Flaw::NoCall(number) => ("call", number),
+    }
+}
+
+/// Writes the line of an end to `errors`, where it has one.
+pub fn tell_end<R: Net<Listener = TcpListener, Stream = TcpStream>, E: Sink>(
+    rt: &R,
+    errors: &mut E,
+    ended: Ended,
+)
+    ensures { Tells (line_of ended) (E.taken errors.old) (E.taken errors.new) (E.faults errors.old)
+        (E.faults errors.new) }
+{
+    let mut digits = Buffer::new();
+    match ended {
+        Ended::Closed | Ended::Quit(_) => tell(rt, errors, &[]),
+        Ended::NoMemory => tell(rt, errors, &["nvimd: out of memory\n"]),
+        Ended::ReadFault => tell(rt, errors, &["nvimd: read fault\n"]),
+        Ended::WriteFault => tell(rt, errors, &["nvimd: write fault\n"]),
+        Ended::Malformed(flaw) => {
+            let (word, place) = word_of(flaw);
+            let place = digits.format(place);
+            tell(
+                rt,
+                errors,
+                &["nvimd: malformed input: ", word, " at ", place, "\n"],
+            );
+        }
+        Ended::Overflowed(entry) => {
+            let entry = digits.format(entry);
+            tell(
+                rt,
+                errors,
+                &["nvimd: outbox overflow at entry ", entry, "\n"],
+            );
+        }
+    }
+}
+
+/// Writes the line of the end of a server to `errors`, where it has one.
+pub fn tell_server<R: Net<Listener = TcpListener, Stream = TcpStream>, E: Sink>(
+    rt: &R,
+    errors: &mut E,
+    ended: ServerEnd,
+)
+    ensures { Tells (line_of_server ended) (E.taken errors.old) (E.taken errors.new)
+        (E.faults errors.old) (E.faults errors.new) }
+{
+    match ended {
+        ServerEnd::Done => tell(rt, errors, &[]),
+        ServerEnd::NoMemory => tell(rt, errors, &["nvimd: out of memory\n"]),
+        ServerEnd::Failed => tell(rt, errors, &["nvimd: listener fault\n"]),
+        ServerEnd::WriteFault => tell(rt, errors, &["nvimd: write fault\n"]),
+    }
+}
+
+// Writes a line to `errors` that ends with a number.
+fn tell_number<R: Net<Listener = TcpListener, Stream = TcpStream>, E: Sink>(
+    rt: &R,
+    errors: &mut E,
+    words: &str,
+    number: u64,
+)
+    ensures { Tells (words.now ++ (decimal number ++ codes "\n")) (E.taken errors.old)
+        (E.taken errors.new) (E.faults errors.old) (E.faults errors.new) }
+{
+    let mut digits = Buffer::new();
+    let number = digits.format(number);
+    tell(rt, errors, &[words, number, "\n"]);
+}
+
+// Writes the line of the watcher that says no to `errors`.
+fn tell_no<R: Net<Listener = TcpListener, Stream = TcpStream>, E: Sink>(
+    rt: &R,
+    errors: &mut E,
+    watcher: u64,
+    entry: u64,
+)
+    ensures { Tells (line_of_replay (Objects watcher entry)) (E.taken errors.old)
+        (E.taken errors.new) (E.faults errors.old) (E.faults errors.new) }
+{
+    let mut digits = Buffer::new();
+    let mut more = Buffer::new();
+    let watcher = digits.format(watcher);
+    let entry = more.format(entry);
+    tell(
+        rt,
+        errors,
+        &[
+            "nvimd: watcher ",
+            watcher,
+            " says no at entry ",
+            entry,
+            "\n",
+        ],
+    );
+}
+
+/// Writes the line of the end of a replay to `errors`, where it has one.
+pub fn tell_replay<R: Net<Listener = TcpListener, Stream = TcpStream>, E: Sink>(
+    rt: &R,
+    errors: &mut E,
+    ended: ReplayEnd,
+)
+    ensures { Tells (line_of_replay ended) (E.taken errors.old) (E.taken errors.new)
+        (E.faults errors.old) (E.faults errors.new) }
+{
+    match ended {
+        ReplayEnd::Done => tell(rt, errors, &[]),
+        ReplayEnd::NoMemory => tell(rt, errors, &["nvimd: out of memory\n"]),
+        ReplayEnd::ReadFault => tell(rt, errors, &["nvimd: read fault\n"]),
+        ReplayEnd::WriteFault => tell(rt, errors, &["nvimd: write fault\n"]),
+        ReplayEnd::Malformed(place) => {
+            tell_number(rt, errors, "nvimd: malformed book at ", place);
+        }
+        ReplayEnd::Differs(entry) => {
+            tell_number(rt, errors, "nvimd: check differs at entry ", entry);
+        }
+        ReplayEnd::Objects { watcher, entry } => tell_no(rt, errors, watcher, entry),
+    }
+}
+
+/// Writes the line of the end of the writing of a script's book to `errors`, where it has one.
+pub fn tell_script<R: Net<Listener = TcpListener, Stream = TcpStream>, E: Sink>(
+    rt: &R,
+    errors: &mut E,
+    ended: WriteEnd,
+)
+    ensures { Tells (line_of_script ended) (E.taken errors.old) (E.taken errors.new)
+        (E.faults errors.old) (E.faults errors.new) }
+{
+    match ended {
+        WriteEnd::Done => tell(rt, errors, &[]),
+        WriteEnd::NoMemory => tell(rt, errors, &["nvimd: out of memory\n"]),
+        WriteEnd::WriteFault => tell(rt, errors, &["nvimd: write fault\n"]),
+    }
+}

@@ -1,5 +1,0 @@
-use Rattle.nvimd.proofs.Books.{given_out}
-use Rattle.nvimd.proofs.replaying.replay.Goals as goal
-
-pub back_source-requires : goal.back_source-requires
-back_source-requires g c = given_out _ _ (g.F.Files.lent_sources c.args.files.now) _ c.in-Some.is c.source.ensures.lent_sources
