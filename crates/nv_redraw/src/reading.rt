@@ -29,6 +29,7 @@ fn are_told_by(alloc: Global, events: &[Redraw], value: &Value) -> Result<bool, 
 {
     let told = batch_value(alloc, events)?;
     let same = same_value(&told, value);
+    drop(told);
     Ok(same)
 }
 

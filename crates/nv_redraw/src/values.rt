@@ -54,11 +54,38 @@ fn entry_of(alloc: Global, name: &[u8], events: &[Redraw]) -> Result<Value, Allo
     ensures { IfOk result (λ value. content value
         ≡ entry_tree (record { name = name.now; events = events.now })) }
 {
-    let mut items = vec![in alloc; Value::Text(Bytes::from_slice(alloc, name)?)]?;
-    for event in events {
-        items.push(event_value(alloc, event)?)?;
-    }
+    let mut items = Vec::with_capacity(alloc, 1)?;
+    push_text(&mut items, alloc, name)?;
+    push_events(&mut items, alloc, events)?;
     Ok(Value::List(items))
+}
+
+// Puts the arguments of events behind other values.
+fn push_events(items: &mut Vec<Value>, alloc: Global, events: &[Redraw]) -> Result<(), AllocError>
+    ensures { OnOk result (map content items.new.items
+        ≡ map content items.old.items ++ map event_tree events.now) }
+{
+    for event in events {
+        push_value(items, event_value(alloc, event)?)?;
+    }
+    Ok(())
+}
+
+fn push_text(items: &mut Vec<Value>, alloc: Global, bytes: &[u8]) -> Result<(), AllocError>
+    ensures { OnOk result (map content items.new.items
+        ≡ map content items.old.items ++ text bytes.now ∷ []) }
+{
+    let bytes = Bytes::from_slice(alloc, bytes)?;
+    push_value(items, Value::Text(bytes))
+}
+
+// Puts a value behind others.
+fn push_value(items: &mut Vec<Value>, value: Value) -> Result<(), AllocError>
+    ensures { OnOk result (map content items.new.items
+        ≡ map content items.old.items ++ content value ∷ []) }
+{
+    items.push(value)?;
+    Ok(())
 }
 
 fn number(n: u32) -> Value
@@ -82,10 +109,24 @@ fn numbers_value(alloc: Global, numbers: &[i64]) -> Result<Value, AllocError>
     ensures { IfOk result (λ value. content value ≡ tuple_tree (map integer numbers.now)) }
 {
     let mut items = Vec::with_capacity(alloc, numbers.len())?;
-    for number in numbers {
-        items.push(Value::Int(*number))?;
-    }
+    push_numbers(&mut items, numbers)?;
     Ok(Value::List(items))
+}
+
+fn push_numbers(items: &mut Vec<Value>, numbers: &[i64]) -> Result<(), AllocError>
+    ensures { OnOk result (map content items.new.items
+        ≡ map content items.old.items ++ map integer numbers.now) }
+{
+    for number in numbers {
+        push_value(items, number_value(number))?;
+    }
+    Ok(())
+}
+
+fn number_value(number: &i64) -> Value
+    ensures { content result ≡ integer number.now }
+{
+    Value::Int(*number)
 }
 
 // The arguments of an event.
@@ -193,10 +234,18 @@ fn runs_value(alloc: Global, runs: &[Run]) -> Result<Value, AllocError>
     ensures { IfOk result (λ value. content value ≡ tuple_tree (map run_tree runs.now)) }
 {
     let mut items = Vec::with_capacity(alloc, runs.len())?;
-    for run in runs {
-        items.push(run_value(alloc, run)?)?;
-    }
+    push_runs(&mut items, alloc, runs)?;
     Ok(Value::List(items))
+}
+
+fn push_runs(items: &mut Vec<Value>, alloc: Global, runs: &[Run]) -> Result<(), AllocError>
+    ensures { OnOk result (map content items.new.items
+        ≡ map content items.old.items ++ map run_tree runs.now) }
+{
+    for run in runs {
+        push_value(items, run_value(alloc, run)?)?;
+    }
+    Ok(())
 }
 
 fn run_value(alloc: Global, run: &Run) -> Result<Value, AllocError>
@@ -273,7 +322,10 @@ fn push_colour(
 {
     match colour {
         None => Ok(()),
-        Some(colour) => push_pair(fields, alloc, key, number(colour)),
+        Some(colour) => {
+            let key = Bytes::from_slice(alloc, key)?;
+            push_pair(fields, key, number(colour))
+        }
     }
 }
 
@@ -287,22 +339,18 @@ fn push_flag(
         ≡ map pair_content fields.old.items ++ pair_if_there key.now (flag_tree flag)) }
 {
     if flag {
-        push_pair(fields, alloc, key, Value::Truth(true))
+        let key = Bytes::from_slice(alloc, key)?;
+        push_pair(fields, key, Value::Truth(true))
     } else {
         Ok(())
     }
 }
 
-fn push_pair(
-    fields: &mut Vec<Pair>,
-    alloc: Global,
-    key: &[u8],
-    value: Value,
-) -> Result<(), AllocError>
+fn push_pair(fields: &mut Vec<Pair>, key: Bytes, value: Value) -> Result<(), AllocError>
     ensures { OnOk result (map pair_content fields.new.items
-        ≡ map pair_content fields.old.items ++ (text key.now, content value) ∷ []) }
+        ≡ map pair_content fields.old.items ++ (text key, content value) ∷ []) }
 {
-    let key = Value::Text(Bytes::from_slice(alloc, key)?);
+    let key = Value::Text(key);
     fields.push(Pair { key, value })?;
     Ok(())
 }
