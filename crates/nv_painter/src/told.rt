@@ -155,15 +155,15 @@ fn moves(
     alloc: Global,
     is_resized: bool,
     olds: &[PaneView],
-    picture: &Picture,
+    news: &[PaneView],
 ) -> Result<Vec<Shift>, AllocError>
-    requires { All EndsInReach picture.now.views }
-    ensures { IfOk result (λ shifts. shifts.items ≡ moves is_resized olds.now picture.now.views) }
+    requires { All EndsInReach news.now }
+    ensures { IfOk result (λ shifts. shifts.items ≡ moves is_resized olds.now news.now) }
 {
     if is_resized {
         return Ok(Vec::new(alloc));
     }
-    shifts_between(alloc, olds, picture.views.as_slice())
+    shifts_between(alloc, olds, news)
 }
 
 // The rows before the scrolls: spaces where the size is new.
@@ -171,13 +171,13 @@ fn rows_to_move(
     alloc: Global,
     is_resized: bool,
     rows: Vec<ShownRow>,
-    picture: &Picture,
+    screen: &Grid,
 ) -> Result<Vec<ShownRow>, AllocError>
     ensures { IfOk result
-        (λ before. before.items ≡ rows_to_move is_resized rows.items picture.now.screen) }
+        (λ before. before.items ≡ rows_to_move is_resized rows.items screen.now) }
 {
     if is_resized {
-        return blank_rows(alloc, picture.screen.width(), picture.screen.height());
+        return blank_rows(alloc, screen.width(), screen.height());
     }
     Ok(rows)
 }
@@ -270,8 +270,41 @@ fn told_next(
     requires drawn { IsDrawn picture }
     ensures { IfOk result (λ next. IsToldNext old picture next.0.items next.1) }
 {
-    let width = picture.screen.width();
-    let height = picture.screen.height();
+    let views = picture.views;
+    told_screen(
+        alloc,
+        old,
+        &picture.screen,
+        picture.colours,
+        picture.cursor,
+        views,
+    )
+}
+
+// The same by the parts of the picture, of which the screen is lent.
+fn told_screen(
+    alloc: Global,
+    old: ToldScreen,
+    screen: &Grid,
+    colours: Colours,
+    cursor: (u32, u32),
+    views: Vec<PaneView>,
+) -> Result<(Vec<Redraw>, ToldScreen), AllocError>
+    requires { IsDrawn (record {
+      screen = screen.now;
+      colours = colours;
+      cursor = cursor;
+      views = views.items;
+    }) }
+    ensures { IfOk result (λ next. IsToldNext old (record {
+      screen = screen.now;
+      colours = colours;
+      cursor = cursor;
+      views = views.items;
+    }) next.0.items next.1) }
+{
+    let width = screen.width();
+    let height = screen.height();
     let is_resized = !is_size(old.size, width, height);
     let mut events = Vec::new(alloc);
     let size = Redraw::Resize {
@@ -280,14 +313,13 @@ fn told_next(
         height,
     };
     push_if(&mut events, is_resized, size)?;
-    push_colours(&mut events, old.colours, picture.colours)?;
-    let moved = moves(alloc, is_resized, old.views.as_slice(), &picture)?;
+    push_colours(&mut events, old.colours, colours)?;
+    let moved = moves(alloc, is_resized, old.views.as_slice(), views.as_slice())?;
     let shifts = moved.as_slice();
-    let before = rows_to_move(alloc, is_resized, old.rows, &picture)?;
+    let before = rows_to_move(alloc, is_resized, old.rows, screen)?;
     let mut rows = rows_after_shifts(alloc, before, shifts)?;
     let mut attrs = old.attrs;
-    let views = picture.views;
-    let lent = lend(alloc, picture.screen.rows())?;
+    let lent = lend(alloc, screen.rows())?;
     push_screen(
         alloc,
         &mut events,
@@ -299,14 +331,14 @@ fn told_next(
         &[],
         lent.as_slice(),
     )?;
-    let cursor = cursor_before(is_resized, old.cursor);
-    push_end(&mut events, cursor, picture.cursor)?;
+    let place = cursor_before(is_resized, old.cursor);
+    push_end(&mut events, place, cursor)?;
     let told = ToldScreen {
         size: Some((width, height)),
         rows,
         attrs,
-        colours: Some(picture.colours),
-        cursor: Some(picture.cursor),
+        colours: Some(colours),
+        cursor: Some(cursor),
         views,
     };
     Ok((events, told))
