@@ -9,7 +9,9 @@ ghost use Rattle.nv_args.specs.Table.{table};
 ghost use Rattle.nv_api_buf.specs.inside.Shapes.{form_of_row, parameter_shaped, function_shaped, event_shaped};
 
 use crate::limits::any_of;
-use crate::told::{Told, events, functions};
+use crate::told::{
+    Told, api_functions, buffer_functions, events, mark_functions, tab_functions, window_functions,
+};
 use nv_value::{Bytes, Items, Pair, Value};
 use std::alloc::{AllocError, Global};
 
@@ -143,22 +145,36 @@ fn event(alloc: Global, told: &Told) -> Result<Value, AllocError>
     Ok(Value::Pairs(fields))
 }
 
-fn functions_value(alloc: Global) -> Result<Value, AllocError>
-    ensures { IfOk result (λ value. content value ≡ array_of (map function table)) }
+// Puts functions behind others.
+fn put_functions(alloc: Global, items: &mut Items, table: &[Told]) -> Result<(), AllocError>
+    ensures { OnOk result (map content items.new.items
+        ≡ map content items.old.items ++ map (λ t. function_shaped (form_of_row t)) table.now) }
 {
-    let items = functions_shaped(alloc, functions())?;
-    Ok(Value::List(items))
-}
-
-fn functions_shaped(alloc: Global, table: &[Told]) -> Result<Items, AllocError>
-    ensures { IfOk result (λ items. map content items.items
-        ≡ map (λ t. function_shaped (form_of_row t)) table.now) }
-{
-    let mut items = Vec::new(alloc);
     for told in table {
         items.push(function(alloc, told)?)?;
     }
-    Ok(items)
+    Ok(())
+}
+
+// Puts the functions of the API behind others.
+fn put_all_functions(alloc: Global, items: &mut Items) -> Result<(), AllocError>
+    ensures { OnOk result (map content items.new.items
+        ≡ map content items.old.items ++ map function table) }
+{
+    put_functions(alloc, items, api_functions())?;
+    put_functions(alloc, items, buffer_functions())?;
+    put_functions(alloc, items, mark_functions())?;
+    put_functions(alloc, items, window_functions())?;
+    put_functions(alloc, items, tab_functions())?;
+    Ok(())
+}
+
+fn functions_value(alloc: Global) -> Result<Value, AllocError>
+    ensures { IfOk result (λ value. content value ≡ array_of (map function table)) }
+{
+    let mut items = Vec::new(alloc);
+    put_all_functions(alloc, &mut items)?;
+    Ok(Value::List(items))
 }
 
 fn events_value(alloc: Global) -> Result<Value, AllocError>

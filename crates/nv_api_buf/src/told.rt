@@ -1,7 +1,6 @@
 //! The tables of what the server tells of its API (help: api-metadata, ui-events).
 ghost use Rattle.std.specs.Prelude.{◌≡◌, map};
-ghost use Rattle.nv_args.specs.Table.{table};
-ghost use Rattle.nv_api_buf.specs.inside.Shapes.{form_of_row, form_of_method, event_shapes};
+ghost use Rattle.nv_api_buf.specs.inside.Shapes.{form_of_row, forms_from, event_shapes};
 
 /// A function, or an event of a UI, as it is told.
 #[derive(Clone, Copy)]
@@ -13,11 +12,39 @@ pub struct Told {
     pub result: &'static str,
 }
 
-/// The functions of the API.
-pub fn functions() -> &'static [Told]
-    ensures { map form_of_row result.now ≡ map form_of_method table }
+/// The functions of the API itself, and those on options.
+pub fn api_functions() -> &'static [Told]
+    ensures { map form_of_row result.now ≡ forms_from 0 7 }
 {
-    &FUNCTIONS
+    &API_FUNCTIONS
+}
+
+/// The functions on buffers.
+pub fn buffer_functions() -> &'static [Told]
+    ensures { map form_of_row result.now ≡ forms_from 7 17 }
+{
+    &BUFFER_FUNCTIONS
+}
+
+/// The functions on namespaces, marks and highlight groups.
+pub fn mark_functions() -> &'static [Told]
+    ensures { map form_of_row result.now ≡ forms_from 24 10 }
+{
+    &MARK_FUNCTIONS
+}
+
+/// The functions on windows.
+pub fn window_functions() -> &'static [Told]
+    ensures { map form_of_row result.now ≡ forms_from 34 16 }
+{
+    &WINDOW_FUNCTIONS
+}
+
+/// The functions on tabpages and UIs.
+pub fn tab_functions() -> &'static [Told]
+    ensures { map form_of_row result.now ≡ forms_from 50 12 }
+{
+    &TAB_FUNCTIONS
 }
 
 /// The events of a UI.
@@ -27,7 +54,7 @@ pub fn events() -> &'static [Told]
     &EVENTS
 }
 
-static FUNCTIONS: [Told; 62] = [
+static API_FUNCTIONS: [Told; 7] = [
     Told {
         name: "nvim_get_api_info",
         parameters: &[],
@@ -69,6 +96,9 @@ static FUNCTIONS: [Told; 62] = [
         parameters: &[("String", "name"), ("Object", "value"), ("Dict", "opts")],
         result: "void",
     },
+];
+
+static BUFFER_FUNCTIONS: [Told; 17] = [
     Told {
         name: "nvim_list_bufs",
         parameters: &[],
@@ -183,6 +213,9 @@ static FUNCTIONS: [Told; 62] = [
         parameters: &[("Buffer", "buffer")],
         result: "Boolean",
     },
+];
+
+static MARK_FUNCTIONS: [Told; 10] = [
     Told {
         name: "nvim_create_namespace",
         parameters: &[("String", "name")],
@@ -259,6 +292,9 @@ static FUNCTIONS: [Told; 62] = [
         parameters: &[("String", "name")],
         result: "Integer",
     },
+];
+
+static WINDOW_FUNCTIONS: [Told; 16] = [
     Told {
         name: "nvim_list_wins",
         parameters: &[],
@@ -343,6 +379,9 @@ static FUNCTIONS: [Told; 62] = [
         parameters: &[("Window", "window")],
         result: "Tabpage",
     },
+];
+
+static TAB_FUNCTIONS: [Told; 12] = [
     Told {
         name: "nvim_list_tabpages",
         parameters: &[],

@@ -1,8 +1,8 @@
 -- inside: functions and events as the tables of the code have them.
 use Prim.Native.String.{String}
-use Rattle.std.specs.Prelude.{ℕ, List, [], ◌∷◌, ◌++◌, map, codes}
+use Rattle.std.specs.Prelude.{ℕ, List, [], ◌∷◌, ◌++◌, map, take, drop, codes}
 use Rattle.nv_value.specs.Content.{Tree, truth, text}
-use Rattle.nv_args.specs.Table.{Signature, type_name, result_name}
+use Rattle.nv_args.specs.Table.{Signature, type_name, result_name, table}
 use Rattle.nv_model.specs.Answering.{array_of, natural, key_value, dict_of}
 use Rattle.nv_api_buf.specs.Metadata.{is_method}
 use Rattle.nv_api_buf.specs.declared.told.Told.{Told}
@@ -27,6 +27,10 @@ form_of_method f = record {
   parameters = map (λ p. (type_name p.kind, p.name)) f.parameters;
   result = result_name f.result;
 }
+
+-- so many functions from one of this number, counted from 0
+abbrev pub forms_from : ℕ → ℕ → List ToldForm
+forms_from from count = map form_of_method (take count (drop from table))
 
 -- a parameter, a function and an event of such a shape
 abbrev pub parameter_shaped : List ℕ × List ℕ → Tree

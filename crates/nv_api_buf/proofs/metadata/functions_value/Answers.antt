@@ -1,12 +1,15 @@
-use Rattle.std.proofs.Common.{List, map, ap, sym, ◌∙◌}
+use Rattle.std.proofs.Common.{List, ◌++◌, map, ap, ◌∙◌}
 use Rattle.nv_value.specs.Content.{Tree, list, trees_of}
+use Rattle.nv_value.specs.View.{content}
+use Rattle.nv_value.specs.declared.value.Value.{Value}
 use Rattle.nv_value.proofs.Contents.{content-List}
-use Rattle.nv_api_buf.specs.inside.Shapes.{function_shaped, form_of_row}
-use Rattle.nv_api_buf.proofs.Tables.{map_twice, functions_are}
+use Rattle.nv_args.specs.Table.{table}
+use Rattle.nv_api_buf.specs.Metadata.{function}
 use Rattle.nv_api_buf.proofs.metadata.functions_value.Goals as goal
 
 pub returns : goal.returns
 returns c =
-    content-List c.in_ok-items.items
+    let put = c.in_ok-put_all_functions.ensures in
+    content-List c.put_all_functions.new.items
     ∙ ap (λ (ts : List Tree). list (trees_of ts))
-    (c.in_ok-items.ensures ∙ sym (map_twice function_shaped form_of_row c.functions.result.now) ∙ ap (map function_shaped) c.functions.ensures ∙ functions_are)
+    (put ∙ ap (λ (xs : List Value). map content xs ++ map function table) c.new-items.ensures.items)
