@@ -2,8 +2,10 @@
 """Books of `nvimd` beside a reader of their own (clients/book.py): those that `generate` and `serve --book` write.
 
 Each is spelled as it must be, `replay --check` finds it right and counts its entries, and `replay` gives each session what it was
-sent. Values in their longest spellings are read as well. What is no book is refused with the place of the value that is wrong, a
-changed output is found, and so is what can't be read or written: each by its status and its line, and nothing else is written.
+sent. What `generate` has its sessions ask is what the rules give (clients/script.py). A session isn't heard while half an outbox
+waits for it, and ends where its outbox runs over. Values in their longest spellings are read as well. What is no book is refused
+with the place of the value that is wrong, a changed output is found, and so is what can't be read or written: each by its status
+and its line, and nothing else is written.
 
 Usage: clients/books.py       from anywhere; it starts the launcher `nvimd`
 Wants Debian's python3-msgpack.
@@ -21,9 +23,11 @@ import msgpack
 from book import PIECE, Values, held, held_by_sessions, spelled
 from rpc import LONG, Serve, finished, limit
 from scenes import Count
+from script import script
 from server import Ended
 
 MOST_SECONDS = 300
+MOST_BYTES = 67_109_120  # of a value of a book
 # of a number, the bytes of what is generated, and their sum
 GENERATED = {
     7: (858_848, "02515d4ed4da593e6661e13e302f797523fbc5fda3e948595d0faf0d0e3fb05a"),
@@ -31,6 +35,11 @@ GENERATED = {
 }
 SUMMARY = "entries 6871 sessions 3 takes 4862 bytes 728618 ok\n"  # of the book of 7
 
+# of a number, how many requests of its script there are of each of these methods, how many others, and the sum of the letters put
+METHODS = ["nvim_buf_set_lines", "nvim_buf_set_extmark", "nvim_command", "nvim_win_set_cursor", "nvim_buf_get_lines"]
+SUMS = {7: [987, 400, 221, 199, 193, 3, 1_481_881], (1 << 64) - 1: [990, 419, 213, 186, 192, 3, 1_523_997]}
+
+OUTBOX = 16  # the least
 NAME = "nvim_buf_line_count"
 SMALL = [
     ["nvimd-book", 1, 4096], ["o", 0], ["r", 0, 1, 1, NAME, [0]], ["t", 0, 1, 1], b"\x94\x01\x01\xc0\x01", ["c", 0, 1], ["end", 4],
@@ -61,6 +70,28 @@ BAD_WORDS = [
     ["serve", "--listen", "/x", "--book"],
     ["generate"], ["generate", "-1"], ["generate", str(1 << 64)], ["generate", "seven"], ["generate", "7", "8"],
 ]
+
+
+def sums(entries):
+    """The sums of the requests among the entries of a script."""
+    asked = [told[4:] for told in entries if told[0] == "r"]
+    counts = [sum(name == method for name, _ in asked) for method in METHODS]
+    letters = sum(sum(line.encode()) for name, params in asked if name == METHODS[0] for line in params[4])
+    return [*counts, len(asked) - sum(counts), letters]
+
+
+def edit(session, msgid):
+    """A session puts a line in front of all others."""
+    return ["r", 0, session, msgid, "nvim_buf_set_lines", [1, 0, 0, True, ["a"]]]
+
+
+def event(name, *params):
+    """An event of buffer 1."""
+    return msgpack.packb([2, name, [msgpack.ExtType(0, b"\x01"), *params]])
+
+
+def replied(msgid, result=None):
+    return msgpack.packb([1, msgid, None, result])
 
 
 def longest(value):
@@ -116,6 +147,9 @@ class Books(Count):
             self.same(f"the book of {number}", (len(data), hashlib.sha256(data).hexdigest(), *end), (size, wanted, 0, ""))
             self.same(f"the book of {number} again", finished("generate", str(number))[0] == data, True)
             book = held(self, self.write(str(number), data))
+            entries = [entry for entry, _ in book.entries if entry[0] != "t"]
+            self.same(f"what is asked by the script of {number}", entries == script(number), True)
+            self.same(f"the sums of the script of {number}", sums(entries), SUMS[number])
             if number == 7:
                 self.same("what it counts", book.summary(), SUMMARY)
                 self.long_forms(book)
@@ -160,6 +194,30 @@ class Books(Count):
             true = spelled([[2, 1, SMALL[4]]])
             self.same("another output, replayed", finished("replay", self.write("changed", changed)), (true, 0, ""))
 
+    def whole(self, values):
+        """A book of these values is right."""
+        entries = sum(isinstance(value, list) for value in values) - 1
+        held(self, self.write("whole", spelled([*values, ["end", entries]])))
+
+    def outboxes(self):
+        """Sessions that take nothing meanwhile: one that asks, and one that is told what another does."""
+        waiting = [["nvimd-book", 1, OUTBOX], ["o", 0], *(edit(1, n) for n in range(1, 9))]
+        replies = b"".join(map(replied, range(1, 9)))
+        taken = [*waiting, ["t", 0, 1, 1], replies, edit(1, 9), ["t", 0, 1, 1], replied(9)]
+        self.whole(taken)
+        self.malformed("a ninth request while eight replies wait", spelled([*waiting, edit(1, 9)]), len(spelled(waiting)))
+        front = [
+            ["nvimd-book", 1, OUTBOX], ["o", 0], ["o", 0], ["r", 0, 2, 1, "nvim_buf_attach", [1, False, {}]], ["t", 0, 2, 1],
+            event("nvim_buf_changedtick_event", 2) + replied(1, True),
+        ]
+        for n in range(1, OUTBOX + 2):
+            front += [edit(1, n), ["t", 0, 1, 1], replied(n)]
+        events = b"".join(event("nvim_buf_lines_event", tick, 0, 0, ["a"], False) for tick in range(3, 3 + OUTBOX))
+        over = [*front, ["t", 0, 2, 1], events]
+        self.whole([*over, edit(1, 18), ["t", 0, 1, 1], replied(18), ["c", 0, 1]])
+        for entry in (["t", 0, 2, 0], ["t", 0, 2, 1], edit(2, 2)):
+            self.malformed(f"{entry[0]} of a session whose outbox ran over", spelled([*over, entry]), len(spelled(over)))
+
     def served(self):
         """The book of a server over a longer file: what its clients asked for, and what they read; an output is of three pieces."""
         path = self.write("served", b"\xc1" * (8 * PIECE))
@@ -198,6 +256,21 @@ class Books(Count):
         values[number + 1 : number + 3] = [one[:-1], one[-1:] + two]
         self.malformed("a short piece", spelled(values), len(spelled(values[: number + 1])))
 
+    def greatest(self):
+        """A value of as many bytes as may be, and one of a byte more."""
+        begun = [["nvimd-book", 1, 4096], ["o", 0]]
+        reply = msgpack.packb([1, 1, [0, "Invalid method: x"], None])
+        for more in (0, 1):
+            call = ["r", 0, 1, 1, "x", [bytes(MOST_BYTES)]]
+            call[5] = [bytes(2 * MOST_BYTES + more - len(msgpack.packb(call)))]
+            self.same("its bytes", len(msgpack.packb(call)), MOST_BYTES + more)
+            data = spelled([*begun, call, ["t", 0, 1, 1], reply, ["c", 0, 1], ["end", 4]])
+            if more:
+                self.malformed("a value of a byte more", data, len(spelled(begun)))
+            else:
+                told = f"entries 4 sessions 1 takes 1 bytes {len(reply)} ok\n".encode()
+                self.same("the greatest value", finished("replay", self.write("greatest", data), "--check"), (told, 0, ""))
+
     def devices(self):
         """What can't be read or written."""
         path = self.write("small", spelled(SMALL))
@@ -227,7 +300,15 @@ def main():
     limit(MOST_SECONDS)
     with tempfile.TemporaryDirectory() as folder:
         books = Books(folder)
-        for part in (books.generated, books.small, books.served, books.devices, books.bad_words):
+        for part in (
+            books.generated,
+            books.small,
+            books.outboxes,
+            books.greatest,
+            books.served,
+            books.devices,
+            books.bad_words,
+        ):
             try:
                 part()
             except Ended as ended:

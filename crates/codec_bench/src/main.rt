@@ -4,7 +4,9 @@
 //! The arguments are `decode` or `encode` and the number of times. To encode, the values are
 //! decoded once. What is printed is the number of values, and of the bytes that they are encoded
 //! to. With the word `copy` the values are written to standard output, each in its shortest
-//! spelling.
+//! spelling. With the word `read` the values are binaries, and for each of them one line tells what
+//! its bytes begin with: a value in its shortest spelling and how many bytes it has there, or the
+//! flaw and its place.
 #![tactic(auto)]
 
 ghost use Rattle.std.specs.Prelude.{IfOk};
@@ -62,6 +64,31 @@ fn encode_all(values: &Vec<Value>, into: &mut Vec<u8>) -> Result<(), AllocError>
     Ok(())
 }
 
+/// Adds what these bytes begin with: a value's shortest spelling and its length, or a flaw.
+fn read_one(alloc: Global, bytes: &[u8], into: &mut Vec<u8>) -> Result<(), AllocError> {
+    let told = match decode(alloc, bytes, BOUNDS)? {
+        Decoded::Whole(value, length) => {
+            encode(&value, into)?;
+            format!(in alloc; " in {length}\n")?
+        }
+        Decoded::NeedsMore => format!(in alloc; "cut 0\n")?,
+        Decoded::Bad(place) => format!(in alloc; "bad {place}\n")?,
+        Decoded::TooDeep(place) => format!(in alloc; "deep {place}\n")?,
+        Decoded::TooLong(place) => format!(in alloc; "long {place}\n")?,
+    };
+    into.extend_from_slice(told.as_bytes())
+}
+
+/// What the bytes of each binary begin with.
+fn read_all(alloc: Global, values: &Vec<Value>, into: &mut Vec<u8>) -> Result<(), AllocError> {
+    for value in values {
+        if let Value::Bin(bytes) = value {
+            read_one(alloc, bytes.as_slice(), into)?;
+        }
+    }
+    Ok(())
+}
+
 /// What to do with the values on standard input.
 #[derive(Clone, Copy)]
 enum Job {
@@ -71,13 +98,46 @@ enum Job {
     Encode,
     /// Write their shortest spellings to standard output.
     Copy,
+    /// Tell what the bytes of each begin with.
+    Read,
 }
 
 fn job_of(word: &str) -> Job {
     match word {
         "decode" => Job::Decode,
         "copy" => Job::Copy,
+        "read" => Job::Read,
         _ => Job::Encode,
+    }
+}
+
+/// Does the job, so many times where it is measured.
+fn work(
+    alloc: Global,
+    job: Job,
+    times: u32,
+    bytes: &[u8],
+    values: &Vec<Value>,
+    into: &mut Vec<u8>,
+) -> Result<(), AllocError>
+    requires { HaveSpellings (contents values.now.items) }
+{
+    match job {
+        Job::Decode => {
+            for _ in 1..times {
+                let _count = count_all(alloc, bytes)?;
+            }
+            encode_all(values, into)
+        }
+        Job::Encode => {
+            for _ in 0..times {
+                into.clear();
+                encode_all(values, into)?;
+            }
+            Ok(())
+        }
+        Job::Copy => encode_all(values, into),
+        Job::Read => read_all(alloc, values, into),
     }
 }
 
@@ -96,23 +156,11 @@ fn main(rt: HostRuntime) -> io::Result<()> {
     rt.stdin().read_to_end(&mut bytes)?;
     let values = decode_all(alloc, bytes.as_slice())?;
     let mut into = Vec::new(alloc);
+    work(alloc, job, times, bytes.as_slice(), &values, &mut into)?;
     match job {
-        Job::Decode => {
-            for _ in 1..times {
-                let _count = count_all(alloc, bytes.as_slice())?;
-            }
-            encode_all(&values, &mut into)?;
-        }
-        Job::Encode => {
-            for _ in 0..times {
-                into.clear();
-                encode_all(&values, &mut into)?;
-            }
-        }
-        Job::Copy => {
-            encode_all(&values, &mut into)?;
-            return rt.stdout().write_all(into.as_slice());
+        Job::Copy | Job::Read => rt.stdout().write_all(into.as_slice()),
+        Job::Decode | Job::Encode => {
+            println!(rt; "{} values, {} bytes", values.len(), into.len())
         }
     }
-    println!(rt; "{} values, {} bytes", values.len(), into.len())
 }

@@ -21,6 +21,3 @@ pub use grid::Grid;
 pub use laws::{combine_laws, sameness_laws, screen_laws};
 pub use linking::Group;
 pub use table::Groups;
-
-#[cfg(test)]
-mod tests;

@@ -8,8 +8,6 @@ pub mod laws;
 mod nodes;
 mod places;
 mod sizes;
-#[cfg(test)]
-mod tests;
 
 pub use nodes::{Axis, Leaf, Placed, Rect, Side, Tree, Trees};
 pub use places::{rect_of, rects};

@@ -11,6 +11,3 @@ pub use laws::row_laws;
 pub use lines::{cells, first_cells, first_rows, is_plain, rows};
 pub use looks::{Looks, Span};
 pub use places::place_of_byte;
-
-#[cfg(test)]
-mod tests;

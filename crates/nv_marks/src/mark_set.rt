@@ -365,6 +365,3 @@ fn count_with(count: usize, found: Option<Mark>) -> usize
         None => count + 1,
     }
 }
-
-#[cfg(test)]
-mod tests;

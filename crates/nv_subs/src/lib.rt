@@ -12,6 +12,3 @@ mod table;
 pub use follower::Follower;
 pub use laws::{mirror_laws, session_laws, worked_mirrors};
 pub use subs::Subs;
-
-#[cfg(test)]
-mod tests;

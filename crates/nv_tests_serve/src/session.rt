@@ -7,10 +7,9 @@ ghost use Rattle.nv_turn.specs.Passes.{IsSamePass, first_passes};
 ghost use Rattle.nv_world.specs.declared.story.Start.{Start};
 ghost use Rattle.nv_halves.specs.Passes.{plain_pass};
 
-mod devices;
-
-use crate::held_devices::{Asker, COUNT, LIMITS, QUIT};
-use crate::session::devices::{Counter, Mute, Slow, Speech, make_page, make_speech};
+use crate::held_devices::{
+    Asker, COUNT, Counter, LIMITS, Mute, QUIT, Slow, Speech, make_page, make_speech,
+};
 use nv_halves::{
     Bell, ReaderEnd, ReaderHalf, Voice, WriterEnd, WriterHalf, once, reader_half, writer_half,
 };

@@ -1,25 +1,11 @@
-//! Tests of the editor, the methods, the world, scripts and watchers, over their public calls.
+//! Tests of worlds by hand: outboxes, small limits and watchers, over their public calls.
 #![tactic(auto)]
 
 #[cfg(test)]
-mod api_buf;
-#[cfg(test)]
-mod api_mark;
-#[cfg(test)]
-mod api_ui;
-#[cfg(test)]
-mod api_win;
-#[cfg(test)]
 mod asking;
 #[cfg(test)]
-mod dispatch;
+mod outboxes;
 #[cfg(test)]
-mod editor;
-#[cfg(test)]
-mod scene;
-#[cfg(test)]
-mod scripts;
+mod small_limits;
 #[cfg(test)]
 mod watch;
-#[cfg(test)]
-mod world;

@@ -5,6 +5,7 @@ ghost use Rattle.nv_world.specs.Worlds.{IsLightEvent};
 
 mod folds;
 mod grids;
+mod marks;
 
 use crate::asking::request;
 use nv_dispatch::usual_limits;
@@ -14,19 +15,21 @@ use nv_world::{BufferSplice, Event, Step, World};
 use std::alloc::{AllocError, Global};
 use std::test::Fail;
 
-// A session asks for the number of lines.
-fn line_count(alloc: Global, session: u64) -> Result<Event, AllocError>
-    ensures { IfOk result (λ event. IsLightEvent (plain_event event)) }
-{
-    let params = vec![in alloc; Value::Int(0)]?;
-    request(alloc, session, "nvim_buf_line_count", params)
-}
-
-// A session opens, and asks once.
-fn ask_once(alloc: Global, world: &mut World) -> Result<(), AllocError> {
-    let _ = world.apply(0, Event::Open);
-    let _ = world.apply(0, line_count(alloc, 1)?);
-    Ok(())
+// The splices of a step: of buffer 1, or none.
+fn splices_of(
+    alloc: Global,
+    splice: Option<(u64, u64, u64)>,
+) -> Result<Vec<BufferSplice>, AllocError> {
+    let mut splices = Vec::new(alloc);
+    if let Some((at, old, new)) = splice {
+        splices.push(BufferSplice {
+            buffer: 1,
+            at,
+            old,
+            new,
+        })?;
+    }
+    Ok(splices)
 }
 
 // A watcher sees a step of session 1, which is sent these bytes and splices buffer 1.
@@ -38,57 +41,68 @@ pub(crate) fn show<W: Watcher>(
     sent: &[u8],
     splice: Option<(u64, u64, u64)>,
 ) -> Result<(), AllocError> {
-    let mut splices = Vec::new(alloc);
-    if let Some((from, old, new)) = splice {
-        splices.push(BufferSplice {
-            buffer: 1,
-            at: from,
-            old,
-            new,
-        })?;
-    }
+    let sent = Bytes::from_slice(alloc, sent)?;
     let step = Step {
         at,
         caller: 0,
         session: 1,
-        sent: Bytes::from_slice(alloc, sent)?,
-        splices,
+        sent,
+        splices: splices_of(alloc, splice)?,
     };
     watcher.see(world, &step)
+}
+
+// A watcher sees four steps, in the third of which the session is sent these bytes.
+pub(crate) fn show_sent<W: Watcher>(
+    alloc: Global,
+    watcher: &mut W,
+    world: &World,
+    sent: &[u8],
+) -> Result<(), AllocError> {
+    show(alloc, watcher, world, 0, b"", None)?;
+    show(alloc, watcher, world, 1, b"", None)?;
+    show(alloc, watcher, world, 2, sent, None)?;
+    show(alloc, watcher, world, 3, b"", None)
+}
+
+// A session asks for the number of lines.
+fn line_count(alloc: Global, session: u64) -> Result<Event, AllocError>
+    ensures { IfOk result (λ event. IsLightEvent (plain_event event)) }
+{
+    let params = vec![in alloc; Value::Int(0)]?;
+    request(alloc, session, "nvim_buf_line_count", params)
 }
 
 // What a counter says where the session is sent these bytes after its request.
 fn verdict(alloc: Global, world: &World, sent: &[u8]) -> Result<Verdict, AllocError> {
     let mut counter = Counter::new(alloc);
-    show(alloc, &mut counter, world, 0, b"", None)?;
-    show(alloc, &mut counter, world, 1, b"", None)?;
-    show(alloc, &mut counter, world, 2, sent, None)?;
-    show(alloc, &mut counter, world, 3, b"", None)?;
+    show_sent(alloc, &mut counter, world, sent)?;
     Ok(counter.verdict())
 }
 
-// One reply, a redraw notification and a reply, two replies, a message that is cut, and another
-// notification.
-fn verdicts(alloc: Global, world: &World) -> Result<[Verdict; 5], AllocError> {
-    let twice = b"\x94\x01\x01\xc0\x01\x94\x01\x01\xc0\x01";
-    let redraw = b"\x93\x02\xa6redraw\x90\x94\x01\x01\xc0\x01";
+// A session opens, and asks once. One reply, a redraw notification and a reply, two replies, a
+// message that is cut, and another notification.
+fn verdicts_of(alloc: Global, world: &mut World) -> Result<[Verdict; 5], AllocError> {
+    let _ = world.apply(0, Event::Open);
+    let _ = world.apply(0, line_count(alloc, 1)?);
     Ok([
         verdict(alloc, world, b"\x94\x01\x01\xc0\x01")?,
-        verdict(alloc, world, redraw)?,
-        verdict(alloc, world, twice)?,
+        verdict(alloc, world, b"\x93\x02\xa6redraw\x90\x94\x01\x01\xc0\x01")?,
+        verdict(alloc, world, b"\x94\x01\x01\xc0\x01\x94\x01\x01\xc0\x01")?,
         verdict(alloc, world, b"\x94\x01\x01\xc0\x01\x94\x01")?,
         verdict(alloc, world, b"\x93\x02\xa6redrew\x90")?,
     ])
 }
 
+fn verdicts(alloc: Global) -> Result<[Verdict; 5], AllocError> {
+    let mut world = World::new(alloc, usual_limits(), 16)?;
+    verdicts_of(alloc, &mut world)
+}
+
 #[test]
 fn watchers_say_no(rt: HostRuntime) -> Result<(), Fail> {
-    let mut world = World::new(rt.alloc(), usual_limits(), 16)?;
-    ask_once(rt.alloc(), &mut world)?;
+    let verdicts = verdicts(rt.alloc())?;
     let no = Verdict::No(2);
-    assert_eq!(rt;
-        verdicts(rt.alloc(), &world)?,
-        [Verdict::Yes, Verdict::Yes, no, no, no]
-    );
+    assert_eq!(rt; verdicts, [Verdict::Yes, Verdict::Yes, no, no, no]);
     Ok(())
 }

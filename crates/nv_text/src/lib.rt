@@ -13,6 +13,3 @@ pub use cutting::{first_pieces, pieces};
 pub use laws::cover_laws;
 pub use measuring::strwidth;
 pub use piece::{Kind, Piece};
-
-#[cfg(test)]
-mod tests;

@@ -15,8 +15,6 @@ mod pass;
 mod plays;
 mod rule;
 mod story;
-#[cfg(test)]
-mod tests;
 mod turn;
 mod value;
 mod view;

@@ -9,6 +9,3 @@ mod tree;
 pub use laws::{path_laws, run_laws, tree_laws};
 pub use legs::Leg;
 pub use tree::UndoTree;
-
-#[cfg(test)]
-mod tests;

@@ -3,8 +3,6 @@
 
 mod command;
 mod reading;
-#[cfg(test)]
-mod tests;
 
 pub use command::{Command, Refusal};
 pub use reading::read_words;

@@ -1,7 +1,7 @@
 //! A watcher of redraw events that is shown steps, true ones and altered ones.
 
 use crate::asking::attach_ui;
-use crate::watch::show;
+use crate::watch::show_sent;
 use nv_dispatch::usual_limits;
 use nv_watch::{GridFold, Verdict, Watcher};
 use nv_world::{Event, World};
@@ -22,32 +22,34 @@ const FIRST: &[u8] = b"\x94\x01\x01\xc0\xc0\x93\x02\xa6redraw\x97\
     \x92\xb0grid_cursor_goto\x93\x01\x00\x00\
     \x92\xa5flush\x90";
 
-// A session opens, attaches a UI, and takes what is due.
-fn attach_and_take(alloc: Global, world: &mut World) -> Result<(), AllocError> {
-    let _ = world.apply(0, Event::Open);
-    let _ = world.apply(0, attach_ui(alloc, 1, 12, 4)?);
-    let _ = world.apply(0, Event::Take { session: 1 });
-    Ok(())
-}
-
-// What a watcher says where the session is sent the first batch with this byte at a place.
-fn verdict(alloc: Global, world: &World, place: usize, byte: u8) -> Result<Verdict, AllocError> {
-    let mut sent = Vec::new(alloc);
-    sent.extend_from_slice(FIRST)?;
+// The first batch with this byte at a place.
+fn altered(alloc: Global, place: usize, byte: u8) -> Result<Vec<u8>, AllocError> {
+    let mut sent = Vec::from_slice(alloc, FIRST)?;
     if place < sent.len() {
         sent[place] = byte;
     }
+    Ok(sent)
+}
+
+// What a watcher says where the session is sent these bytes.
+fn said(alloc: Global, world: &World, sent: &[u8]) -> Result<Verdict, AllocError> {
     let mut fold = GridFold::new(alloc);
-    show(alloc, &mut fold, world, 0, b"", None)?;
-    show(alloc, &mut fold, world, 1, b"", None)?;
-    show(alloc, &mut fold, world, 2, sent.as_slice(), None)?;
-    show(alloc, &mut fold, world, 3, b"", None)?;
+    show_sent(alloc, &mut fold, world, sent)?;
     Ok(fold.verdict())
 }
 
-// The true batch, one with another letter, one with another default colour, one with the cursor in
-// another row, and one with the cursor in a row that isn't there.
-fn verdicts(alloc: Global, world: &World) -> Result<[Verdict; 5], AllocError> {
+fn verdict(alloc: Global, world: &World, place: usize, byte: u8) -> Result<Verdict, AllocError> {
+    let sent = altered(alloc, place, byte)?;
+    said(alloc, world, sent.as_slice())
+}
+
+// A session opens, attaches a UI, and takes what is due. The true batch, one with another letter,
+// one with another default colour, one with the cursor in another row, and one with the cursor in a
+// row that isn't there.
+fn verdicts_of(alloc: Global, world: &mut World) -> Result<[Verdict; 5], AllocError> {
+    let _ = world.apply(0, Event::Open);
+    let _ = world.apply(0, attach_ui(alloc, 1, 12, 4)?);
+    let _ = world.apply(0, Event::Take { session: 1 });
     Ok([
         verdict(alloc, world, 166, b'~')?,
         verdict(alloc, world, 166, b'x')?,
@@ -57,14 +59,15 @@ fn verdicts(alloc: Global, world: &World) -> Result<[Verdict; 5], AllocError> {
     ])
 }
 
+fn verdicts(alloc: Global) -> Result<[Verdict; 5], AllocError> {
+    let mut world = World::new(alloc, usual_limits(), 16)?;
+    verdicts_of(alloc, &mut world)
+}
+
 #[test]
 fn grid_folds_say_no(rt: HostRuntime) -> Result<(), Fail> {
-    let mut world = World::new(rt.alloc(), usual_limits(), 16)?;
-    attach_and_take(rt.alloc(), &mut world)?;
+    let verdicts = verdicts(rt.alloc())?;
     let no = Verdict::No(2);
-    assert_eq!(rt;
-        verdicts(rt.alloc(), &world)?,
-        [Verdict::Yes, no, no, no, no]
-    );
+    assert_eq!(rt; verdicts, [Verdict::Yes, no, no, no, no]);
     Ok(())
 }

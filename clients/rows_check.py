@@ -1,0 +1,601 @@
+#!/usr/bin/python3
+"""Runs the stories of docs/rows (docs/rows/README.md) through the program, and compares what sessions are sent byte by byte.
+
+A story of one session goes through `embed`, its input whole and then byte by byte; one of several sessions through `serve`, one call
+after another. Each story without raw bytes is also made into a book with the outputs that the rows have, which `replay --check` judges.
+
+Usage: clients/rows_check.py [FILE..] [--program P] [--only TITLE]     all files of docs/rows without FILE, the launcher without P
+       clients/rows_check.py --books [--check]      writes the books of crates/book_check, or looks whether they are those of the rows
+Wants Debian's python3-msgpack.
+"""
+
+import argparse
+import difflib
+import glob
+import os
+import select
+import shutil
+import signal
+import subprocess
+import sys
+import tempfile
+import time
+from concurrent.futures import ThreadPoolExecutor
+
+import msgpack
+
+from book import PIECE
+from examples import packed, unpacker, written
+from row_file import Wrong, stories_in
+from rpc import LAUNCHER, TOP
+from server import Ended, socket_at
+
+ROWS = os.path.join(TOP, "docs", "rows")
+BOOKS = os.path.join(TOP, "crates", "book_check")
+CODEC = "codec.rows"  # has forms of its own
+AT_ONCE = 4
+PATIENCE = 60  # seconds for an answer
+LONG = 300  # seconds for a program to end
+MOST_BYTES = 1 << 16  # of a book in the gate
+SINGLE = 1 << 16  # bytes that are written one by one; what is after them is written at once
+MOST_TOLD = 6  # differences of a story
+WIDTH = 400
+FENCE = (1 << 32) - 1  # the number of requests that the runner puts in
+
+
+def fed(data):
+    """Reads the values of bytes."""
+    reader = unpacker()
+    reader.feed(data)
+    return reader
+
+
+def cut(data):
+    """The messages of bytes, each as bytes; the last may be no whole message."""
+    reader = fed(data)
+    found, at = [], 0
+    try:
+        for _ in reader:
+            found.append(bytes(data[at : reader.tell()]))
+            at = reader.tell()
+    except Exception:
+        pass
+    return found + ([bytes(data[at:])] if at < len(data) else [])
+
+
+def shown(data):
+    """A message in text."""
+    reader = fed(data)
+    try:
+        text = written(reader.unpack())
+        return text if reader.tell() == len(data) else f"bytes {data.hex(' ')}"
+    except Exception:
+        return f"bytes {data.hex(' ')}"
+
+
+def draws_in(data):
+    """The redraw events of a message, each in text, or None where it is another one."""
+    try:
+        message = next(iter(fed(data)))
+        if message[:2] == [2, "redraw"]:
+            return [f"{name} {written(args)}" for name, *several in message[2] for args in several]
+    except Exception:
+        pass
+    return None
+
+
+def drawn(wanted, got):
+    """The events in which two redraw batches differ."""
+    sides = [draws_in(data or b"") for data in (wanted, got)]
+    if None in sides:
+        return []
+    changes = difflib.unified_diff(*sides, lineterm="", n=0)
+    names = {"-": "wanted", "+": "got   "}
+    return [f"    {names[line[0]]} {short(line[1:])}" for line in list(changes)[2:] if line[0] in names]
+
+
+def short(text):
+    return text if len(text) <= WIDTH else f"{text[:WIDTH]}.. ({len(text)} characters)"
+
+
+class Run:
+    """A run of a story: what was wrong with it."""
+
+    def __init__(self, story, way):
+        self.story, self.way = story, way
+        self.wrong = []
+
+    def say(self, line, text, *more):
+        self.wrong.append("\n".join([f"{self.story.path}:{line}: {self.story.title} ({self.way})", f"    row    {text}", *more]))
+
+    def differs(self, line, text, wanted, got):
+        """A message that is another one; as bytes too where their values are alike, or none."""
+        told = ["nothing" if data is None else shown(data) for data in (wanted, got)]
+        more = drawn(wanted, got) or [f"    wanted {short(told[0])}", f"    got    {short(told[1])}"]
+        if told[0] == told[1] or any(word.startswith("bytes ") for word in told):
+            for name, data in (("wanted", wanted), ("got   ", got)):
+                if data is not None:
+                    more.append(f"    {name} {short(data.hex(' '))}")
+        self.say(line, text, *more)
+
+    def compare(self, session, got):
+        """Holds all that a session was sent against the rows."""
+        wanted, places = [], []
+        for step in self.story.steps:
+            for told in step.sent(session):
+                messages = cut(told.data)
+                wanted += messages
+                text = told.text if told.text == step.text else f"{step.text}  {told.text}"
+                places += [(told.line, text)] * len(messages)
+        if b"".join(wanted) == got:
+            return
+        found = cut(got)
+        places.append((self.story.steps[-1].line, f"after {self.story.steps[-1].text}"))
+        told = 0
+        for kind, a, b, c, d in difflib.SequenceMatcher(None, wanted, found, autojunk=False).get_opcodes():
+            for number in range(max(b - a, d - c) if kind != "equal" else 0):
+                told += 1
+                if told <= MOST_TOLD:
+                    line, text = places[min(a + number, b if number >= b - a else len(wanted))]
+                    who = "" if session == 1 else f"S{session}: "
+                    self.differs(
+                        line, who + text, wanted[a + number] if number < b - a else None, found[c + number] if number < d - c else None
+                    )
+        if told > MOST_TOLD:
+            self.wrong.append(f"    and {told - MOST_TOLD} more differences in this run")
+
+    def end(self, status, line):
+        """Holds the end of the program against the rows."""
+        wanted = self.story.ends or (0, "")
+        if (status, line) != wanted:
+            at = self.story.steps[-1].line + bool(self.story.ends)
+            self.say(at, "ends", f"    wanted {wanted[0]} {written(wanted[1])}", f"    got    {status} {written(line)}")
+
+
+# ---- embed
+
+
+def embedded(program, story, one_by_one):
+    """A story of one session through `embed`."""
+    run = Run(story, "embed, byte by byte" if one_by_one else "embed")
+    data = b"".join(step.data for step in story.steps)
+    child = subprocess.Popen(
+        [program, "embed", *story.words], stdin=subprocess.PIPE, stdout=subprocess.PIPE, stderr=subprocess.PIPE, bufsize=0
+    )
+    try:
+        out, errors = communicated(child, data, one_by_one)
+    except subprocess.TimeoutExpired:
+        child.kill()
+        run.say(story.line, "the program had not ended", f"    after {LONG} seconds")
+        return run
+    finally:
+        child.stdout.close()
+        child.stderr.close()
+        child.wait()
+    run.compare(1, out)
+    run.end(child.returncode, errors.decode(errors="replace").removesuffix("\n"))
+    return run
+
+
+def communicated(child, data, one_by_one):
+    """Writes the input, and reads what comes meanwhile, up to the end."""
+    data, at = memoryview(data), 0
+    into, out, errors = child.stdin.fileno(), child.stdout.fileno(), child.stderr.fileno()
+    found = {out: bytearray(), errors: bytearray()}
+    os.set_blocking(into, False)
+    late = time.monotonic() + LONG
+    poll = select.poll()
+    poll.register(out, select.POLLIN)
+    poll.register(errors, select.POLLIN)
+    poll.register(into, select.POLLOUT)
+    is_open = True
+    left = {out, errors}
+    while left or is_open:
+        if is_open and at == len(data):
+            poll.unregister(into)
+            child.stdin.close()
+            is_open = False
+            if not left:
+                break
+        for fd, event in poll.poll(max(0, late - time.monotonic()) * 1000):
+            if fd == into and is_open:
+                until = at + 1 if one_by_one and at < SINGLE else len(data)
+                try:
+                    at += os.write(into, data[at:until])
+                except BlockingIOError:
+                    pass
+                except BrokenPipeError:  # it has ended: what it wrote says more
+                    at = len(data)
+            elif fd in left:
+                piece = os.read(fd, 1 << 20)
+                found[fd] += piece
+                if not piece:
+                    left.remove(fd)
+                    poll.unregister(fd)
+        if time.monotonic() >= late:
+            raise subprocess.TimeoutExpired(child.args, LONG)
+    return bytes(found[out]), bytes(found[errors])
+
+
+# ---- words
+
+
+def worded(program, story):
+    """Each line of words, in an empty folder and without input."""
+    run = Run(story, "words")
+    for step in story.steps:
+        with tempfile.TemporaryDirectory(prefix="rows") as folder:
+            done = subprocess.run([program, *step.words], stdin=subprocess.DEVNULL, capture_output=True, cwd=folder, timeout=LONG)
+        got = done.returncode, done.stderr.decode(errors="replace").removesuffix("\n")
+        if got != step.ends or (done.stdout == b"") != step.is_quiet:
+            run.say(step.line, step.text, f"    got    {got[0]} {written(got[1])}, {len(done.stdout)} bytes written")
+    return run
+
+
+# ---- serve
+
+
+class Client:
+    """A session over a socket: all that it was sent but the replies to the runner's own requests."""
+
+    def __init__(self, address):
+        self.socket = socket_at(address)
+        self.data = bytearray()
+        self.got = bytearray()
+        self.fences = 0
+        self.is_over = False
+
+    def send(self, data):
+        try:
+            self.socket.sendall(data)
+        except OSError:
+            self.is_over = True
+
+    def read(self):
+        """Reads a piece that is there."""
+        try:
+            piece = self.socket.recv(1 << 20)
+        except ConnectionResetError:
+            piece = b""
+        self.is_over = self.is_over or not piece
+        self.data += piece
+        self.sort()
+
+    def sort(self):
+        """Moves whole messages to what was sent, the runner's own apart."""
+        reader, at = fed(self.data), 0
+        try:
+            for message in reader:
+                piece = self.data[at : reader.tell()]
+                at = reader.tell()
+                if isinstance(message, list) and message[:2] == [1, FENCE]:
+                    self.fences += 1
+                    self.last = message[2:]
+                else:
+                    self.got += piece
+        except Exception:  # no message: it stays in its place
+            at = len(self.data)
+            self.got += self.data[at:]
+        del self.data[:at]
+
+    def rest(self):
+        """All that it was sent, what is no whole message too."""
+        return bytes(self.got + self.data)
+
+
+class Server:
+    """`serve` with the sessions of a story."""
+
+    def __init__(self, program, story, run, folder):
+        self.story, self.run = story, run
+        self.address = os.path.join(folder, "socket")
+        self.clients = {}
+        self.wanted = {}
+        self.child = subprocess.Popen(
+            [program, "serve", "--listen", self.address, *story.words],
+            stdin=subprocess.DEVNULL, stdout=subprocess.PIPE, stderr=subprocess.PIPE,
+        )
+
+    def open(self, session):
+        """Connects, and waits until the session is open."""
+        late = time.monotonic() + PATIENCE
+        while True:
+            try:
+                self.clients[session] = Client(self.address)
+                break
+            except Ended:
+                if self.child.poll() is not None or time.monotonic() > late:
+                    raise
+                time.sleep(0.005)
+        self.wanted[session] = 0
+        self.fence(session)
+
+    def wait(self, is_there):
+        """Reads all sessions until this holds; whether it does in time."""
+        late = time.monotonic() + PATIENCE
+        while not is_there():
+            left = {client.socket: client for client in self.clients.values() if not client.is_over}
+            ready = select.select(list(left), [], [], max(0, late - time.monotonic()))[0] if left else []
+            if not ready:
+                return False
+            for socket in ready:
+                left[socket].read()
+        return True
+
+    def fence(self, session, *call):
+        """Makes a call of the runner's own, and waits for its reply."""
+        client = self.clients[session]
+        client.last, count = None, client.fences + 1
+        client.send(packed([0, FENCE, *(call or ("nvim_strwidth", [""]))]))
+        self.wait(lambda: client.fences == count or client.is_over)
+        return client.last
+
+    def has_come(self):
+        return all(len(client.got) >= self.wanted[session] for session, client in self.clients.items())
+
+    def step(self, step):
+        """Does what a line says, and waits for all that is sent because of it; whether it came."""
+        if step.session not in self.clients:
+            self.open(step.session)
+        client = self.clients[step.session]
+        client.send(step.data)
+        for session in step.sessions():
+            self.wanted[session] += sum(len(told.data) for told in step.sent(session))
+        if step.kind == "closes":
+            client.socket.close()
+            client.is_over = True
+            self.forget(step.session)
+        if step.is_quit():
+            return self.wait(lambda: all(client.is_over for client in self.clients.values()))
+        if not self.wait(self.has_come):
+            return False
+        if step.kind != "opens" and not step.sessions() and not client.is_over:
+            self.fence(step.session)
+        return True
+
+    def forget(self, session):
+        """Waits until a session that closed is gone: its UI is, where it had one."""
+        late = time.monotonic() + PATIENCE
+        for other, client in self.clients.items():
+            while not client.is_over and time.monotonic() < late:
+                told = self.fence(other, "nvim_list_uis", [])
+                if told and all(ui["chan"] != session for ui in told[1]):
+                    return
+
+    def end(self):
+        """Ends the server; its status and what it says."""
+        for session, client in list(self.clients.items()):
+            if not client.is_over:
+                self.fence(session, "nvim_command", ["qall!"])
+                self.wait(lambda: all(client.is_over for client in self.clients.values()))
+        if self.child.poll() is None and not any(step.is_quit() for step in self.story.steps) and not self.clients:
+            self.child.kill()
+        try:
+            out, errors = self.child.communicate(timeout=PATIENCE)
+        except subprocess.TimeoutExpired:
+            self.child.kill()
+            out, errors = self.child.communicate()
+        for client in self.clients.values():
+            client.socket.close()
+        return self.child.returncode, out + errors
+
+
+def served(program, story):
+    """A story of several sessions through `serve`, one call after another."""
+    run = Run(story, "serve")
+    with tempfile.TemporaryDirectory(prefix="rows") as folder:
+        server = Server(program, story, run, folder)
+        try:
+            for step in story.steps:
+                if not server.step(step):
+                    break  # what is missing is told below
+        except Ended as error:
+            run.say(story.line, "the server", f"    {error}")
+        status, line = server.end()
+    for session, client in server.clients.items():
+        run.compare(session, client.rest())
+    if (status, line) != (0, b""):
+        run.say(story.line, "the server's end", "    wanted 0 \"\"", f"    got    {status} {written(line.decode(errors='replace'))}")
+    return run
+
+
+# ---- books
+
+
+def outbox_of(story):
+    """How many messages an outbox holds, or None where the words say more than that."""
+    if not story.words:
+        return 4096
+    return int(story.words[1]) if len(story.words) == 2 and story.words[0] == "--outbox" else None
+
+
+def has_book(story):
+    return not story.has_bytes() and not story.is_of_words() and outbox_of(story) is not None
+
+
+class Written:
+    """The book of a story, with the outputs that the rows have; the line of the entries' steps; what `replay --check` says."""
+
+    def __init__(self, story):
+        self.entries, self.places = 0, []
+        self.opened, self.takes, self.bytes = 0, 0, 0
+        self.parts = [packed(["nvimd-book", 1, outbox_of(story)])]
+        self.live = {}
+        for step in story.steps:
+            self.step(step)
+        last = story.steps[-1]
+        if story.ends and story.ends[0] == 7:  # the last call ended its session
+            self.live.pop(last.session, None)
+        for session in list(self.live):  # nothing more is due: what is due to this call is its reply alone
+            self.enter(last, ["r", 0, session, FENCE, "nvim_strwidth", [""]])
+            self.take(last, session, packed([1, FENCE, None, 0]))
+        for session in list(self.live):
+            self.enter(last, ["c", 0, session])
+        self.parts.append(packed(["end", self.entries]))
+        self.data = b"".join(self.parts)
+        self.line = f"entries {self.entries} sessions {self.opened} takes {self.takes} bytes {self.bytes} ok"
+
+    def enter(self, step, entry):
+        self.parts.append(packed(entry))
+        self.places.append(step)
+        self.entries += 1
+
+    def take(self, step, session, data):
+        pieces = [data[at : at + PIECE] for at in range(0, len(data), PIECE)]
+        self.enter(step, ["t", 0, session, len(pieces)])
+        self.parts += map(packed, pieces)
+        self.takes += 1
+        self.bytes += len(data)
+
+    def step(self, step):
+        if step.session not in self.live and step.kind != "closes":
+            if step.session <= self.opened:
+                return  # after the end of its session
+            self.enter(step, ["o", 0])
+            self.opened += 1
+            self.live[step.session] = True
+        if step.kind in ("call", "notify"):
+            name = step.name if isinstance(step.name, str) else step.name.decode(errors="surrogateescape")
+            self.enter(step, ["r", 0, step.session, step.msgid, name, step.params])
+        if step.kind == "closes" and self.live.pop(step.session, None):
+            self.enter(step, ["c", 0, step.session])
+        for session in sorted(step.sessions(), key=lambda session: (session != step.session, session)):
+            data = b"".join(told.data for told in step.sent(session))
+            if data:
+                self.take(step, session, data)
+        if step.is_quit():
+            self.live.clear()
+
+
+def replayed(program, story):
+    """The book of a story through `replay --check`."""
+    run = Run(story, "its book")
+    book = Written(story)
+    with tempfile.NamedTemporaryFile(prefix="rows", suffix=".book") as file:
+        file.write(book.data)
+        file.flush()
+        done = subprocess.run(
+            [program, "replay", file.name, "--check"], stdin=subprocess.DEVNULL, stdout=subprocess.PIPE, stderr=subprocess.PIPE,
+            timeout=LONG,
+        )
+    out, errors = done.stdout.decode(errors="replace"), done.stderr.decode(errors="replace").rstrip("\n")
+    if (done.returncode, out, errors) == (0, book.line + "\n", ""):
+        return run
+    words = errors.split()
+    step = story.steps[-1]
+    if errors.startswith(("nvimd: check differs", "nvimd: watcher")) and int(words[-1]) < len(book.places):
+        step = book.places[int(words[-1])]
+    run.say(step.line, step.text, f"    wanted 0 {book.line}", f"    got    {done.returncode} {out.strip()} {errors}")
+    return run
+
+
+# ---- the books of the gate
+
+
+def files_of_books():
+    """The files of crates/book_check that the rows give: name and bytes."""
+    found, names, lines = {}, [], []
+    for path in files_of([]):
+        subject = os.path.basename(path).removesuffix(".rows")
+        for number, story in enumerate(stories_in(path), 1):
+            book = Written(story) if has_book(story) else None
+            if book and len(book.data) <= MOST_BYTES:
+                name = f"{subject}-{number:02}.book"
+                found[f"data/{name}"] = book.data
+                names.append(name)
+                lines.append(f"{name}\n{book.line}\n")
+    found["args"] = "".join(f"{name}\n" for name in names).encode()
+    found["stdout"] = "".join(lines).encode()
+    return found
+
+
+def write_books():
+    shutil.rmtree(os.path.join(BOOKS, "data"), ignore_errors=True)
+    os.mkdir(os.path.join(BOOKS, "data"))
+    found = files_of_books()
+    for name, data in found.items():
+        with open(os.path.join(BOOKS, name), "wb") as file:
+            file.write(data)
+    print(f"{len(found) - 2} books, {sum(map(len, found.values()))} bytes")
+    return 0
+
+
+def check_books():
+    """Whether the books are those of the rows."""
+    wanted, there = files_of_books(), {}
+    for name in ["args", "stdout", *(f"data/{name}" for name in os.listdir(os.path.join(BOOKS, "data")))]:
+        with open(os.path.join(BOOKS, name), "rb") as file:
+            there[name] = file.read()
+    wrong = sorted(name for name in {*wanted, *there} if wanted.get(name) != there.get(name))
+    for name in wrong:
+        how = "isn't there" if name not in there else "is of no story" if name not in wanted else "isn't that of its story"
+        print(f"{os.path.relpath(BOOKS)}/{name} {how}: clients/rows_check.py --books")
+    print(f"{len(wanted) - sum(name in wanted for name in wrong)} passed, {len(wrong)} failed")
+    return 1 if wrong or len(wanted) == 2 else 0
+
+
+# ---- all
+
+
+def runs_of(program, story):
+    """Each run of a story, as a function."""
+    if story.is_of_words():
+        yield lambda: worded(program, story)
+    elif story.is_alone():
+        yield lambda: embedded(program, story, False)
+        yield lambda: embedded(program, story, True)
+    else:
+        yield lambda: served(program, story)
+    if has_book(story):
+        yield lambda: replayed(program, story)
+
+
+def files_of(names):
+    """The files that the words name, or all."""
+    found = names or sorted(glob.glob(os.path.join(ROWS, "*.rows")))
+    return [os.path.relpath(name) for name in found if os.path.basename(name) != CODEC]
+
+
+def main():
+    words = argparse.ArgumentParser(usage=__doc__.partition("Usage: ")[2])
+    words.add_argument("files", nargs="*")
+    words.add_argument("--program", default=LAUNCHER)
+    words.add_argument("--only")
+    words.add_argument("--books", action="store_true")
+    words.add_argument("--check", action="store_true")
+    words = words.parse_args()
+    if words.books:
+        try:
+            return check_books() if words.check else write_books()
+        except (Wrong, OSError, UnicodeDecodeError) as error:
+            print(error)
+            print("0 passed, 1 failed")
+            return 1
+    signal.signal(signal.SIGPIPE, signal.SIG_IGN)
+    words.program = os.path.abspath(words.program)
+    passed = failed = 0
+    runs = []
+    for path in files_of(words.files):
+        try:
+            stories = stories_in(path)
+        except (Wrong, OSError, UnicodeDecodeError) as error:
+            print(error)
+            failed += 1
+            continue
+        for story in stories:
+            if words.only in (None, story.title):
+                runs.append((story, list(runs_of(words.program, story))))
+    with ThreadPoolExecutor(AT_ONCE) as pool:
+        asked = [(story, [pool.submit(run) for run in several]) for story, several in runs]
+        for story, several in asked:
+            wrong = [text for run in several for text in run.result().wrong]
+            for text in wrong:
+                print(text)
+            failed += bool(wrong)
+            passed += not wrong
+    print(f"{passed} passed, {failed} failed")
+    return 1 if failed or not passed else 0
+
+
+if __name__ == "__main__":
+    sys.exit(main())

@@ -1,5 +1,0 @@
-use Rattle.nv_turn.specs.Passes.{IsSamePass}
-use Rattle.nv_turn.proofs.tests.alternate.Given as goal
-
-abbrev pub invariant-loop : goal.invariant-loop
-invariant-loop g l = IsSamePass l.fn.pass l.pass
