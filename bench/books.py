@@ -79,14 +79,14 @@ def recorded(program, path, stream, others):
 
 
 def replayed(program, path, *words):
-    """Seconds of a replay, and its memory at its peak, in MB."""
+    """Seconds of a replay, and what it used."""
     start = time.perf_counter()
     child = subprocess.Popen([program, "replay", path, *words], stdout=subprocess.DEVNULL)
     _, status, used = os.wait4(child.pid, 0)
     child.returncode = os.waitstatus_to_exitcode(status)
     if child.returncode != 0:
         raise SystemExit(f"replay ended with status {child.returncode}")
-    return time.perf_counter() - start, used.ru_maxrss / 1024
+    return time.perf_counter() - start, used
 
 
 def measured(program, name, stream, others):
@@ -99,7 +99,8 @@ def measured(program, name, stream, others):
         print(f"    {'the session':24} {worked:8.2f} {count / worked:11,.0f} {1:11.2f} {memory:11.1f}")
         print(f"    {'its end, with the book':24} {ended:8.2f} {count / ended:11,.0f} {worked / ended:11.2f}")
         for words in ([], ["--check"]):
-            seconds, memory = replayed(program, path, *words)
+            seconds, used = replayed(program, path, *words)
+            memory = used.ru_maxrss / 1024
             what = " ".join(["replay", *words])
             print(f"    {what:24} {seconds:8.2f} {count / seconds:11,.0f} {worked / seconds:11.2f} {memory:11.1f}", flush=True)
 

@@ -14,10 +14,11 @@ import sys
 import threading
 import time
 
-sys.path.insert(0, os.path.dirname(os.path.abspath(__file__)))
+TOP = os.path.dirname(os.path.dirname(os.path.abspath(__file__)))
+sys.path[:0] = [os.path.join(TOP, "bench"), os.path.join(TOP, "clients")]
+from process import memory
 from run import integer, items, text  # the shortest spellings, by hand
 
-TOP = os.path.dirname(os.path.dirname(os.path.abspath(__file__)))
 PROGRAM = os.path.join(TOP, "crates", "nvimd", "out", "nvimd")
 
 
@@ -107,8 +108,7 @@ class Server:
 
     def peak(self):
         """The greatest memory so far, in MB."""
-        with open(f"/proc/{self.child.pid}/status") as status:
-            return [int(line.split()[1]) / 1024 for line in status if line.startswith("VmHWM")][0]
+        return memory(self.child.pid, "VmHWM")
 
     def close(self):
         self.child.stdin.close()

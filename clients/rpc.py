@@ -13,6 +13,7 @@ import time
 
 import msgpack
 
+import process
 from server import Ended, socket_at
 
 TOP = os.path.dirname(os.path.dirname(os.path.abspath(__file__)))
@@ -230,12 +231,7 @@ class Serve:
         return len(os.listdir(f"/proc/{self.child.pid}/fd"))
 
     def memory(self, kind="VmRSS"):
-        """What it holds in memory now, or at its peak with `VmHWM`, in MB."""
-        with open(f"/proc/{self.child.pid}/status") as status:
-            return [int(line.split()[1]) / 1024 for line in status if line.startswith(kind)][0]
+        return process.memory(self.child.pid, kind)
 
     def seconds(self):
-        """The processor time that it took so far."""
-        with open(f"/proc/{self.child.pid}/stat") as stat:
-            told = stat.read().rsplit(")", 1)[1].split()
-        return (int(told[11]) + int(told[12])) / os.sysconf("SC_CLK_TCK")
+        return process.seconds(self.child.pid)
