@@ -59,14 +59,16 @@ def entries_of(path):
     return msgpack.unpackb(tail[tail.rindex(b"\x92\xa3end") :])[1]
 
 
-def recorded(program, path, stream, others):
-    """Seconds of a session, and those that the server takes to end behind it; its memory at the peak, in MB."""
+def recorded(program, path, stream, others, apart=False):
+    """Seconds of a session, and those that the server takes to end behind it; its memory at the peak, in MB. Its requests are sent
+    ahead, or apart, each once the one before it is answered."""
     server = Serve("--outbox", str(OUTBOX), "--book", path, command=[program, "serve", "--listen"])
     one = Asking(server.address)
     one.ask(set_rows(0, -1, [LINE] * LINES))
     drains = [Drain(server.address, call) for call in others]
     start = time.perf_counter()
-    one.ask(b"".join(stream))
+    for requests in stream if apart else [b"".join(stream)]:
+        one.ask(requests)
     worked = time.perf_counter() - start
     one.socket.close()
     memory = server.memory("VmHWM")

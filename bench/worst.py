@@ -316,11 +316,11 @@ def overlap_calls(program, count):
 # ---- Replay
 
 
-def checked(program, stream, others=()):
-    """The cost of `replay --check` of what a session asks for, beside others."""
+def checked(program, stream, others=(), apart=False):
+    """The cost of `replay --check` of what a session asks for, beside others: ahead, or one request after another."""
     with tempfile.TemporaryDirectory() as folder:
         path = os.path.join(folder, "book")
-        books.recorded(program, path, stream, others)
+        books.recorded(program, path, stream, others, apart)
         _, used = books.replayed(program, path, "--check")
         return Cost(used.ru_utime + used.ru_stime, used.ru_maxrss / 1024)
 
@@ -330,9 +330,9 @@ def check_marks(program, count):
     return checked(program, [SPACES] + [call("nvim_buf_set_extmark", 0, 1, 0, 0, {})] * count)
 
 
-@row("check-edits", "replay --check of {} lines put in one by one, followed", 16_000)
+@row("check-edits", "replay --check of {} lines put in one by one, each followed", 16_000)
 def check_edits(program, count):
-    return checked(program, [EDIT] * count, [ATTACH])
+    return checked(program, [EDIT] * count, [ATTACH], apart=True)
 
 
 # ---- The greatest that the limits let through

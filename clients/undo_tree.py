@@ -19,6 +19,7 @@ import msgpack
 TOP = os.path.dirname(os.path.dirname(os.path.abspath(__file__)))
 CHANGES = 100
 VISITS = 300
+LONG = 4_000  # bytes
 
 
 class Child:
@@ -153,7 +154,12 @@ class Check:
         return row, self.random.randint(0, len(self.model.lines[row]))
 
     def span(self):
-        return sorted((self.place(), self.place()))
+        """Two places, half the times in one row and near each other."""
+        start = self.place()
+        if self.random.random() < 0.5:
+            return sorted((start, self.place()))
+        row, col = start
+        return start, (row, min(col + self.random.randint(0, 40), len(self.model.lines[row])))
 
     def written(self, place):
         """The row and the column as arguments, each from the front or from the end."""
@@ -165,7 +171,12 @@ class Check:
         )
 
     def strings(self, most):
-        return [bytes(self.random.choices(b"abc \xff\x00", k=self.random.randint(0, 6))) for _ in range(self.random.randint(0, most))]
+        return [self.string() for _ in range(self.random.randint(0, most))]
+
+    def string(self):
+        """Few bytes, or so many that of an edit within them undo keeps those alone that it changes."""
+        most = 6 if self.random.random() < 0.9 else LONG
+        return bytes(self.random.choices(b"abc \xff\x00", k=self.random.randint(0, most)))
 
     def edit(self):
         if self.random.random() < 0.5:

@@ -1,6 +1,6 @@
 -- The methods on buffers as a whole: making, deleting, naming and listing them, and telling of them
 -- (help: api-buffer; the help tag of each is its name).
-use Rattle.std.specs.Prelude.{ℕ, ℤ, ◌==◌, Bool, true, false, not, ◌&&◌, nat_le, List, [], ◌∷◌, length, map, codes, bytes_eq, Option, Some, None, is_some, if◌then◌else◌}
+use Rattle.std.specs.Prelude.{ℕ, ℤ, ◌==◌, Bool, true, false, not, ◌&&◌, nat_le, List, [], ◌∷◌, length, map, codes, Some, None, is_some, if◌then◌else◌}
 use Rattle.std.specs.List.{list_any}
 use Rattle.nv_value.specs.Content.{nil, truth, text}
 use Rattle.nv_rpc.specs.Messages.{buffer_handle}
@@ -11,7 +11,7 @@ use Rattle.nv_args.specs.Texts.{has_newline}
 use Rattle.nv_args.specs.Maps.{map_fault}
 use Rattle.nv_windows.specs.Workspace.{current_buffer, current_window}
 use Rattle.nv_model.specs.Stage.{or_current}
-use Rattle.nv_model.specs.Seen.{Seen, SeenBuffer}
+use Rattle.nv_model.specs.Seen.{Seen, is_name_of}
 use Rattle.nv_model.specs.Operations.{name_put, buffer_made, shown}
 use Rattle.nv_model.specs.Deleting.{no_buffer_left, other_handles, least_other, dropping_operations}
 use Rattle.nv_model.specs.Answers.{Answer, attached, detached, deleted, replied, unless, on_buffer}
@@ -68,11 +68,7 @@ nvim_buf_is_valid s session args =
 abbrev pub nvim_buf_get_name : Seen → ℕ → List Arg → Answer
 nvim_buf_get_name s session args = on_buffer s (number_at args 0) (λ n b. reply_of (text b.name))
 
--- whether a live buffer but this one has this name
-abbrev pub is_name_of : List ℕ → Option SeenBuffer → Bool
-is_name_of name None = false
-is_name_of name (Some b) = bytes_eq b.name name
-
+-- whether a live buffer but this one has this name, which isn't empty
 abbrev pub is_taken : Seen → ℤ → List ℕ → Bool
 is_taken s n name =
     not (length name == 0)

@@ -1,26 +1,23 @@
 //! The methods on buffers as a whole: listing, making, deleting and naming them.
-ghost use Rattle.std.specs.Prelude.{◌≡◌, ℕ, ◌∷◌, [], ◌==◌, ◌&&◌, ◌^◌, ◌<◌, true, false, not, length, map, bytes_eq, codes, IfOk, is_some};
+ghost use Rattle.std.specs.Prelude.{◌≡◌, ℕ, ◌==◌, ◌&&◌, ◌<◌, true, false, length, map, IfOk, is_some};
 ghost use Rattle.std.specs.List.{list_any};
-ghost use Rattle.std.specs.Ordering.{int_eq};
 ghost use Rattle.nv_value.specs.Content.{text};
 ghost use Rattle.nv_value.specs.View.{content, contents};
 ghost use Rattle.nv_msgpack.specs.Shortest.{HasSpelling, HaveSpellings};
 ghost use Rattle.nv_rpc.specs.Messages.{buffer_handle};
 ghost use Rattle.nv_places.specs.Flat.{IsLine};
-ghost use Rattle.nv_windows.specs.Workspace.{current_buffer, current_window, is_live_window};
+ghost use Rattle.nv_windows.specs.Workspace.{current_window};
 ghost use Rattle.nv_args.specs.Args.{typed_arguments};
-ghost use Rattle.nv_args.specs.Arguments.{last_pairs};
 ghost use Rattle.nv_args.specs.Dicts.{flag_or};
-ghost use Rattle.nv_args.specs.Reading.{string_at, pairs_at};
-ghost use Rattle.nv_args.specs.Texts.{has_newline};
 ghost use Rattle.nv_model.specs.Answers.{Answer};
 ghost use Rattle.nv_model.specs.Answering.{reply_of};
 ghost use Rattle.nv_model.specs.Deleting.{no_buffer_left, other_handles};
 ghost use Rattle.nv_model.specs.Editors.{handles_of};
+ghost use Rattle.nv_model.specs.Seen.{is_name_of};
 ghost use Rattle.nv_model.specs.Standing.{seen_now, seen_buffer_now};
 ghost use Rattle.nv_editor.specs.Doing.{GivesAnswer, ReadsAnswer};
 ghost use Rattle.nv_editor.specs.Sound.{content_at, is_live_buffer};
-ghost use Rattle.nv_api_buf.specs.BufferRows.{nvim_list_bufs, nvim_get_current_buf, nvim_set_current_buf, nvim_create_buf, nvim_buf_delete, nvim_buf_is_valid, nvim_buf_get_name, nvim_buf_set_name, buffers_are_full, is_name_of, is_taken};
+ghost use Rattle.nv_api_buf.specs.BufferRows.{nvim_list_bufs, nvim_get_current_buf, nvim_set_current_buf, nvim_create_buf, nvim_buf_delete, nvim_buf_is_valid, nvim_buf_get_name, nvim_buf_set_name, buffers_are_full};
 ghost use Rattle.nv_api_buf.specs.inside.Deciding.{Leaves, delete_answer, unless_unnamed, unless_kept, unless_full};
 
 use crate::finding::{Live, buffer_at, live_given};
@@ -32,7 +29,7 @@ use nv_buffer::{Buffer, Line};
 use nv_editor::{Editor, Fact, Happened};
 use nv_lines::is_line;
 use nv_msgpack::handle;
-use nv_value::{Bytes, Items, Value};
+use nv_value::{Items, Value};
 use std::alloc::{AllocError, Global};
 
 /// The type of a buffer's handle as an extension value (Neovim help `api-types`).
@@ -46,16 +43,16 @@ fn handle_value(alloc: Global, n: i64) -> Result<Value, AllocError>
     handle(alloc, BUFFER, n)
 }
 
-// The handles of buffers as values.
-fn handle_values(alloc: Global, buffers: &[Buffer]) -> Result<Items, AllocError>
+// The handles of the live buffers as values.
+fn handle_values(editor: &Editor) -> Result<Items, AllocError>
     ensures values { IfOk result (λ items. map content items.items
-        ≡ map (λ b. buffer_handle b.handle) buffers.now) }
-    ensures count { IfOk result (λ items. length items.items ≡ length buffers.now) }
+        ≡ map buffer_handle (handles_of editor.now.buffers)) }
     ensures spelled { IfOk result (λ items. HaveSpellings (contents items.items)) }
 {
+    let alloc = editor.alloc();
     let mut items = Vec::new(alloc);
-    for buffer in buffers {
-        items.push(handle_value(alloc, buffer.handle())?)?;
+    for handle in editor.handles() {
+        items.push(handle_value(alloc, *handle)?)?;
     }
     Ok(items)
 }
@@ -67,11 +64,10 @@ pub fn nvim_list_bufs(editor: &Editor, args: &Args) -> Result<Value, Fail>
     ensures spelled { IfOk result (λ value. HasSpelling (content value)) }
 {
     let _ = args;
-    let buffers = editor.buffers();
-    if buffers.len() > u32::MAX as usize {
+    if editor.buffer_count() > u32::MAX as usize {
         return Err(Fail::NoMemory);
     }
-    let items = handle_values(editor.alloc(), buffers)?;
+    let items = handle_values(editor)?;
     Ok(Value::List(items))
 }
 
@@ -122,7 +118,7 @@ fn may_make_buffer(editor: &Editor) -> Result<(), Fail>
 pub fn are_full(editor: &Editor) -> bool
     ensures { result ≡ buffers_are_full (seen_now editor.now) }
 {
-    editor.buffers().len() >= editor.limits().buffers as usize
+    editor.buffer_count() >= editor.limits().buffers as usize
 }
 
 /// `nvim_create_buf`: a new empty buffer. The second argument has no effect.
@@ -156,7 +152,7 @@ fn may_delete(editor: &Editor, live: Live, forced: bool) -> Result<(), Fail>
     ensures room { IfOk result (λ _. (length (handles_of editor.now.buffers) == 1
         && no_buffer_left editor.now.stage) ≡ false) }
 {
-    if editor.buffers().len() == 1 && !editor.handle_left() {
+    if editor.buffer_count() == 1 && !editor.handle_left() {
         return Err(no_id_left(editor.alloc()));
     }
     if buffer_at(editor, live).modified() && !forced {
@@ -232,36 +228,12 @@ pub fn nvim_buf_get_name(editor: &Editor, args: &Args) -> Result<Value, Fail>
     name_value(buffer_at(editor, live))
 }
 
-// Whether the buffer of a handle has this name.
-fn has_name(editor: &Editor, n: i64, name: &[u8]) -> bool
-    ensures { result ≡ is_name_of name.now ((seen_now editor.now).buffer n) }
-{
-    match editor.buffer(n) {
-        Some(buffer) => buffer.name().as_slice() == name,
-        None => false,
-    }
-}
-
-// Whether a buffer is another one that has the name.
-fn is_other(editor: &Editor, live: Live, buffer: &Buffer, name: &[u8]) -> bool
-    ensures { result ≡ (not (int_eq buffer.now.handle live.handle)
-        && is_name_of name.now ((seen_now editor.now).buffer buffer.now.handle)) }
-{
-    let n = buffer.handle();
-    n != live.handle && has_name(editor, n, name)
-}
-
 // Whether a buffer but this one has the name.
 fn has_other(editor: &Editor, live: Live, name: &[u8]) -> bool
     ensures { result ≡ list_any (λ k. is_name_of name.now ((seen_now editor.now).buffer k))
         (other_handles live.handle (handles_of editor.now.buffers)) }
 {
-    for buffer in editor.buffers() {
-        if is_other(editor, live, buffer, name) {
-            return true;
-        }
-    }
-    false
+    editor.is_named_other(live.handle, name)
 }
 
 // Refuses a name that holds a line feed, and one that another buffer has.

@@ -1,8 +1,6 @@
 //! The windows and tabpages that calls name.
-ghost use Rattle.std.specs.Prelude.{◌≡◌, ◌<◌, ◌^◌, pos, true, false, length, position, option_copied, IfOk, IfErr, IfSome, MatchOption, None, Some};
+ghost use Rattle.std.specs.Prelude.{◌≡◌, ◌<◌, ◌^◌, pos, true, false, position, option_copied, IfOk, IfErr, MatchOption, None, Some};
 ghost use Rattle.std.specs.Ordering.{int_eq};
-ghost use Rattle.nv_layout.specs.Changes.{holds};
-ghost use Rattle.nv_layout.specs.Content.{shape_of};
 ghost use Rattle.nv_windows.specs.Operations.{place_among};
 ghost use Rattle.std.specs.Option.{option_map_or};
 ghost use Rattle.nv_args.specs.Args.{typed_arguments};
@@ -101,27 +99,12 @@ pub fn area_of(windows: &Windows, window: &Window) -> Rect
     }
 }
 
-// Where the tabpage stands that a window is in.
-fn place_of_home(tabpages: &[Tabpage], window: &Window) -> Option<usize>
-    ensures place { result
-        ≡ position (λ t. holds window.now.handle (shape_of t.tree)) tabpages.now }
-    ensures within { IfSome result (λ place. place < length tabpages.now) }
-{
-    tabpages
-        .iter()
-        .position(|tabpage| tabpage.tree.holds(window.handle))
-}
-
 /// The handle of the tabpage that a window is in; 0 where there is none.
 pub fn home_of(windows: &Windows, window: &Window) -> i64
     ensures { result ≡ option_map_or (λ t. t.handle)
         (tabpage_of windows.now window.now.handle) (pos 0) }
 {
-    let tabpages = windows.tabpages();
-    match place_of_home(tabpages, window) {
-        Some(home) => tabpages[home].handle,
-        None => 0,
-    }
+    windows.home(window.handle).unwrap_or(0)
 }
 
 /// How many tabpages stand before one.

@@ -27,6 +27,8 @@ use Rattle.nv_book.specs.inside.Intakes.{Intaking, IsFreshIntake, TellsPlace, St
 use Rattle.nv_book.specs.inside.Pieces.{IsCountOf, IsNoPiece, StopsInOutput, StopsOutput}
 use Rattle.nv_book.specs.inside.Parts.{IsPart, HasPart, IsNoFirst, IsNoPart, IsPlaceBehind, HasEndValue, EndsWrong, EndsEarly, StopsAtEnd}
 use Rattle.nv_book.specs.inside.Playing.{told_at, IsPlayedTo, PlaysOne}
+use Rattle.nv_book.specs.Upcoming.{IsUpcoming}
+use Rattle.nv_book.specs.declared.replay.Upcoming.{Upcoming}
 use Rattle.nv_book.specs.inside.Entering.{is_there, Advances, IsNotEntering, HasPlayed, PlaysEntry, IsStepMade, IsEntering, replaying}
 use Rattle.nv_book.specs.declared.faults.Unread.{Unread}
 use Rattle.nv_book.specs.declared.faults.Unread.TheVariants.{NoMemory, ReadFault, Malformed}
@@ -384,6 +386,16 @@ entering start fed b rs ps place h p x y player recorded k e part is = record {
   given = part.given;
   tells = subst (λ (q : Part). IsPart part.t q) is part.is;
 }
+
+pub upcoming_by : (start : Start) (bytes : List ℕ) (rs ps : List Recorded) (place : ℕ) (h : Heading) (x : Intaking) (player : Player) (recorded : List ℕ)
+    → IsEntering start bytes rs ps place h x player → IsUpcoming bytes rs ps (record { place = place; heading = h }) (replaying start x player recorded)
+upcoming_by start bytes rs ps place h x player recorded i =
+    record { fair = i.fair; played_are = i.played_are; here = i.here; t = i.t; given = i.given; tells = i.tells }
+
+pub entering_of : (start : Start) (bytes : List ℕ) (rs ps : List Recorded) (u : Upcoming) (x : Intaking) (player : Player) (recorded : List ℕ)
+    → IsUpcoming bytes rs ps u (replaying start x player recorded) → IsEntering start bytes rs ps u.place u.heading x player
+entering_of start bytes rs ps u x player recorded i =
+    record { fair = i.fair; played_are = i.played_are; here = i.here; t = i.t; given = i.given; tells = i.tells }
 
 pub place_there : (start : Start) (fed b : List ℕ) (rs ps : List Recorded) (place : ℕ) (x : Intaking) (player : Player) (recorded : List ℕ) → IsReplaying fed rs ps (replaying start x player recorded) → place ≡ x.stream.start → IsPlaceBehind (fed ++ b) (front_values start.outbox rs) place
 place_there start fed b rs ps place x player recorded k e =

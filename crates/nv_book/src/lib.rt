@@ -17,5 +17,6 @@ mod values;
 mod writing;
 
 pub use faults::{BookFault, Unread};
-pub use replay::{Book, Replay, read_book};
+pub use headings::Heading;
+pub use replay::{Book, Replay, Upcoming, read_book};
 pub use writing::{write_book, write_replay};

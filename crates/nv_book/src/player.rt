@@ -112,6 +112,7 @@ impl Player {
             × (self.new.world.limits ≡ self.old.world.limits) }
         ensures plays { OnOk result (PlaysOne self.old.world self.old.painters.items
             (plain_event event) self.new.output.items self.new.world self.new.painters.items) }
+        ensures known { OnOk result (self.old.world.spent ≡ false) }
         ensures session { IfOk result (λ s. (w : ModelWorld) → model_of self.old.world ≡ Some w
             → IsSessionOf (plain_event event) (step w (plain_event event)) s) }
         ensures refused { result ≡ Err Halt.Refused → (w : ModelWorld)

@@ -1,14 +1,15 @@
 //! A book that is read and replayed, entry by entry.
-ghost use Rattle.std.specs.Prelude.{◌≡◌, ◌+◌, ◌^◌, ◌<◌, ◌≤◌, ℕ, true, List, ◌++◌, length, IfOk, OnOk, IsSome, Ok, Err, Some};
+ghost use Rattle.std.specs.Prelude.{◌≡◌, ◌+◌, ◌^◌, ◌<◌, ◌≤◌, ℕ, true, List, ◌++◌, length, IfOk, IfSome, OnOk, IsSome, Ok, Err, Some, false};
 ghost use Rattle.nv_io.specs.Faults.{Rose};
 ghost use Rattle.nv_io.specs.Streams.{Gave};
 ghost use Rattle.nv_history.specs.Runs.{run};
 ghost use Rattle.nv_world.specs.Contents.{plain_entries, plain_event};
-ghost use Rattle.nv_world.specs.Worlds.{IsLightEvent};
+ghost use Rattle.nv_world.specs.Worlds.{IsLightEvent, model_of};
 ghost use Rattle.nv_world.specs.declared.step.Step.{Step as PlainStep};
 ghost use Rattle.nv_world.specs.declared.story.Start.{Start as PlainStart};
 ghost use Rattle.nv_book.specs.Books.{Recorded};
 ghost use Rattle.nv_book.specs.Reading.{BeginsReplay, IsReplaying, ReadsBook, Replays};
+ghost use Rattle.nv_book.specs.Upcoming.{HasEntered, IsUpcoming, PlaysNext, ReadsNext};
 ghost use Rattle.nv_book.specs.inside.Entering.{is_there, Advances, IsEntering, EntersOne, IsStepMade, PlaysEntry};
 
 use crate::faults::Unread;
@@ -33,6 +34,14 @@ pub struct Replay {
     intake: Intake,
     // The output of the last entry, as the book has it.
     recorded: Vec<u8>,
+}
+
+/// The next entry of a book, which was read and is yet to be played.
+#[derive(Drop)]
+pub struct Upcoming {
+    /// Where its value stands in the book.
+    pub place: u64,
+    pub heading: Heading,
 }
 
 /// A book: what its world begins with, and its history.
@@ -83,6 +92,7 @@ fn play_entry<R: Net<Listener = TcpListener, Stream = TcpStream>, S: Source>(
         (S.left source.new) bytes
         × PlaysEntry bytes (S.left source.new) place (record { caller = caller; event = event })
         result intake.old intake.new player.old player.new }
+    ensures known { OnOk result (player.old.world.spent ≡ false) }
     ensures begins { (player.new.world.capacity ≡ player.old.world.capacity)
         × (player.new.world.limits ≡ player.old.world.limits) }
     ensures later { S.faults source.old ≤ S.faults source.new }
@@ -98,8 +108,10 @@ fn play_entry<R: Net<Listener = TcpListener, Stream = TcpStream>, S: Source>(
 
 // The step of the entry that was played last.
 fn step_of(player: &Player, at: u64, caller: u32, session: u64) -> Result<Step, AllocError>
-    ensures { IfOk result (IsStepMade at caller session player.now) }
+    ensures made { IfOk result (IsStepMade at caller session player.now) }
+    ensures runs { IsSome (model_of player.now.world) }
 {
+    let _ = player.world.history();
     let sent = Bytes::from_slice(player.alloc, &player.output)?;
     let splices = player.world.last_splices()?;
     Ok(Step {
@@ -131,6 +143,8 @@ fn enter<R: Net<Listener = TcpListener, Stream = TcpStream>, S: Source>(
         player.new recorded.new.items) }
     ensures begins { (player.new.world.capacity ≡ player.old.world.capacity)
         × (player.new.world.limits ≡ player.old.world.limits) }
+    ensures enters { IfOk result
+        (HasEntered heading.entry player.old.world player.new.world) }
     ensures grows { OnOk result ((length player.old.world.history < 2 ^ 63)
         × (length player.new.world.history ≡ length player.old.world.history + 1)) }
     ensures later { S.faults source.old ≤ S.faults source.new }
@@ -183,6 +197,75 @@ impl Replay {
         })
     }
 
+    /// Reads the next entry of the book, which is to be played next. `None` at the end of the book,
+    /// where the source was read to its end; so it was where the book is told malformed. Behind an
+    /// error or the end nothing more is promised.
+    pub fn read<R: Net<Listener = TcpListener, Stream = TcpStream>, S: Source>(
+        &mut self,
+        rt: &R,
+        source: &mut S,
+    ) -> Result<Option<Upcoming>, Unread>
+        ensures goes { (bytes : List ℕ)
+            × Gave (S.taken source.old) (S.taken source.new) (S.left source.old)
+            (S.left source.new) bytes
+            × ((fed : List ℕ) (records played : List Recorded)
+            → IsReplaying fed records played self.old
+            → ReadsNext (fed ++ bytes) (S.left source.new) records played result self.new) }
+        ensures light { IfOk result (λ found. IfSome found
+            (λ upcoming. IsLightEvent (plain_event upcoming.heading.entry.event))) }
+        ensures same { self.new.start ≡ self.old.start }
+        ensures world { self.new.world ≡ self.old.world }
+        ensures later { S.faults source.old ≤ S.faults source.new }
+        ensures fault { result ≡ Err Unread.ReadFault
+            → Rose (S.faults source.old) (S.faults source.new) }
+    {
+        let place = self.intake.place();
+        match read_part(rt, self.player.alloc, source, &mut self.intake)? {
+            Part::Entry(heading) => Ok(Some(Upcoming { place, heading })),
+            Part::End(told) => {
+                let entries = self.player.world.history().len() as u64;
+                read_end(rt, source, &mut self.intake, place, told, entries)?;
+                Ok(None)
+            }
+        }
+    }
+
+    /// Plays the entry that was read last, and reads its output.
+    pub fn play<R: Net<Listener = TcpListener, Stream = TcpStream>, S: Source>(
+        &mut self,
+        rt: &R,
+        source: &mut S,
+        upcoming: Upcoming,
+    ) -> Result<Step, Unread>
+        requires light { IsLightEvent (plain_event upcoming.heading.entry.event) }
+        ensures goes { (bytes : List ℕ)
+            × Gave (S.taken source.old) (S.taken source.new) (S.left source.old)
+            (S.left source.new) bytes
+            × ((fed : List ℕ) (records played : List Recorded)
+            → IsUpcoming fed records played upcoming self.old
+            → PlaysNext (fed ++ bytes) (S.left source.new) records played result self.new) }
+        ensures enters { IfOk result
+            (HasEntered upcoming.heading.entry self.old.world self.new.world) }
+        ensures same { self.new.start ≡ self.old.start }
+        ensures grows { OnOk result ((length self.old.world.history < 2 ^ 63)
+            × (length self.new.world.history ≡ length self.old.world.history + 1)) }
+        ensures later { S.faults source.old ≤ S.faults source.new }
+        ensures fault { result ≡ Err Unread.ReadFault
+            → Rose (S.faults source.old) (S.faults source.new) }
+    {
+        let Upcoming { place, heading } = upcoming;
+        let step = enter(
+            rt,
+            source,
+            &mut self.intake,
+            &mut self.player,
+            place,
+            heading,
+            &mut self.recorded,
+        )?;
+        Ok(step)
+    }
+
     /// Plays the next entry of the book and reads its output. `None` at the end of the book, where
     /// the source was read to its end; so it was where the book is told malformed. Behind an error
     /// or the end nothing more is promised.
@@ -205,25 +288,12 @@ impl Replay {
         ensures fault { result ≡ Err Unread.ReadFault
             → Rose (S.faults source.old) (S.faults source.new) }
     {
-        let place = self.intake.place();
-        match read_part(rt, self.player.alloc, source, &mut self.intake)? {
-            Part::Entry(heading) => {
-                let step = enter(
-                    rt,
-                    source,
-                    &mut self.intake,
-                    &mut self.player,
-                    place,
-                    heading,
-                    &mut self.recorded,
-                )?;
+        match self.read(rt, source)? {
+            Some(upcoming) => {
+                let step = self.play(rt, source, upcoming)?;
                 Ok(Some(step))
             }
-            Part::End(told) => {
-                let entries = self.player.world.history().len() as u64;
-                read_end(rt, source, &mut self.intake, place, told, entries)?;
-                Ok(None)
-            }
+            None => Ok(None),
         }
     }
 

@@ -1,15 +1,15 @@
 -- Lemmas on legs that are gone in the tree of changes, and on what is told of them.
-use Rattle.std.proofs.Common.{◌≡◌, ℕ, ℤ, pos, suc, ◌+◌, ◌+ℤ◌, ◌<◌, ◌≤◌, ◌≤ℤ◌, ◌<ℤ◌, true, List, [], ◌∷◌, ◌++◌, length, drop, slice_get, flat_map, fold, Option, Some, Result, Ok, Err, OnOk, option_map, unwrap_or, refl, sym, ap, subst, ◌∙◌, arith, length-append, append_assoc}
+use Rattle.std.proofs.Common.{◌≡◌, ℕ, ℤ, pos, suc, ◌+◌, ◌+ℤ◌, ◌<◌, ◌≤◌, ◌≤ℤ◌, ◌<ℤ◌, true, List, [], ◌∷◌, ◌++◌, length, take, drop, slice_get, flat_map, fold, Option, Some, Result, Ok, Err, OnOk, option_map, unwrap_or, refl, sym, ap, subst, ◌∙◌, arith, length-append, append_assoc}
 use Rattle.std.proofs.lemmas.Int.{ints}
-use Rattle.std.proofs.lemmas.List.{append-nil, drop_more, drop_all}
+use Rattle.std.proofs.lemmas.List.{append-nil, drop_more, drop_all, take_more}
 use Rattle.std.proofs.lemmas.Option.{get_or_from_slice_get, slice_get_within}
 use Rattle.nv_undo.specs.Tree.{Undo, last, numbered, parent_of, change_of, path, tree_after_leg}
 use Rattle.nv_undo.specs.Ways.{Leads, origin, IsNext}
 use Rattle.nv_undo.specs.declared.legs.Leg.{Leg}
 use Rattle.nv_undo.specs.declared.legs.Leg.TheVariants.{Back, Ahead}
 use Rattle.nv_undo.proofs.NumberLemmas.{some_numbered, some_parent, numbered_same, parent_within, parent_same}
-use Rattle.nv_buffer.specs.Changes.{lines_after, inverse_edits, Fits, AllFit, text_at, edits_of, leg_edits}
-use Rattle.nv_buffer.specs.Content.{Content, after_edit, event_at, events_from, event_fold, TellBytes, after_seal, after_seal_of, after_leg, undo_to_edits}
+use Rattle.nv_buffer.specs.Changes.{lines_after, inverse_edits, Fits, AllFit, text_at, edits_of, leg_text, leg_edits}
+use Rattle.nv_buffer.specs.Content.{Content, after_edit, event_at, events_from, event_fold, TellBytes, after_seal, after_seal_of, after_leg, undo_to_edits, IsAlong}
 use Rattle.nv_marks.specs.Marks.{Marks}
 use Rattle.nv_buffer.specs.Marks.{marks_after}
 use Rattle.nv_buffer.specs.Steps.{IsBuffer}
@@ -279,6 +279,7 @@ way_runs buffer (leg ∷ legs) to is way =
 pub record Going (first : Content) (before : List Spliced) (edits : List Edit) (now : Content) (events : List Spliced) (place : ℕ) : Type 0 where
   pub undo : now.undo ≡ first.undo
   pub made : fold after_edit now (drop place edits) ≡ fold after_edit first edits
+  pub text : now.text ≡ fold lines_after first.text (take place edits)
   pub fit : AllFit now.text (drop place edits)
   pub tick : now.tick +ℤ pos (length (drop place edits)) ≡ first.tick +ℤ pos (length edits)
   pub told : events ++ events_from now.tick (drop place edits) ≡ before ++ events_from first.tick edits
@@ -289,6 +290,7 @@ going_first buffer events leg is next =
     let runs : Runs buffer.undo leg = leg_runs buffer.text buffer.tick buffer.undo buffer.unsealed leg is.0 next in record {
       undo = refl;
       made = refl;
+      text = refl;
       fit = subst (λ (t : List (List ℕ)). AllFit t (leg_edits buffer.undo leg)) (sym (sealed_text buffer is)) runs.fit;
       tick = refl;
       told = refl;
@@ -319,9 +321,16 @@ pub going_on : (first now next : Content) (before events more : List Spliced) (e
 going_on first now next before events more edits place edit event going here next_is event_is more_is =
     let rest : List Edit = drop (place + 1) edits in
     let left : drop place edits ≡ edit ∷ rest = left_at edits place edit here in
+    let took : take (place + 1) edits ≡ take place edits ++ edit ∷ [] =
+    take_more edits place edit (slice_get_within edits place edit here)
+    ∙ ap (λ (e : Edit). take place edits ++ e ∷ []) (get_or_from_slice_get edits place edit edit here) in
     let all : Going first before edits (after_edit now edit) (events ++ event_at (now.tick +ℤ pos 1) edit ∷ []) (place + 1) = record {
       undo = going.undo;
       made = sym (ap (λ (es : List Edit). fold after_edit now es) left) ∙ going.made;
+      text =
+          ap (λ (t : List (List ℕ)). lines_after t edit) going.text
+          ∙ sym (fold-append lines_after first.text (take place edits) (edit ∷ []))
+          ∙ sym (ap (λ (es : List Edit). fold lines_after first.text es) took);
       fit = (subst (λ (es : List Edit). AllFit now.text es) left going.fit).1;
       tick = tick_next now.tick (length rest) ∙ sym (ap (λ (es : List Edit). now.tick +ℤ pos (length es)) left) ∙ going.tick;
       told =
@@ -330,6 +339,20 @@ going_on first now next before events more edits place edit event going here nex
           ∙ going.told;
     } in
     rw (next_is, more_is, event_is) all
+
+-- the text of the current number is the one that a leg from there begins with
+leg_begins : (undo : Undo (List Edit)) (leg : Leg) → IsNext undo leg → text_at undo undo.current ≡ leg_text undo leg
+leg_begins undo (Back n) next = ap (text_at undo) (sym next.0)
+leg_begins undo (Ahead n) next = sym (ap (λ (o : Option ℕ). text_at undo (unwrap_or o 0)) next)
+
+-- so the text is this one with the first of the leg's edits
+pub going_along : (first now : Content) (before events : List Spliced) (leg : Leg) (place : ℕ) → IsSealed first → IsNext first.undo leg
+    → Going first before (leg_edits first.undo leg) now events place → IsAlong now leg place
+going_along first now before events leg place is next going =
+    going.text
+    ∙ ap (λ (t : List (List ℕ)). fold lines_after t (take place (leg_edits first.undo leg)))
+    (sealed_text first is ∙ leg_begins first.undo leg next)
+    ∙ ap (λ (u : Undo (List Edit)). fold lines_after (leg_text u leg) (take place (leg_edits u leg))) (sym going.undo)
 
 -- all of the edits were made
 pub record Gone (first : Content) (before : List Spliced) (edits : List Edit) (now : Content) (events : List Spliced) : Type 0 where

@@ -52,7 +52,7 @@ kept-middle texts before after parent n edits place below =
     )
 
 -- a list, parted at a place
-parted : {X : Type 0} (xs : List X) (place : ℕ) (x : X) → slice_get xs place ≡ Some x → xs ≡ take place xs ++ x ∷ drop (suc place) xs
+pub parted : {X : Type 0} (xs : List X) (place : ℕ) (x : X) → slice_get xs place ≡ Some x → xs ≡ take place xs ++ x ∷ drop (suc place) xs
 parted xs place x here =
     let within : place < length xs = slice_get_within xs place x here in
     sym (take-append-drop place xs)

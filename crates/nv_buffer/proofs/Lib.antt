@@ -6,6 +6,8 @@ pub mod Placing
 pub mod Edits
 pub mod Reaches
 pub mod KeptTexts
+pub mod Patching
+pub mod StepsAhead
 pub mod TreeAhead
 pub mod Keeping
 pub mod LeadingBack

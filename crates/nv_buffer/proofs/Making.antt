@@ -1,64 +1,63 @@
 -- Lemmas on a buffer in which an edit is made, with the step that is kept of it.
-use Rattle.std.proofs.Common.{◌≡◌, ℕ, ℤ, pos, ◌+◌, ◌+ℤ◌, true, List, [], ◌∷◌, ◌++◌, length, slice_range, refl, sym, ap, subst, ◌∙◌}
-use Rattle.std.proofs.lemmas.List.{map_push}
+use Rattle.std.proofs.Common.{◌≡◌, ℕ, ℤ, pos, ◌+ℤ◌, true, List, [], ◌∷◌, ◌++◌, refl, sym, ap, subst, ◌∙◌}
 use Rattle.nv_marks.specs.Marks.{Marks}
 use Rattle.nv_undo.specs.Tree.{Undo}
-use Rattle.nv_buffer.specs.Splices.{IsBufferText, IsNarrowText}
-use Rattle.nv_buffer.specs.Changes.{lines_after, inverse_edit, Fits}
+use Rattle.nv_buffer.specs.Splices.{IsNarrowText}
+use Rattle.nv_buffer.specs.Changes.{lines_after, Fits, text_at}
 use Rattle.nv_buffer.specs.Content.{Content, after_edit}
 use Rattle.nv_buffer.specs.Marks.{AreMarksIn, marks_after}
-use Rattle.nv_buffer.specs.Steps.{edits_ahead, edit_back, tree_ahead, IsBuffer, AllLeadBack}
+use Rattle.nv_buffer.specs.Steps.{edit_ahead, tree_ahead, edits_since, IsKept, IsBuffer, AllLeadBack}
 use Rattle.nv_buffer.specs.declared.edit.Edit.{Edit}
-use Rattle.nv_buffer.specs.declared.edit.Step.{Step}
+use Rattle.nv_buffer.specs.declared.step.Step.{Step}
 use Rattle.nv_buffer.proofs.Keeping.{edit_kept, text_of_buffer}
 use Rattle.nv_buffer.proofs.LeadingBack.{edit_leads}
 use Rattle.nv_buffer.proofs.Placing.{marks_stay}
-
--- the step that is kept of an edit takes it back
-pub record Takes (text : List (List ℕ)) (step : Step) : Type 0 where
-  pub end : step.end ≡ step.ahead.first + length step.ahead.lines
-  pub taken : step.taken ≡ slice_range text step.ahead.first step.ahead.last
-
-back_is : (text : List (List ℕ)) (step : Step) → Takes text step → edit_back step ≡ inverse_edit text step.ahead
-back_is text step takes = λ i. record (edit_back step) { last = takes.end i; lines = takes.taken i }
+use Rattle.nv_buffer.proofs.StepsAhead.{edits_ahead-push}
 
 -- what is known of the buffer afterwards
 pub record Made (text : List (List ℕ)) (tick : ℤ) (tree : Undo (List Step)) (steps : List Step) (marks : Marks) : Type 0 where
   pub narrow : IsNarrowText text
-  pub buffer : IsBuffer text tick (tree_ahead tree) (edits_ahead steps)
+  pub buffer : IsBuffer text tick (tree_ahead tree) (edits_since tree steps)
   pub lead : AllLeadBack tree steps
   pub places : AreMarksIn text marks
 
 edit_made : (text : List (List ℕ)) (tick : ℤ) (tree : Undo (List Step)) (steps : List Step) (marks : Marks) (step : Step)
-    → IsBuffer text tick (tree_ahead tree) (edits_ahead steps) → AllLeadBack tree steps → AreMarksIn text marks → Fits text step.ahead
-    → Takes text step
-    → Made (lines_after text step.ahead) (tick +ℤ pos 1) tree (steps ++ step ∷ []) (marks_after marks step.ahead)
-edit_made text tick tree steps marks step is lead are fits takes = record {
+    → IsBuffer text tick (tree_ahead tree) (edits_since tree steps) → AllLeadBack tree steps → AreMarksIn text marks
+    → Fits text (edit_ahead text step) → IsKept text step
+    → Made (lines_after text (edit_ahead text step)) (tick +ℤ pos 1) tree (steps ++ step ∷ []) (marks_after marks (edit_ahead text step))
+edit_made text tick tree steps marks step is lead are fits kept = record {
   narrow = fits.narrow;
   buffer =
-      subst (λ (es : List Edit). IsBuffer (lines_after text step.ahead) (tick +ℤ pos 1) (tree_ahead tree) es)
-      (sym (map_push (λ (s : Step). s.ahead) steps step))
-      (edit_kept text tick (tree_ahead tree) (edits_ahead steps) step.ahead is fits);
-  lead = edit_leads text tree steps step lead is.now (back_is text step takes);
-  places = marks_stay text step.ahead marks (text_of_buffer text tick (tree_ahead tree) (edits_ahead steps) is) fits are;
+      subst (λ (es : List Edit). IsBuffer (lines_after text (edit_ahead text step)) (tick +ℤ pos 1) (tree_ahead tree) es)
+      (sym (edits_ahead-push (text_at (tree_ahead tree) tree.current) text steps step is.now))
+      (edit_kept text tick (tree_ahead tree) (edits_since tree steps) (edit_ahead text step) is fits);
+  lead = edit_leads text tree steps step lead is.now kept;
+  places = marks_stay text (edit_ahead text step) marks (text_of_buffer text tick (tree_ahead tree) (edits_since tree steps) is) fits are;
 }
 
 -- the same of what stands in the buffer then
-pub edit_stands : (inside text now : List (List ℕ)) (tick later : ℤ) (tree : Undo (List Step)) (steps more : List Step) (marks moved : Marks)
-    (step : Step) → inside ≡ text → IsBuffer inside tick (tree_ahead tree) (edits_ahead steps) → AllLeadBack tree steps
-    → AreMarksIn inside marks → Fits text step.ahead → Takes inside step
-    → now ≡ lines_after inside step.ahead → later ≡ tick +ℤ pos 1 → more ≡ steps ++ step ∷ [] → moved ≡ marks_after marks step.ahead
+pub edit_stands : (inside now : List (List ℕ)) (tick later : ℤ) (tree : Undo (List Step)) (steps more : List Step) (marks moved : Marks)
+    (edit : Edit) (step : Step) → IsBuffer inside tick (tree_ahead tree) (edits_since tree steps) → AllLeadBack tree steps
+    → AreMarksIn inside marks → Fits inside edit → edit_ahead inside step ≡ edit → IsKept inside step
+    → now ≡ lines_after inside edit → later ≡ tick +ℤ pos 1 → more ≡ steps ++ step ∷ [] → moved ≡ marks_after marks edit
     → Made now later tree more moved
-edit_stands inside text now tick later tree steps more marks moved step same is lead are fits takes now_is later_is more_is moved_is =
-    let here : Fits inside step.ahead = subst (λ (t : List (List ℕ)). Fits t step.ahead) (sym same) fits in
-    rw (now_is, later_is, more_is, moved_is) (edit_made inside tick tree steps marks step is lead are here takes)
+edit_stands inside now tick later tree steps more marks moved edit step is lead are fits same kept now_is later_is more_is moved_is =
+    let here : Fits inside (edit_ahead inside step) = subst (λ (e : Edit). Fits inside e) (sym same) fits in
+    let n : now ≡ lines_after inside (edit_ahead inside step) = now_is ∙ ap (lines_after inside) (sym same) in
+    let m : moved ≡ marks_after marks (edit_ahead inside step) = moved_is ∙ ap (marks_after marks) (sym same) in
+    rw (n, later_is, more_is, m) (edit_made inside tick tree steps marks step is lead are here kept)
 
 -- the step behind those that were there
 pub step_pushed : (old room now : List Step) (step : Step) → room ≡ old → now ≡ room ++ step ∷ [] → now ≡ old ++ step ∷ []
 step_pushed old room now step room_is now_is = now_is ∙ ap (λ (ss : List Step). ss ++ step ∷ []) room_is
 
-pub edits_pushed : (now old : List Step) (step : Step) → now ≡ old ++ step ∷ [] → edits_ahead now ≡ edits_ahead old ++ step.ahead ∷ []
-edits_pushed now old step is = ap edits_ahead is ∙ map_push (λ (s : Step). s.ahead) old step
+pub edits_pushed : (text : List (List ℕ)) (tick : ℤ) (tree : Undo (List Step)) (old now : List Step) (edit : Edit) (step : Step)
+    → IsBuffer text tick (tree_ahead tree) (edits_since tree old) → edit_ahead text step ≡ edit → now ≡ old ++ step ∷ []
+    → edits_since tree now ≡ edits_since tree old ++ edit ∷ []
+edits_pushed text tick tree old now edit step is same now_is =
+    ap (edits_since tree) now_is
+    ∙ edits_ahead-push (text_at (tree_ahead tree) tree.current) text old step is.now
+    ∙ ap (λ (e : Edit). edits_since tree old ++ e ∷ []) same
 
 -- the buffer as it is seen then
 pub edited_is : (before now : Content) (edit : Edit) (text : List (List ℕ)) (tick : ℤ) (marks : Marks) (unsealed : List Edit) → before ≡ now

@@ -12,10 +12,10 @@ use Rattle.nv_buffer.specs.Splices.{IsBufferText, IsNarrowText}
 use Rattle.nv_buffer.specs.declared.edit.Edit.{Edit}
 
 -- what stands before a splice, and from it on
-splice-front : (text new : List (List ℕ)) (from to : ℕ) → from ≤ length text → take from (splice text from to new) ≡ take from text
+pub splice-front : (text new : List (List ℕ)) (from to : ℕ) → from ≤ length text → take from (splice text from to new) ≡ take from text
 splice-front text new from to within = take_at (take from text) (new ++ drop to text) from (length-take-le from text within)
 
-splice-rest : (text new : List (List ℕ)) (from to : ℕ) → from ≤ length text → drop from (splice text from to new) ≡ new ++ drop to text
+pub splice-rest : (text new : List (List ℕ)) (from to : ℕ) → from ≤ length text → drop from (splice text from to new) ≡ new ++ drop to text
 splice-rest text new from to within = drop_at (take from text) (new ++ drop to text) from (length-take-le from text within)
 
 -- the lines that a splice puts

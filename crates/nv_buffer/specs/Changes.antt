@@ -119,6 +119,12 @@ text_at undo n = get_or (fold with_text (first_text ∷ []) undo.changes) n firs
 abbrev pub edits_of : Undo (List Edit) → ℕ → List Edit
 edits_of undo n = unwrap_or (change_of undo n) []
 
+-- the text that a leg begins with: that of the change that is left, or that of the parent of the
+-- change that is entered
+abbrev pub leg_text : Undo (List Edit) → Leg → List (List ℕ)
+leg_text undo (Back n) = text_at undo n
+leg_text undo (Ahead n) = text_at undo (origin undo n)
+
 -- the edits of a leg: those that take back the change that is left, or those of the change that is
 -- entered (help: undo-commands)
 abbrev pub leg_edits : Undo (List Edit) → Leg → List Edit

@@ -1,11 +1,11 @@
 -- What a buffer is, what an edit of its text does, and what undoing does.
-use Rattle.std.specs.Prelude.{◌≡◌, ℕ, ℤ, pos, ◌+◌, ◌+ℤ◌, ◌≤◌, Bool, true, false, List, [], ◌∷◌, ◌++◌, length, fold, flat_map}
+use Rattle.std.specs.Prelude.{◌≡◌, ℕ, ℤ, pos, ◌+◌, ◌+ℤ◌, ◌≤◌, Bool, true, false, List, [], ◌∷◌, ◌++◌, length, take, fold, flat_map}
 use Rattle.std.specs.List.{splice}
 use Rattle.nv_places.specs.Flat.{flat}
 use Rattle.nv_places.specs.declared.place.Pos.{Pos}
 use Rattle.nv_undo.specs.Tree.{Undo, no_changes, pushed, tree_after_leg}
 use Rattle.nv_undo.specs.declared.legs.Leg.{Leg}
-use Rattle.nv_buffer.specs.Changes.{first_text, lines_after, rows_edit, text_edit, Replaces, text_at, leg_edits}
+use Rattle.nv_buffer.specs.Changes.{first_text, lines_after, rows_edit, text_edit, Replaces, text_at, leg_text, leg_edits}
 use Rattle.nv_buffer.specs.Marks.{marks_after}
 use Rattle.nv_marks.specs.Marks.{Marks}
 use Rattle.nv_undo.specs.Ways.{undo_legs, redo_legs, legs_to}
@@ -131,6 +131,12 @@ after_leg buffer leg = record buffer {
   marks = fold marks_after buffer.marks (leg_edits buffer.undo leg);
   undo = tree_after_leg leg buffer.undo;
 }
+
+-- the text is the one that a leg begins with, with so many of its edits made
+abbrev pub IsAlong : Content → Leg → ℕ → Type 0
+IsAlong buffer leg place =
+    buffer.text
+    ≡ fold lines_after (leg_text buffer.undo leg) (take place (leg_edits buffer.undo leg))
 
 -- the buffer after undo, after redo, and after undo to a number (help: undo-commands)
 abbrev pub after_undo : Content → Content

@@ -9,15 +9,17 @@ ghost use Rattle.nv_marks.specs.Moves.{MovesNarrowly};
 ghost use Rattle.nv_buffer.specs.Splices.{IsBufferText, IsInLine, IsNarrowLine, IsNarrowText, lines_between};
 ghost use Rattle.nv_buffer.specs.Marks.{AreMarksIn, IsMarkIn, IsMarked, IsUnmarked, marks_after};
 ghost use Rattle.nv_buffer.specs.Changes.{rows_edit, text_edit, Fits, text_at, edits_of, leg_edits};
-ghost use Rattle.nv_buffer.specs.Content.{IsEdit, fresh_content, after_edit, event_at, rows_event, text_event, after_seal};
+ghost use Rattle.nv_buffer.specs.Content.{IsEdit, fresh_content, after_edit, event_at, rows_event, text_event, after_seal, IsAlong};
 ghost use Rattle.nv_buffer.specs.Steps.{IsBuffer, kept_count};
 ghost use Rattle.nv_undo.specs.Tree.{last, tree_after_leg, parent_of, child_of, path};
 ghost use Rattle.nv_undo.specs.Ways.{Leads, origin, IsNext};
-ghost use Rattle.nv_undo.specs.declared.legs.Leg.TheVariants.{Back};
+ghost use Rattle.nv_undo.specs.declared.legs.Leg.TheVariants.{Back, Ahead};
 
-use crate::edit::{Change, Edit, Step};
+use crate::edit::Edit;
 use crate::joining::{around, is_one_empty, joined};
+use crate::patch::Patch;
 use crate::reaching::{extent_between, flat_len_of, joined_reach, rows_reached};
+use crate::step::{Change, Step};
 use nv_lines::{Line, LineList, Lines};
 use nv_marks::{Mark, MarkSet};
 use nv_places::Pos;
@@ -59,7 +61,7 @@ impl Model for Buffer {
     ghost use Rattle.nv_buffer.specs.Splices.{IsNarrowText};
     ghost use Rattle.nv_buffer.specs.Content.{Content};
     ghost use Rattle.nv_buffer.specs.Marks.{AreMarksIn};
-    ghost use Rattle.nv_buffer.specs.Steps.{tree_ahead, edits_ahead, IsBuffer, AllLeadBack};
+    ghost use Rattle.nv_buffer.specs.Steps.{tree_ahead, edits_since, IsBuffer, AllLeadBack};
 
     ghost Value = { Content };
 
@@ -74,11 +76,11 @@ impl Model for Buffer {
       tabstop = b.tabstop;
       marks = b.marks;
       undo = tree_ahead b.tree;
-      unsealed = edits_ahead b.unsealed.items;
+      unsealed = edits_since b.tree b.unsealed.items;
     } };
 
     ghost invariant = { λ b. IsNarrowText b.text × (1 ≤ b.tabstop) × (b.tabstop ≤ 9999)
-        × IsBuffer b.text b.tick (tree_ahead b.tree) (edits_ahead b.unsealed.items)
+        × IsBuffer b.text b.tick (tree_ahead b.tree) (edits_since b.tree b.unsealed.items)
         × AllLeadBack b.tree b.unsealed.items
         × AreMarksIn b.text b.marks };
 }
@@ -364,8 +366,8 @@ impl Buffer {
         ensures err { OnErr result (self.new ≡ self.old) }
     {
         let told = edit.share()?;
+        let patch = Patch::of(self.alloc, &self.text, &edit)?;
         let lines = edit.lines.share()?;
-        let end = edit.first + lines.len() as u32;
         make_room(&mut self.unsealed)?;
         let taken = self
             .text
@@ -373,11 +375,7 @@ impl Buffer {
         move_marks(&mut self.marks, &edit);
         self.tick += 1;
         self.modified = true;
-        self.unsealed.push_reserved(Step {
-            ahead: edit,
-            end,
-            taken,
-        });
+        self.unsealed.push_reserved(Step::new(patch, edit, taken));
         Ok(Spliced {
             tick: self.tick,
             edit: told,
@@ -520,9 +518,10 @@ impl Buffer {
         }
     }
 
-    /// An edit of a leg once more, by its place from 0.
+    /// An edit of a leg once more, by its place from 0, once those before it are made.
     pub fn leg_edit(&self, leg: Leg, place: usize) -> Result<Edit, AllocError>
-        requires { place < length (leg_edits self.now.undo leg) }
+        requires place { place < length (leg_edits self.now.undo leg) }
+        requires text { IsAlong self.now leg place }
         ensures { IfOk result (λ edit. slice_get (leg_edits self.now.undo leg) place ≡ Some edit) }
     {
         match leg {
@@ -533,23 +532,27 @@ impl Buffer {
 
     // An edit that takes a change back, by its place from 0: that of the last step comes first.
     fn edit_back(&self, n: u64, place: usize) -> Result<Edit, AllocError>
-        requires { place < length (edits_of self.now.undo n) }
+        requires place { place < length (edits_of self.now.undo n) }
+        requires text { IsAlong self.now (Back n) place }
         ensures { IfOk result (λ edit.
             slice_get (leg_edits self.now.undo (Back n)) place ≡ Some edit) }
     {
         match self.tree.change(n) {
-            Some(change) => change.step(change.len() - 1 - place).back(),
+            Some(change) => change
+                .step(change.len() - 1 - place)
+                .back(self.alloc, &self.text),
             None => unreachable!(),
         }
     }
 
     // An edit of a change, by its place from 0.
     fn edit_ahead(&self, n: u64, place: usize) -> Result<Edit, AllocError>
-        requires { place < length (edits_of self.now.undo n) }
+        requires place { place < length (edits_of self.now.undo n) }
+        requires text { IsAlong self.now (Ahead n) place }
         ensures { IfOk result (λ edit. slice_get (edits_of self.now.undo n) place ≡ Some edit) }
     {
         match self.tree.change(n) {
-            Some(change) => change.step(place).ahead.share(),
+            Some(change) => change.step(place).ahead(self.alloc, &self.text),
             None => unreachable!(),
         }
     }

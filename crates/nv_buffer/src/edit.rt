@@ -1,11 +1,9 @@
-// Edits as they are kept, each with the rows that it took.
-ghost use Rattle.std.specs.Prelude.{◌≡◌, ◌<◌, [], length, Some, IfOk, option_map, slice_get};
-ghost use Rattle.nv_buffer.specs.Steps.{edit_back};
+// Edits of a text.
+ghost use Rattle.std.specs.Prelude.{◌≡◌, IfOk};
 
 use nv_lines::LineList;
 use nv_places::{Extent, Pos};
 use std::alloc::AllocError;
-use std::marker::Model;
 
 /// One edit of a text, in numbers of the text before it. Rows, columns and offsets count from 0.
 /// Text, marks, what is told of an edit and undo have it as one value.
@@ -52,81 +50,5 @@ impl Edit {
             put: self.put,
             rows: self.rows,
         })
-    }
-}
-
-/// An edit, and what it takes to take it back.
-#[derive(Drop)]
-pub struct Step {
-    pub ahead: Edit,
-    /// The row after the last one that the edit put.
-    pub end: u32,
-    /// The rows that the edit took out of the text.
-    pub taken: LineList,
-}
-
-impl Step {
-    /// The edit that takes this one back.
-    pub(crate) fn back(&self) -> Result<Edit, AllocError>
-        ensures { IfOk result (λ edit. edit ≡ edit_back self.now) }
-    {
-        let edit = &self.ahead;
-        let lines = self.taken.share()?;
-        Ok(Edit {
-            first: edit.first,
-            last: self.end,
-            lines,
-            at: edit.at,
-            old: edit.new,
-            new: edit.old,
-            start: edit.start,
-            removed: edit.put,
-            put: edit.removed,
-            rows: edit.rows,
-        })
-    }
-}
-
-/// The steps of a change, in the order in which they were made.
-#[derive(Drop)]
-pub struct Change {
-    steps: Vec<Step>,
-}
-
-impl Model for Change {
-    ghost use Rattle.std.specs.Prelude.{List};
-    ghost use Rattle.nv_buffer.specs.declared.edit.Step.{Step};
-
-    ghost Value = { List Step };
-
-    ghost view = { λ change. change.steps.items };
-}
-
-impl Change {
-    pub fn from_vec(steps: Vec<Step>) -> Change
-        ensures { result ≡ steps.items }
-    {
-        Change { steps }
-    }
-
-    pub fn into_vec(self) -> Vec<Step>
-        ensures { result.items ≡ self }
-    {
-        self.steps
-    }
-
-    /// The number of steps.
-    pub fn len(&self) -> usize
-        ensures { result ≡ length self.now }
-    {
-        self.steps.len()
-    }
-
-    /// The step at a place, from 0.
-    pub fn step(&self, place: usize) -> &Step
-        requires { place < length self.now }
-        ensures { slice_get self.now place ≡ Some result.now }
-    {
-        &self.steps[place]
     }
 }

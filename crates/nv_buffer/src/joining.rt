@@ -8,6 +8,13 @@ use nv_lines::{Line, LineList, Lines};
 use nv_places::Pos;
 use std::alloc::{AllocError, Global};
 
+// How many bytes a line has at least whose memory is to go back to the system when it is let go.
+const GREAT: usize = 2_097_152;
+
+// The least room that the C library always takes from the system and gives back at once
+// (mallopt(3), M_MMAP_THRESHOLD). Of smaller blocks that are let go its heap keeps holes.
+const MAPPED: usize = 33_554_432;
+
 /// Whether these lines are one empty line: no byte and no line end is put with them.
 pub fn is_one_empty(lines: &LineList) -> bool
     ensures { IsTrue result ↔ (lines.now ≡ [] ∷ []) }
@@ -18,8 +25,8 @@ pub fn is_one_empty(lines: &LineList) -> bool
     lines.len() == 1 && line.is_empty()
 }
 
-// The bytes of a row of a text.
-fn row_of(text: &Lines, row: u32) -> &[u8]
+/// The bytes of a row of a text.
+pub fn row_of(text: &Lines, row: u32) -> &[u8]
     requires { row < length text.now }
     ensures value { result.now ≡ line_at text.now row }
     ensures line { IsLine result.now }
@@ -48,15 +55,38 @@ pub fn around(text: &Lines, start: Pos, stop: Pos) -> (&[u8], &[u8])
     (front, &row_of(text, stop.row)[stop.col as usize..])
 }
 
-// A line with bytes before and behind it.
-fn line_between(alloc: Global, front: &[u8], line: &[u8], back: &[u8]) -> Result<Line, AllocError>
+/// The line of these bytes.
+pub fn line_of(alloc: Global, bytes: &[u8]) -> Result<Line, AllocError>
+    requires { IsLine bytes.now }
+    ensures { IfOk result (λ line. line ≡ bytes.now) }
+{
+    Line::from_vec(Vec::from_slice(alloc, bytes)?)
+}
+
+// The room that a line of so many bytes gets. What isn't written of it takes no memory.
+fn room_for(len: usize) -> usize
+    ensures { len ≤ result }
+{
+    if len < GREAT {
+        return len;
+    }
+    len.max(MAPPED)
+}
+
+/// A line with bytes before and behind it.
+pub fn line_between(
+    alloc: Global,
+    front: &[u8],
+    line: &[u8],
+    back: &[u8],
+) -> Result<Line, AllocError>
     requires front { IsLine front.now }
     requires line { IsLine line.now }
     requires back { IsLine back.now }
     ensures { IfOk result (λ whole. whole ≡ (front.now ++ line.now) ++ back.now) }
 {
-    let room = (front.len() + line.len()).saturating_add(back.len());
-    let mut bytes = Vec::with_capacity(alloc, room)?;
+    let len = (front.len() + line.len()).saturating_add(back.len());
+    let mut bytes = Vec::with_capacity(alloc, room_for(len))?;
     bytes.extend_from_slice(front)?;
     bytes.extend_from_slice(line)?;
     bytes.extend_from_slice(back)?;

@@ -12,7 +12,9 @@ mod edit;
 mod fitting;
 mod joining;
 mod laws;
+mod patch;
 mod reaching;
+mod step;
 mod undoing;
 
 pub use buffer::{Buffer, Spliced};

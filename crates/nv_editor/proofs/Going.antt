@@ -7,10 +7,10 @@ use Rattle.nv_undo.specs.Tree.{Undo, tree_after_leg}
 use Rattle.nv_undo.specs.Ways.{Leads, IsNext}
 use Rattle.nv_undo.specs.declared.legs.Leg.{Leg}
 use Rattle.nv_buffer.specs.Changes.{Fits, leg_edits, lines_after, text_at}
-use Rattle.nv_buffer.specs.Content.{Content, after_edit, after_leg, event_at, events_from}
+use Rattle.nv_buffer.specs.Content.{Content, IsAlong, after_edit, after_leg, event_at, events_from}
 use Rattle.nv_buffer.specs.declared.edit.Edit.{Edit}
 use Rattle.nv_buffer.specs.declared.buffer.Spliced.{Spliced}
-use Rattle.nv_buffer.proofs.Going.{IsSealed, Going, going_first, going_fits, going_tick, going_on, going_last, gone_text, gone_state, Walking, walking_first, walking_next, walking_tick, walking_on, walking_last, way_edits-same}
+use Rattle.nv_buffer.proofs.Going.{IsSealed, Going, going_first, going_along, going_fits, going_tick, going_on, going_last, gone_text, gone_state, Walking, walking_first, walking_next, walking_tick, walking_on, walking_last, way_edits-same}
 use Rattle.nv_buffer.proofs.Keeping.{gone_changes}
 use Rattle.nv_model.specs.Answers.{Fact, edited}
 use Rattle.nv_model.specs.Editors.{at_handle, handles_of}
@@ -98,6 +98,9 @@ module _ (n : ℤ) (leg : Leg) (first now : PresentEditor) (before facts : List 
   pub making_edit : (edit : Edit) → slice_get (leg_edits (content_at first n).undo leg) place ≡ Some edit → IsEditOf (content_at now n).text edit
   making_edit edit here =
       (subst (λ (es : List Edit). AreEditsOf (content_at now n).text es) (left_behind (leg_edits (content_at first n).undo leg) place edit here) is.edits).0
+
+  pub making_along : IsSealed (content_at first n) → IsNext (content_at first n).undo leg → IsAlong (content_at now n) leg place
+  making_along sealed next = going_along (content_at first n) (content_at now n) [] is.events leg place sealed next is.going
 
   pub making_tick : (edit : Edit) (most : ℤ) → slice_get (leg_edits (content_at first n).undo leg) place ≡ Some edit
       → ((content_at first n).tick +ℤ pos (length (leg_edits (content_at first n).undo leg))) ≤ℤ most → (content_at now n).tick <ℤ most

@@ -1,7 +1,7 @@
-pub mod Rising
 pub mod Staging
-pub mod Slots
+pub mod Putting
 pub mod NameOrder
+pub mod NamesKept
 pub mod UiLemmas
 pub mod UiSizes
 pub mod UisKept

@@ -1,5 +1,5 @@
 -- An editor with a buffer made.
-use Rattle.std.proofs.Common.{◌≡◌, ◌≢◌, ℕ, ℤ, pos, ◌+◌, ◌<◌, ◌≤◌, ◌+ℤ◌, Bool, true, false, cond, List, [], ◌∷◌, ◌++◌, All, Option, Some, None, refl, sym, ap, subst, ◌∙◌, arith}
+use Rattle.std.proofs.Common.{◌≡◌, ℤ, pos, ◌+◌, ◌<◌, ◌≤◌, ◌+ℤ◌, Bool, true, false, cond, List, [], ◌∷◌, ◌++◌, All, Option, Some, None, refl, sym, ap, subst, ◌∙◌, arith}
 use Rattle.std.specs.Prelude.{◌≤ℤ◌, ◌<ℤ◌, is_some}
 use Rattle.std.specs.Option.{option_or}
 use Rattle.std.specs.Ordering.{int_eq}
@@ -11,29 +11,13 @@ use Rattle.nv_windows.specs.Sound.{IsRisingFrom}
 use Rattle.nv_windows.specs.declared.window.Window.{Window}
 use Rattle.nv_windows.proofs.Changed.{rising_push}
 use Rattle.nv_model.specs.Editors.{at_handle, handles_of}
-use Rattle.nv_model.specs.Operations.{buffer_made}
 use Rattle.nv_model.specs.Stage.{Stage}
-use Rattle.nv_model.proofs.Changing.{new_buffer_is_kept}
 use Rattle.nv_model.proofs.Lookups.{int_eq-itself, at_append, handles-append}
-use Rattle.nv_editor.specs.Doing.{Does}
 use Rattle.nv_editor.specs.Sound.{IsSoundEditor, ShowsBuffer, IsOfGroups}
-use Rattle.nv_editor.specs.inside.Table.{entries_of, IsKeptBuffer, AreKeptBuffers}
+use Rattle.nv_editor.specs.inside.Table.{IsKeptBuffer, AreKeptBuffers}
 use Rattle.nv_editor.proofs.KeptEdits.{fresh_kept_edits}
-use Rattle.nv_editor.proofs.Rising.{Rises}
 use Rattle.nv_editor.proofs.StageKept.{editor_of}
-use Rattle.nv_editor.proofs.TakingOut.{entries_append}
 use Rattle.nv_editor.proofs.Updating.{all_by}
-
-pub pushed_rises : (items later : List Content) (entries : List (ℤ × Content)) (b : Content) (n : ℤ) → entries_of items ≡ entries
-    → Rises (pos 1) items → pos 1 ≤ℤ n → All (λ k. k <ℤ n) (handles_of entries) → b.handle ≡ n → later ≡ items ++ b ∷ [] → Rises (pos 1) later
-pushed_rises items later entries b n view r least below same is =
-    let handles : handles_of (entries_of later) ≡ handles_of (entries_of items) ++ n ∷ [] =
-    ap (λ (l : List Content). handles_of (entries_of l)) is
-    ∙ ap (λ (es : List (ℤ × Content)). handles_of es) (entries_append items b)
-    ∙ handles-append (entries_of items) ((b.handle, b) ∷ [])
-    ∙ ap (λ (k : ℤ). handles_of (entries_of items) ++ k ∷ []) same in
-    subst (IsRisingFrom (pos 1)) (sym handles)
-    (rising_push (pos 1) (handles_of (entries_of items)) n r least (subst (λ (es : List (ℤ × Content)). All (λ k. k <ℤ n) (handles_of es)) (sym view) below))
 
 abbrev with_fresh : List (ℤ × Content) → ℤ → Bool → List (ℤ × Content)
 with_fresh bs n listed = bs ++ (n, fresh_content n listed) ∷ []

@@ -1,6 +1,6 @@
 -- Edits of a buffer as splices.
-use Rattle.std.proofs.Common.{◌≡◌, ◌≢◌, ℕ, zero, suc, ◌+◌, ◌-◌, ◌<◌, ◌≤◌, Bool, true, false, eqb, ◌&&◌, List, [], ◌∷◌, ◌++◌, length, take, drop, All, Option, Some, None, refl, sym, ap, subst, ◌∙◌, arith}
-use Rattle.std.specs.Prelude.{◌↔◌, IsSome, IfSome}
+use Rattle.std.proofs.Common.{◌≡◌, ℕ, ◌+◌, ◌-◌, ◌<◌, ◌≤◌, Bool, true, false, eqb, ◌&&◌, List, [], ◌∷◌, ◌++◌, length, take, drop, All, Option, Some, None, refl, sym, ap, ◌∙◌, arith}
+use Rattle.std.specs.Prelude.{◌↔◌, IsSome, IfOk, IfSome, Ok, Err, Result}
 use Rattle.std.specs.List.{join_with_byte}
 use Rattle.std.proofs.Math.Seq.{take-add}
 use Rattle.std.proofs.lemmas.List.{length-drop, length-take-le, length-append}
@@ -14,9 +14,9 @@ use Rattle.nv_buffer.specs.Splices.{IsInLine, IsBufferText}
 use Rattle.nv_buffer.specs.Steps.{IsBuffer}
 use Rattle.nv_buffer.specs.Content.{Content, IsEdit, rows_event, text_event}
 use Rattle.nv_buffer.specs.declared.buffer.Spliced.{Spliced}
-use Rattle.nv_model.specs.Buffers.{Splice, is_empty_splice, rows_splice, text_splice}
+use Rattle.nv_model.specs.Buffers.{is_empty_splice, rows_splice, text_splice}
 use Rattle.nv_model.proofs.Told.{rows_are_spliced, text_is_spliced}
-use Rattle.nv_editor.specs.inside.Splicing.{IsMade, IsLeft, IsMadeOrLeft}
+use Rattle.nv_editor.specs.inside.Splicing.{IsMadeOrLeft}
 
 -- a test of both
 both_true : (a b : Bool) → (a && b) ≡ true → (a ≡ true) × (b ≡ true)
@@ -105,7 +105,7 @@ not_both : (t : Bool) → t ≡ true → t ≡ false → ⊥
 not_both t is isnt = let both = sym is ∙ isnt in cc
 
 -- ---- what the calls of a buffer came to
-pub rows_made : (made : Option Spliced) (b c : Content) (from to : ℕ) (new : List (List ℕ)) → from ≤ to → to ≤ length b.text
+rows_made : (made : Option Spliced) (b c : Content) (from to : ℕ) (new : List (List ℕ)) → from ≤ to → to ≤ length b.text
     → IsBuffer b.text b.tick b.undo b.unsealed → IsBufferText b.text → IsBufferText c.text
     → (IsSome made ↔ ¬ ((from ≡ to) × (new ≡ []))) → (made ≡ None → c ≡ b) → IfSome made (λ (e : Spliced). e ≡ rows_event b from to new)
     → IfSome made (IsEdit b c (flat new)) → IsMadeOrLeft made b c (rows_splice b.text from to new)
@@ -126,7 +126,7 @@ rows_made (Some event) b c from to new order within buffer text later some none 
       (λ is. absurd (some.0 refl (rows_empty b.text new from to order within is))) (λ isnt. isnt);
 }
 
-pub text_made : (made : Option Spliced) (b c : Content) (start stop : Pos) (new : List (List ℕ)) → IsInLine b.text start → IsInLine b.text stop
+text_made : (made : Option Spliced) (b c : Content) (start stop : Pos) (new : List (List ℕ)) → IsInLine b.text start → IsInLine b.text stop
     → is_before stop start ≡ false → 0 < length new → IsBuffer b.text b.tick b.undo b.unsealed → IsBufferText b.text → IsBufferText c.text
     → (IsSome made ↔ ¬ ((start ≡ stop) × (new ≡ [] ∷ []))) → (made ≡ None → c ≡ b)
     → IfSome made (λ (e : Spliced). e ≡ text_event b start stop new) → IfSome made (IsEdit b c (join_with_byte 10 new))
@@ -147,3 +147,22 @@ text_made (Some event) b c start stop new start_in stop_in order some_line buffe
   some = by_test (is_empty_splice (text_splice b.text start stop new) ≡ false) (is_empty_splice (text_splice b.text start stop new))
       (λ is. absurd (some.0 refl (text_empty b.text new start stop text.lines start_in stop_in some_line is))) (λ isnt. isnt);
 }
+
+-- and where memory may be wanting
+pub rows_made_ok : {E : Type 0} (r : Result (Option Spliced) E) (b c : Content) (from to : ℕ) (new : List (List ℕ)) → from ≤ to → to ≤ length b.text
+    → IsBuffer b.text b.tick b.undo b.unsealed → IsBufferText b.text → IsBufferText c.text
+    → IfOk r (λ made. IsSome made ↔ ¬ ((from ≡ to) × (new ≡ []))) → IfOk r (λ made. made ≡ None → c ≡ b)
+    → IfOk r (λ made. IfSome made (λ (e : Spliced). e ≡ rows_event b from to new)) → IfOk r (λ made. IfSome made (IsEdit b c (flat new)))
+    → IfOk r (λ made. IsMadeOrLeft made b c (rows_splice b.text from to new))
+rows_made_ok (Ok made) b c from to new order within buffer text later some none told edit =
+    rows_made made b c from to new order within buffer text later some none told edit
+rows_made_ok (Err e) b c from to new order within buffer text later some none told edit = tt
+
+pub text_made_ok : {E : Type 0} (r : Result (Option Spliced) E) (b c : Content) (start stop : Pos) (new : List (List ℕ)) → IsInLine b.text start → IsInLine b.text stop
+    → is_before stop start ≡ false → 0 < length new → IsBuffer b.text b.tick b.undo b.unsealed → IsBufferText b.text → IsBufferText c.text
+    → IfOk r (λ made. IsSome made ↔ ¬ ((start ≡ stop) × (new ≡ [] ∷ []))) → IfOk r (λ made. made ≡ None → c ≡ b)
+    → IfOk r (λ made. IfSome made (λ (e : Spliced). e ≡ text_event b start stop new)) → IfOk r (λ made. IfSome made (IsEdit b c (join_with_byte 10 new)))
+    → IfOk r (λ made. IsMadeOrLeft made b c (text_splice b.text start stop new))
+text_made_ok (Ok made) b c start stop new start_in stop_in order some_line buffer text later some none told edit =
+    text_made made b c start stop new start_in stop_in order some_line buffer text later some none told edit
+text_made_ok (Err e) b c start stop new start_in stop_in order some_line buffer text later some none told edit = tt

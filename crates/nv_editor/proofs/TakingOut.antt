@@ -1,118 +1,104 @@
 -- Buffers made at the end, and taken out.
-use Rattle.std.proofs.Common.{◌≡◌, ◌≢◌, ℕ, zero, suc, ℤ, pos, ◌+◌, ◌<◌, ◌≤◌, ◌+ℤ◌, Bool, true, false, cond, not, List, [], ◌∷◌, ◌++◌, length, map, take, drop, get_or, Option, Some, None, refl, sym, ap, subst, ◌∙◌, arith, add-one, drop-cons, eqb}
-use Rattle.std.specs.Prelude.{◌≤ℤ◌, ◌<ℤ◌, filter, slice_get, is_some}
-use Rattle.std.specs.Ordering.{int_eq}
+use Rattle.std.proofs.Common.{◌≡◌, ◌≢◌, ℤ, Bool, true, false, cond, not, List, [], ◌∷◌, ◌++◌, Option, Some, None, refl, sym, ap, ◌∙◌, arith, is_some, true≢false, to_z, of_z, w64}
+use Rattle.std.specs.Prelude.{◌<ℤ◌, All, filter, int_lt, slice_get}
+use Rattle.std.specs.BTreeMap.{insert_entry}
+use Rattle.std.specs.Map.{lookup, remove_entry}
+use Rattle.std.specs.Ordering.{int_eq, int_cmp, match_ordering}
+use Rattle.std.specs.declared.cmp.Ordering.{Ordering}
+use Rattle.std.specs.declared.cmp.Ordering.TheVariants.{Less, Equal, Greater}
 use Rattle.std.proofs.lemmas.Int.{ints}
-use Rattle.std.proofs.lemmas.Bool.Decides.{nat_tests}
+use Rattle.std.proofs.lemmas.List.Elements.{All-head, All-tail}
 use Rattle.nv_buffer.specs.Content.{Content}
-use Rattle.nv_windows.specs.Sound.{IsRisingFrom}
-use Rattle.nv_windows.proofs.Changed.{rising_lower}
 use Rattle.nv_model.specs.Deleting.{other_handles}
 use Rattle.nv_model.specs.Editors.{at_handle, handles_of}
-use Rattle.nv_model.proofs.Lookups.{same_int, int_eq-itself}
+use Rattle.nv_model.proofs.Lookups.{int_eq-flip}
 use Rattle.nv_editor.specs.inside.Replacing.{IsTakenOut}
-use Rattle.nv_editor.specs.inside.Table.{entries_of, IsPlaceOf}
-use Rattle.nv_editor.proofs.Rising.{Rises}
+use Rattle.nv_editor.proofs.Putting.{other_handle, looked_up_by}
 
-pub entries_append : (bs : List Content) (b : Content) → entries_of (bs ++ b ∷ []) ≡ entries_of bs ++ (b.handle, b) ∷ []
-entries_append [] b = refl
-entries_append (x ∷ xs) b = ap (λ (l : List (ℤ × Content)). (x.handle, x) ∷ l) (entries_append xs b)
+-- ---- a buffer behind all others
+greater : (n k : ℤ) → k <ℤ n → int_cmp n k ≡ Greater
+greater n k h =
+    let least : int_lt n k ≡ false = grind (arith, ints) in
+    let above : int_lt k n ≡ true = grind (arith, ints) in
+    ap (λ (t : Bool). cond t Less (cond (int_lt k n) Greater Equal)) least
+    ∙ ap (λ (t : Bool). cond t Greater Equal) above
 
-apart_above : (a n : ℤ) → (n +ℤ pos 1) ≤ℤ a → int_eq a n ≡ false
-apart_above a n h = grind (arith, ints)
+insert_behind : (es : List (ℤ × Content)) (n : ℤ) (b : Content) → All (λ (k : ℤ). k <ℤ n) (handles_of es)
+    → insert_entry int_cmp es n b ≡ es ++ (n, b) ∷ []
+insert_behind [] n b above = refl
+insert_behind (e ∷ es) n b above =
+    ap (λ (o : Ordering). match_ordering o ((n, b) ∷ e ∷ es) ((e.0, b) ∷ es) (e ∷ insert_entry int_cmp es n b))
+    (greater n e.0 (All-head (λ (k : ℤ). k <ℤ n) e.0 (handles_of es) above))
+    ∙ ap (λ (l : List (ℤ × Content)). e ∷ l) (insert_behind es n b (All-tail (λ (k : ℤ). k <ℤ n) e.0 (handles_of es) above))
 
-next_up : (a low n : ℤ) → low ≤ℤ a → (n +ℤ pos 1) ≤ℤ low → (n +ℤ pos 1) ≤ℤ (a +ℤ pos 1)
-next_up a low n h i = omega (arith, ints)
+pub inserted : (map es later : List (ℤ × Content)) (n : ℤ) (b : Content) → map ≡ es → to_z w64 (of_z w64 n) ≡ n
+    → All (λ (k : ℤ). k <ℤ n) (handles_of es) → later ≡ insert_entry int_cmp map (to_z w64 (of_z w64 n)) b
+    → later ≡ es ++ (n, b) ∷ []
+inserted map es later n b view same above is =
+    is
+    ∙ ap (λ (l : List (ℤ × Content)). insert_entry int_cmp l (to_z w64 (of_z w64 n)) b) view
+    ∙ ap (λ (k : ℤ). insert_entry int_cmp es k b) same
+    ∙ insert_behind es n b above
 
-above_low : (a low n : ℤ) → low ≤ℤ a → (n +ℤ pos 1) ≤ℤ low → (n +ℤ pos 1) ≤ℤ a
-above_low a low n h i = omega (arith, ints)
+-- ---- a buffer taken out
+-- the entries but that of a handle
+abbrev pub but_at : ℤ → List (ℤ × Content) → List (ℤ × Content)
+but_at n es = remove_entry (λ (k : ℤ). int_eq k n) es
 
-none_above : (low n : ℤ) (bs : List Content) → Rises low bs → (n +ℤ pos 1) ≤ℤ low → at_handle (entries_of bs) n ≡ None
-none_above low n [] r h = refl
-none_above low n (b ∷ bs) r h =
-    ap (λ (t : Bool). cond t (Some b) (at_handle (entries_of bs) n)) (apart_above b.handle n (above_low b.handle low n r.0 h))
-    ∙ none_above (b.handle +ℤ pos 1) n bs r.1 (next_up b.handle low n r.0 h)
+abbrev others : ℤ → List ℤ → List ℤ
+others n ks = filter (λ (k : ℤ). not (int_eq k n)) ks
 
-filter_above : (low n : ℤ) (ks : List ℤ) → IsRisingFrom low ks → (n +ℤ pos 1) ≤ℤ low → filter (λ (k : ℤ). not (int_eq k n)) ks ≡ ks
-filter_above low n [] r h = refl
-filter_above low n (k ∷ ks) r h =
-    ap (λ (t : Bool). cond (not t) (k ∷ filter (λ (j : ℤ). not (int_eq j n)) ks) (filter (λ (j : ℤ). not (int_eq j n)) ks)) (apart_above k n (above_low k low n r.0 h))
-    ∙ ap (λ (l : List ℤ). k ∷ l) (filter_above (k +ℤ pos 1) n ks r.1 (next_up k low n r.0 h))
-
-at_itself : (a : ℤ) → (a +ℤ pos 1) ≤ℤ (a +ℤ pos 1)
-at_itself a = omega (arith, ints)
-
-higher : (a : ℤ) → a ≤ℤ (a +ℤ pos 1)
-higher a = omega (arith, ints)
-
--- the buffers but that at a place
-abbrev pub but_at : ℕ → List Content → List Content
-but_at i bs = take i bs ++ drop (suc i) bs
-
-pub but_rises : (low : ℤ) (bs : List Content) (n : ℤ) (i : ℕ) → Rises low bs → IsPlaceOf bs n i → Rises low (but_at i bs)
-but_rises low [] n i r is = absurd is
-but_rises low (b ∷ bs) n zero r is = rising_lower low (b.handle +ℤ pos 1) (handles_of (entries_of bs)) (low_next low b.handle r.0) r.1
+all_others : (n : ℤ) (es : List (ℤ × Content)) → at_handle es n ≡ None → others n (handles_of es) ≡ handles_of es
+all_others n [] none = refl
+all_others n (e ∷ es) none = by_case (int_eq e.0 n) none (all_others n es)
   where
-    low_next : (a c : ℤ) → a ≤ℤ c → a ≤ℤ (c +ℤ pos 1)
-    low_next a c h = omega (arith, ints)
-but_rises low (b ∷ bs) n (suc i) r is = (r.0, but_rises (b.handle +ℤ pos 1) bs n i r.1 is.1)
+    by_case : (t : Bool) → cond t (Some e.1) (at_handle es n) ≡ None
+        → (at_handle es n ≡ None → others n (handles_of es) ≡ handles_of es)
+        → cond (not t) (e.0 ∷ others n (handles_of es)) (others n (handles_of es)) ≡ e.0 ∷ handles_of es
+    by_case true found rest = absurd (true≢false (ap (λ (o : Option Content). is_some o) found))
+    by_case false found rest = ap (λ (l : List ℤ). e.0 ∷ l) (rest found)
 
-but_none : (low : ℤ) (bs : List Content) (n : ℤ) (i : ℕ) → Rises low bs → IsPlaceOf bs n i → at_handle (entries_of (but_at i bs)) n ≡ None
-but_none low [] n i r is = absurd is
-but_none low (b ∷ bs) n zero r is =
-    none_above (b.handle +ℤ pos 1) n bs r.1 (subst (λ (k : ℤ). (k +ℤ pos 1) ≤ℤ (b.handle +ℤ pos 1)) (same_int b.handle n is) (at_itself b.handle))
-but_none low (b ∷ bs) n (suc i) r is =
-    ap (λ (t : Bool). cond t (Some b) (at_handle (entries_of (but_at i bs)) n)) is.0 ∙ but_none (b.handle +ℤ pos 1) bs n i r.1 is.1
-
-other_handle : (a n k : ℤ) → int_eq a n ≡ true → k ≢ n → int_eq a k ≡ false
-other_handle a n k same other = by_case (int_eq a k) refl
+but_handles : (n : ℤ) (es : List (ℤ × Content)) → at_handle (but_at n es) n ≡ None → handles_of (but_at n es) ≡ others n (handles_of es)
+but_handles n [] none = refl
+but_handles n (e ∷ es) none = by_case (int_eq e.0 n) refl none (but_handles n es)
   where
-    by_case : (t : Bool) → int_eq a k ≡ t → t ≡ false
-    by_case true is = absurd (other (sym (same_int a k is) ∙ same_int a n same))
-    by_case false is = refl
+    by_case : (t : Bool) → int_eq e.0 n ≡ t → at_handle (cond t es (e ∷ but_at n es)) n ≡ None
+        → (at_handle (but_at n es) n ≡ None → handles_of (but_at n es) ≡ others n (handles_of es))
+        → handles_of (cond t es (e ∷ but_at n es)) ≡ cond (not t) (e.0 ∷ others n (handles_of es)) (others n (handles_of es))
+    by_case true is left rest = sym (all_others n es left)
+    by_case false is left rest =
+        ap (λ (l : List ℤ). e.0 ∷ l) (rest (sym (ap (λ (u : Bool). cond u (Some e.1) (at_handle (but_at n es) n)) is) ∙ left))
 
-but_others : (bs : List Content) (n : ℤ) (i : ℕ) → IsPlaceOf bs n i → (k : ℤ) → k ≢ n
-    → at_handle (entries_of (but_at i bs)) k ≡ at_handle (entries_of bs) k
-but_others [] n i is k other = absurd is
-but_others (b ∷ bs) n zero is k other = sym (ap (λ (t : Bool). cond t (Some b) (at_handle (entries_of bs) k)) (other_handle b.handle n k is other))
-but_others (b ∷ bs) n (suc i) is k other = ap (λ (o : Option Content). cond (int_eq b.handle k) (Some b) o) (but_others bs n i is.1 k other)
+but_others : (n : ℤ) (es : List (ℤ × Content)) (k : ℤ) → k ≢ n → at_handle (but_at n es) k ≡ at_handle es k
+but_others n [] k other = refl
+but_others n (e ∷ es) k other = by_case (int_eq e.0 n) refl (but_others n es k other)
+  where
+    by_case : (t : Bool) → int_eq e.0 n ≡ t → at_handle (but_at n es) k ≡ at_handle es k
+        → at_handle (cond t es (e ∷ but_at n es)) k ≡ cond (int_eq e.0 k) (Some e.1) (at_handle es k)
+    by_case true is rest = sym (ap (λ (u : Bool). cond u (Some e.1) (at_handle es k)) (other_handle e.0 n k is other))
+    by_case false is rest = ap (λ (o : Option Content). cond (int_eq e.0 k) (Some e.1) o) rest
 
-but_handles : (low : ℤ) (bs : List Content) (n : ℤ) (i : ℕ) → Rises low bs → IsPlaceOf bs n i
-    → handles_of (entries_of (but_at i bs)) ≡ filter (λ (k : ℤ). not (int_eq k n)) (handles_of (entries_of bs))
-but_handles low [] n i r is = absurd is
-but_handles low (b ∷ bs) n zero r is =
-    let rest : List ℤ = filter (λ (j : ℤ). not (int_eq j n)) (handles_of (entries_of bs)) in
-    sym (filter_above (b.handle +ℤ pos 1) n (handles_of (entries_of bs)) r.1 (subst (λ (k : ℤ). (k +ℤ pos 1) ≤ℤ (b.handle +ℤ pos 1)) (same_int b.handle n is) (at_itself b.handle)))
-    ∙ sym (ap (λ (t : Bool). cond (not t) (b.handle ∷ rest) rest) is)
-but_handles low (b ∷ bs) n (suc i) r is =
-    let rest : List ℤ = filter (λ (j : ℤ). not (int_eq j n)) (handles_of (entries_of bs)) in
-    ap (λ (l : List ℤ). b.handle ∷ l) (but_handles (b.handle +ℤ pos 1) bs n i r.1 is.1)
-    ∙ sym (ap (λ (t : Bool). cond (not t) (b.handle ∷ rest) rest) is.0)
+-- what is left in a map that had these entries
+pub removed_here : (map es later : List (ℤ × Content)) (n : ℤ) → map ≡ es → to_z w64 (of_z w64 n) ≡ n
+    → later ≡ remove_entry (int_eq (to_z w64 (of_z w64 n))) map → later ≡ but_at n es
+removed_here map es later n view same is =
+    is
+    ∙ (λ i. remove_entry (λ (j : ℤ). int_eq-flip (to_z w64 (of_z w64 n)) j i) map)
+    ∙ ap (λ (m : ℤ). but_at m map) same
+    ∙ ap (but_at n) view
 
-pub taken_out : (bs : List Content) (entries : List (ℤ × Content)) (n : ℤ) (i : ℕ) → entries_of bs ≡ entries → Rises (pos 1) bs → IsPlaceOf bs n i
-    → IsTakenOut entries (entries_of (but_at i bs)) n
-taken_out bs entries n i view r is = subst (λ (es : List (ℤ × Content)). IsTakenOut es (entries_of (but_at i bs)) n) view (record {
-  none = but_none (pos 1) bs n i r is;
-  others = but_others bs n i is;
-  handles = but_handles (pos 1) bs n i r is;
-})
-
-pub removed_is : (bs later : List Content) (i : ℕ) → later ≡ take i bs ++ drop (i + 1) bs → later ≡ but_at i bs
-removed_is bs later i is = is ∙ ap (λ (k : ℕ). take i bs ++ drop k bs) (add-one i)
+pub taken_out : (map es later : List (ℤ × Content)) (n : ℤ) → map ≡ es → to_z w64 (of_z w64 n) ≡ n
+    → lookup (int_eq (to_z w64 (of_z w64 n))) later ≡ None
+    → later ≡ remove_entry (int_eq (to_z w64 (of_z w64 n))) map → IsTakenOut es later n
+taken_out map es later n view same none is =
+    let left : later ≡ but_at n es = removed_here map es later n view same is in
+    let gone : at_handle later n ≡ None = looked_up_by later later n None refl same (sym none) in
+    record {
+      none = gone;
+      others = λ j other. ap (λ (l : List (ℤ × Content)). at_handle l j) left ∙ but_others n es j other;
+      handles = ap handles_of left ∙ but_handles n es (ap (λ (l : List (ℤ × Content)). at_handle l n) (sym left) ∙ gone);
+    }
 
 -- ---- the least handle but one
-abbrev pub least_of_others : ℤ → List Content → Option ℤ
-least_of_others h bs = slice_get (other_handles h (handles_of (entries_of bs))) 0
-
-pub least_here : (bs : List Content) (i : ℕ) (d : Content) (h : ℤ) → i < length bs → int_eq (get_or bs i d).handle h ≡ false
-    → least_of_others h (drop i bs) ≡ Some (get_or bs i d).handle
-least_here bs i d h within apart =
-    ap (least_of_others h) (drop-cons bs i d within)
-    ∙ ap (λ (t : Bool). slice_get (cond t (other_handles h (handles_of (entries_of (drop (suc i) bs)))) ((get_or bs i d).handle ∷ other_handles h (handles_of (entries_of (drop (suc i) bs))))) 0) apart
-
-pub least_on : (bs : List Content) (i : ℕ) (d : Content) (h : ℤ) → i < length bs → int_eq (get_or bs i d).handle h ≡ true
-    → least_of_others h (drop i bs) ≡ least_of_others h (drop (i + 1) bs)
-least_on bs i d h within same =
-    ap (least_of_others h) (drop-cons bs i d within)
-    ∙ ap (λ (t : Bool). slice_get (cond t (other_handles h (handles_of (entries_of (drop (suc i) bs)))) ((get_or bs i d).handle ∷ other_handles h (handles_of (entries_of (drop (suc i) bs))))) 0) same
-    ∙ ap (λ (k : ℕ). least_of_others h (drop k bs)) (sym (add-one i))
+abbrev pub least_of_others : ℤ → List ℤ → Option ℤ
+least_of_others h ks = slice_get (other_handles h ks) 0

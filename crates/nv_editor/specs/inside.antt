@@ -1,5 +1,6 @@
 pub mod Table
 pub mod Kept
+pub mod Named
 pub mod Ids
 pub mod Walks
 pub mod Views

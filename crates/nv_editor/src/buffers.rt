@@ -1,13 +1,12 @@
 //! Buffers by rising handles.
-ghost use Rattle.std.specs.Prelude.{◌≡◌, ℕ, ◌+◌, ◌^◌, ◌<◌, ◌≤◌, ◌↔◌, ◌∷◌, ◌++◌, ◌+ℤ◌, ◌<ℤ◌, ◌≤ℤ◌, [], length, take, pos, true, false, map, All, IfOk, IfSome, IsSome, OnOk, OnErr, MatchOption, None, Some, is_some, slice_get};
-ghost use Rattle.std.specs.List.{join_with_byte};
-ghost use Rattle.nv_places.specs.Flat.{flat};
+ghost use Rattle.std.specs.Prelude.{◌≡◌, ℕ, ◌+◌, ◌^◌, ◌<◌, ◌≤◌, ◌∷◌, ◌++◌, ◌+ℤ◌, ◌<ℤ◌, ◌≤ℤ◌, [], length, take, pos, true, false, All, IfOk, IfSome, OnOk, OnErr, MatchOption, None, Some, List, bytes_eq, is_some, slice_get};
+ghost use Rattle.std.specs.List.{list_any};
 ghost use Rattle.nv_places.specs.Places.{is_before};
 ghost use Rattle.nv_marks.specs.Marks.{mark_at};
 ghost use Rattle.nv_undo.specs.Tree.{IsTree, tree_after_leg};
 ghost use Rattle.nv_undo.specs.Ways.{IsNext};
 ghost use Rattle.nv_buffer.specs.Changes.{Fits, text_at};
-ghost use Rattle.nv_buffer.specs.Content.{IsEdit, after_edit, after_seal, event_at, fresh_content, rows_event, text_event};
+ghost use Rattle.nv_buffer.specs.Content.{after_edit, after_seal, event_at, fresh_content};
 ghost use Rattle.nv_buffer.specs.Marks.{IsMarkIn, IsMarked, IsUnmarked};
 ghost use Rattle.nv_buffer.specs.Splices.{IsBufferText, IsInLine, IsNarrowLine, lines_between};
 ghost use Rattle.nv_buffer.specs.Steps.{IsBuffer};
@@ -15,83 +14,139 @@ ghost use Rattle.nv_model.specs.Buffers.{rows_splice, text_splice};
 ghost use Rattle.nv_model.specs.Deleting.{other_handles};
 ghost use Rattle.nv_model.specs.Editors.{at_handle, handles_of};
 ghost use Rattle.nv_windows.specs.Sound.{IsRisingFrom};
+ghost use Rattle.nv_editor.specs.inside.Named.{AreNameCounts, is_of_name, is_other_named, number_named, with_one_of};
 ghost use Rattle.nv_editor.specs.inside.Replacing.{IsTakenOut};
 ghost use Rattle.nv_editor.specs.inside.Sealing.{HasSameEntries, after_seals, with_sealed};
-ghost use Rattle.nv_editor.specs.inside.Table.{AreKeptBuffers, IsPlaceOf, IsUpdatedAt, content_in, entries_of};
+ghost use Rattle.nv_editor.specs.inside.Table.{AreKeptBuffers, IsUpdatedAt, content_in};
 ghost use Rattle.nv_editor.specs.inside.Splicing.{IsMadeOrLeft};
 
+use crate::names::Names;
 use nv_buffer::{Buffer, Edit, Line, LineList, Mark, Pos, Spliced};
 use nv_undo::Leg;
 use std::alloc::{AllocError, Global};
+use std::collections::BTreeMap;
+use std::collections::btree_map::Keys;
 use std::marker::Model;
+
+// Buffers under their handles.
+type Items = BTreeMap<i64, Buffer>;
 
 /// Buffers by rising handles, from 1.
 #[derive(Drop)]
 pub struct Buffers {
-    items: Vec<Buffer>,
+    items: Items,
+    // How many of them have each name.
+    names: Names,
 }
 
 impl Model for Buffers {
-    ghost use Rattle.std.specs.Prelude.{List, ℤ, pos};
+    ghost use Rattle.std.specs.Prelude.{List, ℤ};
     ghost use Rattle.nv_buffer.specs.Content.{Content};
-    ghost use Rattle.nv_model.specs.Editors.{handles_of};
-    ghost use Rattle.nv_windows.specs.Sound.{IsRisingFrom};
-    ghost use Rattle.nv_editor.specs.inside.Table.{entries_of};
+    ghost use Rattle.nv_editor.specs.inside.Named.{AreNameCounts, number_named};
 
     ghost Value = { List (ℤ × Content) };
 
-    ghost view = { λ b. entries_of b.items.items };
+    ghost view = { λ b. b.items.entries };
 
-    ghost invariant = { λ b. IsRisingFrom (pos 1) (handles_of (entries_of b.items.items)) };
-}
-
-// Where the buffer of a handle stands.
-fn place_of(buffers: &[Buffer], handle: i64) -> Option<usize>
-    requires { IsRisingFrom (pos 1) (handles_of (entries_of buffers.now)) }
-    ensures place { MatchOption result (at_handle (entries_of buffers.now) handle ≡ None)
-        (λ place. IsPlaceOf buffers.now handle place) }
-    ensures within { IfSome result (λ place. place < length buffers.now) }
-{
-    let place = buffers.partition_point(|buffer| buffer.handle() < handle);
-    match buffers.get(place) {
-        Some(buffer) if buffer.handle() == handle => Some(place),
-        _ => None,
-    }
-}
-
-// Where the buffer of a handle stands that is there.
-fn place_in(buffers: &[Buffer], handle: i64) -> usize
-    requires rising { IsRisingFrom (pos 1) (handles_of (entries_of buffers.now)) }
-    requires there { is_some (at_handle (entries_of buffers.now) handle) ≡ true }
-    ensures place { IsPlaceOf buffers.now handle result }
-    ensures within { result < length buffers.now }
-{
-    match place_of(buffers, handle) {
-        Some(place) => place,
-        None => unreachable!(),
-    }
+    ghost invariant = { λ b. AreNameCounts b.names.counts (number_named b.items.entries) };
 }
 
 // The buffer of a handle.
-fn find(buffers: &[Buffer], handle: i64) -> Option<&Buffer>
-    requires { IsRisingFrom (pos 1) (handles_of (entries_of buffers.now)) }
-    ensures { MatchOption result (at_handle (entries_of buffers.now) handle ≡ None)
-        (λ b. at_handle (entries_of buffers.now) handle ≡ Some b.now) }
+fn find(buffers: &Items, handle: i64) -> Option<&Buffer>
+    ensures { MatchOption result (at_handle buffers.now.entries handle ≡ None)
+        (λ b. at_handle buffers.now.entries handle ≡ Some b.now) }
 {
-    let place = place_of(buffers, handle)?;
-    Some(&buffers[place])
+    buffers.get(&handle)
 }
 
 // The least handle of a buffer but one.
-fn least_but(buffers: &[Buffer], handle: i64) -> Option<i64>
-    ensures { result ≡ slice_get (other_handles handle (handles_of (entries_of buffers.now))) 0 }
+fn least_but(buffers: &Items, handle: i64) -> Option<i64>
+    ensures { result ≡ slice_get (other_handles handle (handles_of buffers.now.entries)) 0 }
 {
-    for buffer in buffers {
-        if buffer.handle() != handle {
-            return Some(buffer.handle());
+    for other in buffers.keys() {
+        if *other != handle {
+            return Some(*other);
         }
     }
     None
+}
+
+// The handle of a buffer that is looked for beside others.
+#[derive(Clone, Copy)]
+struct Handle {
+    n: i64,
+}
+
+// Whether a buffer has a name.
+fn has_name(buffer: &Buffer, name: &[u8]) -> bool
+    ensures { result ≡ bytes_eq buffer.now.name name.now }
+{
+    buffer.name().as_slice() == name
+}
+
+// Whether a buffer but one has a name, by going over all.
+fn any_other(buffers: &Items, one: Handle, name: &[u8]) -> bool
+    ensures { result ≡ list_any (is_other_named one.n name.now) buffers.now.entries }
+{
+    for (handle, buffer) in buffers {
+        if *handle != one.n && has_name(buffer, name) {
+            return true;
+        }
+    }
+    false
+}
+
+// Whether the buffer of a handle has a name.
+fn is_own(buffers: &Items, one: Handle, name: &[u8]) -> bool
+    ensures { result ≡ is_of_name name.now (at_handle buffers.now.entries one.n) }
+{
+    match find(buffers, one.n) {
+        Some(buffer) => has_name(buffer, name),
+        None => false,
+    }
+}
+
+// Whether a buffer but one has a name that so many buffers have.
+fn is_more(buffers: &Items, one: Handle, name: &[u8], number: u64) -> bool
+    requires rising { IsRisingFrom (pos 1) (handles_of buffers.now.entries) }
+    requires number { number ≡ number_named buffers.now.entries name.now }
+    ensures { result ≡ list_any (is_other_named one.n name.now) buffers.now.entries }
+{
+    let own = is_own(buffers, one, name);
+    number > u64::from(own)
+}
+
+// Whether a buffer but one has a name, of which so many buffers have it, where that is known.
+fn is_other_among(buffers: &Items, one: Handle, name: &[u8], number: Option<u64>) -> bool
+    requires rising { IsRisingFrom (pos 1) (handles_of buffers.now.entries) }
+    requires number { IfSome number (λ number. number ≡ number_named buffers.now.entries name.now) }
+    ensures { result ≡ list_any (is_other_named one.n name.now) buffers.now.entries }
+{
+    match number {
+        Some(number) => is_more(buffers, one, name, number),
+        None => any_other(buffers, one, name),
+    }
+}
+
+// How many buffers have a name, where that is known. The empty name is looked up nowhere.
+fn known_number(names: &Names, name: &[u8]) -> Option<u64>
+    ensures { IfSome result (λ number. (numbers : List ℕ → ℕ)
+        → AreNameCounts names.now.counts numbers → number ≡ numbers name.now) }
+{
+    if name.len() == 0 {
+        return None;
+    }
+    names.number(name)
+}
+
+// A buffer gets another name.
+fn rename(names: &mut Names, buffer: &Buffer, name: &Line)
+    ensures { (numbers : List ℕ → ℕ)
+        → AreNameCounts names.old.counts (with_one_of buffer.now.name numbers)
+        → AreNameCounts names.new.counts (with_one_of name.now numbers) }
+{
+    names.take(buffer.name().as_slice());
+    names.add(name.as_slice());
 }
 
 impl Buffers {
@@ -99,17 +154,36 @@ impl Buffers {
     pub fn new(alloc: Global) -> Result<Buffers, AllocError>
         ensures { IfOk result (λ b. b ≡ (pos 1, fresh_content (pos 1) true) ∷ []) }
     {
-        let mut items = Vec::new(alloc);
-        items.push(Buffer::new(alloc, 1)?)?;
-        Ok(Buffers { items })
+        let mut items = BTreeMap::new(alloc);
+        items.insert(1, Buffer::new(alloc, 1)?)?;
+        Ok(Buffers {
+            items,
+            names: Names::new(alloc),
+        })
     }
 
-    /// The buffers.
-    pub fn items(&self) -> &[Buffer]
-        ensures items { entries_of result.now ≡ self.now }
-        ensures rising { IsRisingFrom (pos 1) (handles_of self.now) }
+    /// How many buffers there are.
+    pub fn count(&self) -> usize
+        ensures { result ≡ length self.now }
     {
-        self.items.as_slice()
+        self.items.len()
+    }
+
+    /// The handles of the buffers, rising.
+    pub fn handles(&self) -> Keys<'_, i64, Buffer>
+        ensures { result ≡ handles_of self.now }
+    {
+        self.items.keys()
+    }
+
+    /// Whether a buffer but one has a name.
+    pub fn is_named_other(&self, handle: i64, name: &[u8]) -> bool
+        requires { IsRisingFrom (pos 1) (handles_of self.now) }
+        ensures { result ≡ list_any (λ k. is_of_name name.now (at_handle self.now k))
+            (other_handles handle (handles_of self.now)) }
+    {
+        let number = known_number(&self.names, name);
+        is_other_among(&self.items, Handle { n: handle }, name, number)
     }
 
     /// Puts the name of a buffer that is there.
@@ -119,8 +193,10 @@ impl Buffers {
         ensures buffer { content_in self.new handle
             ≡ record (content_in self.old handle) { name = name } }
     {
-        let place = place_in(self.items.as_slice(), handle);
-        let buffer = &mut self.items[place];
+        let Some(buffer) = self.items.get_mut(&handle) else {
+            unreachable!();
+        };
+        rename(&mut self.names, buffer, &name);
         buffer.put_name(name);
     }
 
@@ -131,8 +207,9 @@ impl Buffers {
         ensures buffer { content_in self.new handle
             ≡ record (content_in self.old handle) { modifiable = on } }
     {
-        let place = place_in(self.items.as_slice(), handle);
-        let buffer = &mut self.items[place];
+        let Some(buffer) = self.items.get_mut(&handle) else {
+            unreachable!();
+        };
         buffer.put_modifiable(on);
     }
 
@@ -143,8 +220,9 @@ impl Buffers {
         ensures buffer { content_in self.new handle
             ≡ record (content_in self.old handle) { modified = on } }
     {
-        let place = place_in(self.items.as_slice(), handle);
-        let buffer = &mut self.items[place];
+        let Some(buffer) = self.items.get_mut(&handle) else {
+            unreachable!();
+        };
         buffer.put_modified(on);
     }
 
@@ -155,8 +233,9 @@ impl Buffers {
         ensures buffer { content_in self.new handle
             ≡ record (content_in self.old handle) { listed = on } }
     {
-        let place = place_in(self.items.as_slice(), handle);
-        let buffer = &mut self.items[place];
+        let Some(buffer) = self.items.get_mut(&handle) else {
+            unreachable!();
+        };
         buffer.put_listed(on);
     }
 
@@ -169,183 +248,13 @@ impl Buffers {
         ensures buffer { content_in self.new handle
             ≡ record (content_in self.old handle) { tabstop = cells } }
     {
-        let place = place_in(self.items.as_slice(), handle);
-        let buffer = &mut self.items[place];
+        let Some(buffer) = self.items.get_mut(&handle) else {
+            unreachable!();
+        };
         buffer.put_tabstop(cells);
     }
 
     /// Puts lines in place of rows of a buffer that is there, as `Buffer::put_lines`.
-    pub fn put_lines(
-        &mut self,
-        handle: i64,
-        from: usize,
-        to: usize,
-        new: LineList,
-    ) -> Result<Option<Spliced>, AllocError>
-        requires there { is_some (at_handle self.old handle) ≡ true }
-        requires order { from ≤ to }
-        requires within { to ≤ length (content_in self.old handle).text }
-        requires left { to < from + length new + length (content_in self.old handle).text }
-        requires count { from + length new + length (content_in self.old handle).text
-            < to + 2 ^ 32 }
-        requires columns { All IsNarrowLine new }
-        requires tick { ¬ ((from ≡ to) × (new ≡ []))
-            → (content_in self.old handle).tick <ℤ i64.MAX }
-        ensures updated { IsUpdatedAt handle self.old self.new }
-        ensures some { IfOk result (λ spliced.
-            IsSome spliced ↔ ¬ ((from ≡ to) × (new ≡ []))) }
-        ensures none { IfOk result (λ spliced. spliced ≡ None
-            → content_in self.new handle ≡ content_in self.old handle) }
-        ensures told { IfOk result (λ spliced. IfSome spliced
-            (λ event. event ≡ rows_event (content_in self.old handle) from to new)) }
-        ensures edit { IfOk result (λ spliced. IfSome spliced
-            (IsEdit (content_in self.old handle) (content_in self.new handle) (flat new))) }
-        ensures err { OnErr result
-            (content_in self.new handle ≡ content_in self.old handle) }
-    {
-        let place = place_in(self.items.as_slice(), handle);
-        let buffer = &mut self.items[place];
-        buffer.put_lines(from, to, new)
-    }
-
-    /// Puts lines between two places of a buffer that is there, as `Buffer::put_text`.
-    pub fn put_text(
-        &mut self,
-        handle: i64,
-        start: Pos,
-        stop: Pos,
-        new: LineList,
-    ) -> Result<Option<Spliced>, AllocError>
-        requires there { is_some (at_handle self.old handle) ≡ true }
-        requires start_in { IsInLine (content_in self.old handle).text start }
-        requires stop_in { IsInLine (content_in self.old handle).text stop }
-        requires order { is_before stop start ≡ false }
-        requires some_line { 0 < length new }
-        requires count { start.row + length new + length (content_in self.old handle).text
-            < stop.row + 1 + 2 ^ 32 }
-        requires columns { All IsNarrowLine
-            (lines_between (content_in self.old handle).text start stop new) }
-        requires tick { ¬ ((start ≡ stop) × (new ≡ [] ∷ []))
-            → (content_in self.old handle).tick <ℤ i64.MAX }
-        ensures updated { IsUpdatedAt handle self.old self.new }
-        ensures some { IfOk result (λ spliced.
-            IsSome spliced ↔ ¬ ((start ≡ stop) × (new ≡ [] ∷ []))) }
-        ensures none { IfOk result (λ spliced. spliced ≡ None
-            → content_in self.new handle ≡ content_in self.old handle) }
-        ensures told { IfOk result (λ spliced. IfSome spliced
-            (λ event. event ≡ text_event (content_in self.old handle) start stop new)) }
-        ensures edit { IfOk result (λ spliced. IfSome spliced
-            (IsEdit (content_in self.old handle) (content_in self.new handle)
-            (join_with_byte 10 new))) }
-        ensures err { OnErr result
-            (content_in self.new handle ≡ content_in self.old handle) }
-    {
-        let place = place_in(self.items.as_slice(), handle);
-        let buffer = &mut self.items[place];
-        buffer.put_text(start, stop, new)
-    }
-
-    /// Makes an edit that fits a buffer that is there, as `Buffer::put_edit`.
-    pub fn put_edit(&mut self, handle: i64, edit: Edit) -> Result<Spliced, AllocError>
-        requires there { is_some (at_handle self.old handle) ≡ true }
-        requires fits { Fits (content_in self.old handle).text edit }
-        requires tick { (content_in self.old handle).tick <ℤ i64.MAX }
-        ensures updated { IsUpdatedAt handle self.old self.new }
-        ensures ok { OnOk result
-            (content_in self.new handle ≡ after_edit (content_in self.old handle) edit) }
-        ensures told { IfOk result
-            (λ event. event ≡ event_at ((content_in self.old handle).tick +ℤ pos 1) edit) }
-        ensures err { OnErr result
-            (content_in self.new handle ≡ content_in self.old handle) }
-    {
-        let place = place_in(self.items.as_slice(), handle);
-        let buffer = &mut self.items[place];
-        buffer.put_edit(edit)
-    }
-
-    /// Goes a leg in the tree of a buffer that is there, as `Buffer::arrive`.
-    pub fn arrive(&mut self, handle: i64, leg: Leg)
-        requires there { is_some (at_handle self.old handle) ≡ true }
-        requires next { IsNext (content_in self.old handle).undo leg }
-        requires text { (content_in self.old handle).text
-            ≡ text_at (content_in self.old handle).undo
-            (tree_after_leg leg (content_in self.old handle).undo).current }
-        ensures updated { IsUpdatedAt handle self.old self.new }
-        ensures buffer { content_in self.new handle ≡ record (content_in self.old handle) {
-          modified = true;
-          undo = tree_after_leg leg (content_in self.old handle).undo;
-          unsealed = [];
-        } }
-    {
-        let place = place_in(self.items.as_slice(), handle);
-        let buffer = &mut self.items[place];
-        buffer.arrive(leg);
-    }
-
-    /// Closes the open change of a buffer that is there.
-    pub fn seal(&mut self, handle: i64) -> Result<(), AllocError>
-        requires there { is_some (at_handle self.old handle) ≡ true }
-        ensures updated { IsUpdatedAt handle self.old self.new }
-        ensures ok { OnOk result
-            (content_in self.new handle ≡ after_seal (content_in self.old handle)) }
-        ensures sealed { OnOk result ((content_in self.new handle).unsealed ≡ []) }
-        ensures err { OnErr result
-            (content_in self.new handle ≡ content_in self.old handle) }
-    {
-        let place = place_in(self.items.as_slice(), handle);
-        let buffer = &mut self.items[place];
-        buffer.seal()
-    }
-
-    /// Sets a mark of a buffer that is there, as `Buffer::set_mark`.
-    pub fn set_mark(&mut self, handle: i64, mark: Mark) -> Result<(), AllocError>
-        requires there { is_some (at_handle self.old handle) ≡ true }
-        requires places { IsMarkIn (content_in self.old handle).text mark }
-        ensures updated { IsUpdatedAt handle self.old self.new }
-        ensures marks { OnOk result
-            (IsMarked (content_in self.old handle).marks (content_in self.new handle).marks mark) }
-        ensures rest { content_in self.new handle ≡ record (content_in self.old handle) {
-          marks = (content_in self.new handle).marks;
-        } }
-        ensures err { OnErr result
-            (content_in self.new handle ≡ content_in self.old handle) }
-    {
-        let place = place_in(self.items.as_slice(), handle);
-        let buffer = &mut self.items[place];
-        buffer.set_mark(mark)
-    }
-
-    /// Removes a mark of a buffer that is there, as `Buffer::remove_mark`.
-    pub fn remove_mark(&mut self, handle: i64, ns: u32, id: u32) -> Option<Mark>
-        requires there { is_some (at_handle self.old handle) ≡ true }
-        ensures updated { IsUpdatedAt handle self.old self.new }
-        ensures taken { result ≡ mark_at (content_in self.old handle).marks.marks ns id }
-        ensures marks { IsUnmarked (content_in self.old handle).marks
-            (content_in self.new handle).marks ns id }
-        ensures rest { content_in self.new handle ≡ record (content_in self.old handle) {
-          marks = (content_in self.new handle).marks;
-        } }
-    {
-        let place = place_in(self.items.as_slice(), handle);
-        let buffer = &mut self.items[place];
-        buffer.remove_mark(ns, id)
-    }
-
-    /// What is known of a buffer that is there. It does nothing.
-    pub fn known(&self, handle: i64)
-        requires { is_some (at_handle self.now handle) ≡ true }
-        ensures buffer { IsBuffer (content_in self.now handle).text
-            (content_in self.now handle).tick (content_in self.now handle).undo
-            (content_in self.now handle).unsealed }
-        ensures text { IsBufferText (content_in self.now handle).text }
-    {
-        match self.get(handle) {
-            Some(buffer) => buffer.known(),
-            None => unreachable!(),
-        }
-    }
-
-    /// `put_lines`, as a splice.
     pub fn splice_lines(
         &mut self,
         handle: i64,
@@ -369,13 +278,16 @@ impl Buffers {
         ensures err { OnErr result
             (content_in self.new handle ≡ content_in self.old handle) }
     {
-        self.known(handle);
-        let made = self.put_lines(handle, from, to, new)?;
-        self.known(handle);
-        Ok(made)
+        let Some(buffer) = self.items.get_mut(&handle) else {
+            unreachable!();
+        };
+        buffer.known();
+        let made = buffer.put_lines(from, to, new);
+        buffer.known();
+        made
     }
 
-    /// `put_text`, as a splice.
+    /// Puts lines between two places of a buffer that is there, as `Buffer::put_text`.
     pub fn splice_text(
         &mut self,
         handle: i64,
@@ -401,17 +313,118 @@ impl Buffers {
         ensures err { OnErr result
             (content_in self.new handle ≡ content_in self.old handle) }
     {
-        self.known(handle);
-        let made = self.put_text(handle, start, stop, new)?;
-        self.known(handle);
-        Ok(made)
+        let Some(buffer) = self.items.get_mut(&handle) else {
+            unreachable!();
+        };
+        buffer.known();
+        let made = buffer.put_text(start, stop, new);
+        buffer.known();
+        made
     }
 
-    /// Whether a buffer of this handle is there.
-    pub fn is_there(&self, handle: i64) -> bool
-        ensures { result ≡ is_some (at_handle self.now handle) }
+    /// Makes an edit that fits a buffer that is there, as `Buffer::put_edit`.
+    pub fn put_edit(&mut self, handle: i64, edit: Edit) -> Result<Spliced, AllocError>
+        requires there { is_some (at_handle self.old handle) ≡ true }
+        requires fits { Fits (content_in self.old handle).text edit }
+        requires tick { (content_in self.old handle).tick <ℤ i64.MAX }
+        ensures updated { IsUpdatedAt handle self.old self.new }
+        ensures ok { OnOk result
+            (content_in self.new handle ≡ after_edit (content_in self.old handle) edit) }
+        ensures told { IfOk result
+            (λ event. event ≡ event_at ((content_in self.old handle).tick +ℤ pos 1) edit) }
+        ensures err { OnErr result
+            (content_in self.new handle ≡ content_in self.old handle) }
     {
-        self.get(handle).is_some()
+        let Some(buffer) = self.items.get_mut(&handle) else {
+            unreachable!();
+        };
+        buffer.put_edit(edit)
+    }
+
+    /// Goes a leg in the tree of a buffer that is there, as `Buffer::arrive`.
+    pub fn arrive(&mut self, handle: i64, leg: Leg)
+        requires there { is_some (at_handle self.old handle) ≡ true }
+        requires next { IsNext (content_in self.old handle).undo leg }
+        requires text { (content_in self.old handle).text
+            ≡ text_at (content_in self.old handle).undo
+            (tree_after_leg leg (content_in self.old handle).undo).current }
+        ensures updated { IsUpdatedAt handle self.old self.new }
+        ensures buffer { content_in self.new handle ≡ record (content_in self.old handle) {
+          modified = true;
+          undo = tree_after_leg leg (content_in self.old handle).undo;
+          unsealed = [];
+        } }
+    {
+        let Some(buffer) = self.items.get_mut(&handle) else {
+            unreachable!();
+        };
+        buffer.arrive(leg);
+    }
+
+    /// Closes the open change of a buffer that is there.
+    pub fn seal(&mut self, handle: i64) -> Result<(), AllocError>
+        requires there { is_some (at_handle self.old handle) ≡ true }
+        ensures updated { IsUpdatedAt handle self.old self.new }
+        ensures ok { OnOk result
+            (content_in self.new handle ≡ after_seal (content_in self.old handle)) }
+        ensures sealed { OnOk result ((content_in self.new handle).unsealed ≡ []) }
+        ensures err { OnErr result
+            (content_in self.new handle ≡ content_in self.old handle) }
+    {
+        let Some(buffer) = self.items.get_mut(&handle) else {
+            unreachable!();
+        };
+        buffer.seal()
+    }
+
+    /// Sets a mark of a buffer that is there, as `Buffer::set_mark`.
+    pub fn set_mark(&mut self, handle: i64, mark: Mark) -> Result<(), AllocError>
+        requires there { is_some (at_handle self.old handle) ≡ true }
+        requires places { IsMarkIn (content_in self.old handle).text mark }
+        ensures updated { IsUpdatedAt handle self.old self.new }
+        ensures marks { OnOk result
+            (IsMarked (content_in self.old handle).marks (content_in self.new handle).marks mark) }
+        ensures rest { content_in self.new handle ≡ record (content_in self.old handle) {
+          marks = (content_in self.new handle).marks;
+        } }
+        ensures err { OnErr result
+            (content_in self.new handle ≡ content_in self.old handle) }
+    {
+        let Some(buffer) = self.items.get_mut(&handle) else {
+            unreachable!();
+        };
+        buffer.set_mark(mark)
+    }
+
+    /// Removes a mark of a buffer that is there, as `Buffer::remove_mark`.
+    pub fn remove_mark(&mut self, handle: i64, ns: u32, id: u32) -> Option<Mark>
+        requires there { is_some (at_handle self.old handle) ≡ true }
+        ensures updated { IsUpdatedAt handle self.old self.new }
+        ensures taken { result ≡ mark_at (content_in self.old handle).marks.marks ns id }
+        ensures marks { IsUnmarked (content_in self.old handle).marks
+            (content_in self.new handle).marks ns id }
+        ensures rest { content_in self.new handle ≡ record (content_in self.old handle) {
+          marks = (content_in self.new handle).marks;
+        } }
+    {
+        let Some(buffer) = self.items.get_mut(&handle) else {
+            unreachable!();
+        };
+        buffer.remove_mark(ns, id)
+    }
+
+    /// What is known of a buffer that is there. It does nothing.
+    pub fn known(&self, handle: i64)
+        requires { is_some (at_handle self.now handle) ≡ true }
+        ensures buffer { IsBuffer (content_in self.now handle).text
+            (content_in self.now handle).tick (content_in self.now handle).undo
+            (content_in self.now handle).unsealed }
+        ensures text { IsBufferText (content_in self.now handle).text }
+    {
+        match self.get(handle) {
+            Some(buffer) => buffer.known(),
+            None => unreachable!(),
+        }
     }
 
     /// Closes the open change of a buffer, where the buffer is there.
@@ -421,11 +434,11 @@ impl Buffers {
         ensures tree { is_some (at_handle self.old handle) ≡ true
             → IsTree (content_in self.old handle).undo }
     {
-        if !self.is_there(handle) {
+        let Some(buffer) = self.items.get_mut(&handle) else {
             return Ok(());
-        }
-        self.known(handle);
-        self.seal(handle)
+        };
+        buffer.known();
+        buffer.seal()
     }
 
     /// Closes the open changes of buffers, where they are there.
@@ -452,7 +465,7 @@ impl Buffers {
     {
         let mut buffer = Buffer::new(alloc, handle)?;
         buffer.put_listed(listed);
-        self.items.push(buffer)?;
+        self.items.insert(handle, buffer)?;
         Ok(())
     }
 
@@ -461,15 +474,16 @@ impl Buffers {
         requires { is_some (at_handle self.old handle) ≡ true }
         ensures { IsTakenOut self.old self.new handle }
     {
-        let place = place_in(self.items.as_slice(), handle);
-        self.items.remove(place);
+        if let Some(buffer) = self.items.remove(&handle) {
+            self.names.take(buffer.name().as_slice());
+        }
     }
 
     /// The least handle but one.
     pub fn least_other(&self, handle: i64) -> Option<i64>
         ensures { result ≡ slice_get (other_handles handle (handles_of self.now)) 0 }
     {
-        least_but(self.items.as_slice(), handle)
+        least_but(&self.items, handle)
     }
 
     /// The buffer of a handle.
@@ -477,6 +491,6 @@ impl Buffers {
         ensures { MatchOption result (at_handle self.now handle ≡ None)
             (λ b. at_handle self.now handle ≡ Some b.now) }
     {
-        find(self.items.as_slice(), handle)
+        find(&self.items, handle)
     }
 }

@@ -1,11 +1,14 @@
 //! The editor: what it keeps, and the calls that only read or put a name or an option.
-ghost use Rattle.std.specs.Prelude.{◌≡◌, ◌≤◌, ◌∷◌, [], true, not, map, IfOk, MatchOption, None, Some};
+ghost use Rattle.std.specs.Prelude.{◌≡◌, ◌≤◌, ◌∷◌, [], true, not, length, IfOk, MatchOption, None, Some};
 ghost use Rattle.nv_windows.specs.Workspace.{current_buffer, current_window};
-ghost use Rattle.nv_model.specs.Deleting.{no_buffer_left};
-ghost use Rattle.nv_model.specs.Editors.{at_handle};
+ghost use Rattle.std.specs.List.{list_any};
+ghost use Rattle.nv_model.specs.Deleting.{no_buffer_left, other_handles};
+ghost use Rattle.nv_model.specs.Editors.{at_handle, handles_of};
 ghost use Rattle.nv_model.specs.Keeping.{fresh_kept};
 ghost use Rattle.nv_model.specs.Operations.{name_put, modifiable_put, modified_put, listed_put, tabstop_put};
+ghost use Rattle.nv_model.specs.Seen.{is_name_of};
 ghost use Rattle.nv_model.specs.Stage.{or_current};
+ghost use Rattle.nv_model.specs.Standing.{seen_now};
 ghost use Rattle.nv_editor.specs.Doing.{Does};
 ghost use Rattle.nv_editor.specs.Sound.{IsSoundEditor, is_live_buffer};
 
@@ -17,6 +20,7 @@ use nv_hl::Groups;
 use nv_model::Limits;
 use nv_windows::Windows;
 use std::alloc::{AllocError, Global};
+use std::collections::btree_map::Keys;
 use std::marker::Model;
 
 /// The greatest handle of a buffer.
@@ -87,11 +91,26 @@ impl Editor {
         self.buffers.get(n)
     }
 
-    /// The live buffers by rising handles.
-    pub fn buffers(&self) -> &[Buffer]
-        ensures { map (λ b. (b.handle, b)) result.now ≡ self.now.buffers }
+    /// How many live buffers there are.
+    pub fn buffer_count(&self) -> usize
+        ensures { result ≡ length self.now.buffers }
     {
-        self.buffers.items()
+        self.buffers.count()
+    }
+
+    /// The handles of the live buffers, rising.
+    pub fn handles(&self) -> Keys<'_, i64, Buffer>
+        ensures { result ≡ handles_of self.now.buffers }
+    {
+        self.buffers.handles()
+    }
+
+    /// Whether a live buffer but one has a name (help: nvim_buf_set_name()).
+    pub fn is_named_other(&self, n: i64, name: &[u8]) -> bool
+        ensures { result ≡ list_any (λ k. is_name_of name.now ((seen_now self.now).buffer k))
+            (other_handles n (handles_of self.now.buffers)) }
+    {
+        self.buffers.is_named_other(n, name)
     }
 
     /// The handle that a call means: 0 is the current buffer (help: api-types).

@@ -12,6 +12,7 @@ mod grouping;
 mod happened;
 mod making;
 mod marks;
+mod names;
 mod naming;
 mod sealing;
 mod stage;

@@ -4,7 +4,7 @@ ghost use Rattle.nv_value.specs.Content.{nil};
 ghost use Rattle.nv_undo.specs.Tree.{last, parent_of, child_of, path, tree_after_leg};
 ghost use Rattle.nv_undo.specs.Ways.{IsNext, Leads, undo_legs, redo_legs, legs_to};
 ghost use Rattle.nv_buffer.specs.Changes.{Fits, leg_edits, text_at};
-ghost use Rattle.nv_buffer.specs.Content.{after_seal, event_at, events_from, redo_edits, undo_edits, undo_to_edits};
+ghost use Rattle.nv_buffer.specs.Content.{IsAlong, after_seal, event_at, events_from, redo_edits, undo_edits, undo_to_edits};
 ghost use Rattle.nv_buffer.specs.Splices.{IsBufferText};
 ghost use Rattle.nv_buffer.specs.Steps.{IsBuffer};
 ghost use Rattle.nv_model.specs.Editors.{at_handle};
@@ -158,10 +158,11 @@ impl Editor {
         }
     }
 
-    // An edit of a leg of a live buffer, by its place from 0.
+    // An edit of a leg of a live buffer, by its place from 0, once those before it are made.
     fn leg_edit(&self, buffer: i64, leg: Leg, place: usize) -> Result<Edit, AllocError>
         requires live { is_live_buffer self.now buffer ≡ true }
         requires place { place < length (leg_edits (content_at self.now buffer).undo leg) }
+        requires text { IsAlong (content_at self.now buffer) leg place }
         ensures { IfOk result (λ edit.
             slice_get (leg_edits (content_at self.now buffer).undo leg) place ≡ Some edit) }
     {

@@ -15,16 +15,14 @@ use Rattle.nv_world.specs.declared.entry.Event.{Event as WorldEvent}
 use Rattle.nv_world.specs.declared.effect.Effect.{Effect as WorldEffect}
 use Rattle.nv_world.specs.declared.effect.Stop.{Stop as WorldStop}
 use Rattle.nv_world.specs.declared.story.Start.{Start}
-use Rattle.nv_halves.specs.Passes.{WorldPass, plain_pass, start_of, world_of_run}
+use Rattle.nv_halves.specs.Passes.{WorldPass, plain_pass, start_of}
 use Rattle.nv_halves.specs.Applying.{HasEffect, IsRefusal, ResultsIn, AppliesOnce}
-use Rattle.nv_halves.specs.inside.Applied.{AppliesIn}
-use Rattle.nv_halves.specs.inside.Insisting.{Stays, AnswersOnce, AnswersWith, what_was_tried}
+use Rattle.nv_halves.specs.inside.Applied.{AppliesIn, TriesIn}
+use Rattle.nv_halves.specs.inside.Insisting.{Stays, AnswersOnce, AnswersWith, ComesToTried, TriesOnce, what_was_tried}
 use Rattle.nv_halves.specs.declared.ends.Refusal.{Refusal}
 use Rattle.nv_halves.specs.declared.ends.Refusal.TheVariants as refusal
 use Rattle.nv_halves.specs.declared.ends.Refused.{Refused}
 use Rattle.nv_halves.specs.declared.insisting.Answer.{Answer}
-use Rattle.nv_halves.specs.declared.insisting.Answer.TheVariants as answer
-use Rattle.nv_halves.specs.declared.insisting.Tried.{Tried}
 use Rattle.nv_halves.specs.declared.insisting.Tried.TheVariants as tried
 use Rattle.nv_halves.proofs.Plains.{caller_of, own_plain, plain-append, plain_begins, plain_same}
 use Rattle.nv_halves.proofs.Refusing.{refusing}
@@ -100,17 +98,18 @@ same_then p q r a b = record {
   start = b.start ∙ a.start;
 }
 
-pub once_of : (p held q : PassState WorldEntry Start) (old new : WorldRecord) (number : ℕ) (event : WorldEvent) (met : Result WorldEffect Refused)
+-- what came in the world that was found came behind what the pass had seen
+pub once_of : (p held q : PassState WorldEntry Start) (old new : WorldRecord) (number : ℕ) (Comes : Option Start → ℕ → List Entry → List Entry → Type 0)
     → IsSamePass p held → SeesMore caller_of p held → Has p.number p.numbers → old.history ≡ held.seen → p.start ≡ Some (start_of old) → number ≡ held.number
-    → AppliesIn old new number event met → IsSamePass held q → q.seen ≡ new.history
-    → AppliesOnce (plain_pass p) (plain_pass q) (λ found. ResultsIn p.start p.number event found met (plain_entries q.seen))
-once_of p held q old new number event met same sees has found start number_is applied left later =
+    → Comes (Some (start_of old)) number (plain_entries old.history) (plain_entries new.history) → IsSamePass held q → q.seen ≡ new.history
+    → AppliesOnce (plain_pass p) (plain_pass q) (λ found. Comes p.start p.number found (plain_entries q.seen))
+once_of p held q old new number Comes same sees has found start number_is came left later =
     let by : number ≡ p.number = number_is ∙ same.number in
-    let comes : ResultsIn p.start p.number event (plain_entries held.seen) met (plain_entries q.seen) =
-    subst (λ (l : List WorldEntry). ResultsIn p.start p.number event (plain_entries held.seen) met (plain_entries l)) (sym later)
-    (subst (λ (l : List WorldEntry). ResultsIn p.start p.number event (plain_entries l) met (plain_entries new.history)) found
-    (subst (λ (n : ℕ). ResultsIn p.start n event (plain_entries old.history) met (plain_entries new.history)) by
-    (subst (λ (s : Option Start). ResultsIn s number event (plain_entries old.history) met (plain_entries new.history)) (sym start) applied.comes))) in
+    let comes : Comes p.start p.number (plain_entries held.seen) (plain_entries q.seen) =
+    subst (λ (l : List WorldEntry). Comes p.start p.number (plain_entries held.seen) (plain_entries l)) (sym later)
+    (subst (λ (l : List WorldEntry). Comes p.start p.number (plain_entries l) (plain_entries new.history)) found
+    (subst (λ (n : ℕ). Comes p.start n (plain_entries old.history) (plain_entries new.history)) by
+    (subst (λ (s : Option Start). Comes s number (plain_entries old.history) (plain_entries new.history)) (sym start) came))) in
     record {
       same = plain_same p q (same_then p held q same left);
       number = has;
@@ -179,11 +178,6 @@ once_after p q r event met s a =
 
 -- ---- what was tried
 
--- what came of an event that was tried once
-abbrev pub ComesToTried : Option Start → ℕ → WorldEvent → List Entry → Tried → List Entry → Type 0
-ComesToTried start number event found (tried.Answered met) after = AnswersWith start number (plain_event event) found met after
-ComesToTried start number event found (tried.Again back) after = (after ≡ found) × (back ≡ event)
-
 gone_answer : (start : Option Start) (number : ℕ) (event back : WorldEvent) (found after : List Entry) (why : Refusal) → after ≡ found → back ≡ event
     → IsRefusal start found (plain_event event) why → ComesToTried start number event found (what_was_tried (Err (record { event = back; why = why }))) after
 gone_answer start number event back found after refusal.NoMemory e same h = e
@@ -197,12 +191,13 @@ pub comes_tried : (start : Option Start) (number : ℕ) (event : WorldEvent) (fo
 comes_tried start number event found after (Ok effect) h = h
 comes_tried start number event found after (Err refused) h = gone_answer start number event refused.event found after refused.why h.0 h.1 h.2
 
--- it was answered
-pub tried_answered : (p q : WorldPass) (event : WorldEvent) (met : Result WorldEffect Refused) (done : Answer) → tried.Answered done ≡ what_was_tried met
-    → AppliesOnce p q (λ found. ResultsIn p.start p.number event found met q.seen) → AnswersOnce p q (plain_event event) done
-tried_answered p q event met done is a =
-    once_by p q (λ found. ResultsIn p.start p.number event found met q.seen) (λ found. AnswersWith p.start p.number (plain_event event) found done q.seen)
-    (λ found h. subst (λ (t : Tried). ComesToTried p.start p.number event found t q.seen) (sym is) (comes_tried p.start p.number event found q.seen met h)) a
+pub tries_in : (old new : WorldRecord) (number : ℕ) (event : WorldEvent) (met : Result WorldEffect Refused) → AppliesIn old new number event met → TriesIn old new number event (what_was_tried met)
+tries_in old new number event met a = record {
+  capacity = a.capacity;
+  limits = a.limits;
+  adds = a.adds;
+  comes = comes_tried (Some (start_of old)) number event (plain_entries old.history) (plain_entries new.history) met a.comes;
+}
 
 -- it is to be tried again
 pub record IsAgain (p q : WorldPass) (event back : WorldEvent) : Type 0 where
@@ -210,15 +205,12 @@ pub record IsAgain (p q : WorldPass) (event back : WorldEvent) : Type 0 where
   pub same_event : back ≡ event
   pub number : Has q.number q.numbers
 
-pub tried_again : (p q : WorldPass) (event back : WorldEvent) (met : Result WorldEffect Refused) → tried.Again back ≡ what_was_tried met
-    → AppliesOnce p q (λ found. ResultsIn p.start p.number event found met q.seen) → IsAgain p q event back
-tried_again p q event back met is a =
-    let h = subst (λ (t : Tried). ComesToTried p.start p.number event a.found t q.seen) (sym is) (comes_tried p.start p.number event a.found q.seen met a.comes) in
-    record {
-      stays = stays_once p q (λ found. ResultsIn p.start p.number event found met q.seen) a h.0;
-      same_event = h.1;
-      number = subst (λ (l : List ℕ). Has q.number l) (sym a.same.numbers) (subst (λ (k : ℕ). Has k p.numbers) (sym a.same.number) a.number);
-    }
+pub tried_again : (p q : WorldPass) (event back : WorldEvent) → TriesOnce p q event (tried.Again back) → IsAgain p q event back
+tried_again p q event back a = record {
+  stays = stays_once p q (λ found. ComesToTried p.start p.number event found (tried.Again back) q.seen) a a.comes.0;
+  same_event = a.comes.1;
+  number = subst (λ (l : List ℕ). Has q.number l) (sym a.same.numbers) (subst (λ (k : ℕ). Has k p.numbers) (sym a.same.number) a.number);
+}
 
 -- what a world has gained, by the pass that holds it
 pub adds_to : (n m : ℕ) (story found later : List WorldEntry) → n ≡ m → found ≡ story → AddsOneAtMost caller_of n found later → AddsOneAtMost caller_of m story later

@@ -1,8 +1,9 @@
 -- A writer on its way.
-use Rattle.std.proofs.Common.{◌≡◌, ℕ, suc, ◌+◌, List, [], ◌∷◌, ◌++◌, length, take, Option, Some, None, refl, ap, sym, ◌∙◌, subst, arith, append-nil, append_assoc}
+use Rattle.std.proofs.Common.{◌≡◌, ℕ, zero, suc, ◌+◌, List, [], ◌∷◌, ◌++◌, length, take, Option, Some, None, refl, ap, sym, ◌∙◌, subst, arith, append-nil, append_assoc}
 use Rattle.std.proofs.lemmas.List.{take_all}
 use Rattle.std.specs.Io.KnownBytes.{append_known}
 use mathlib.Core.List.{IsPrefix}
+use Rattle.nv_turn.specs.Passes.{IsSamePass}
 use Rattle.nv_rpc.specs.Messages.{Sent}
 use Rattle.nv_screen.specs.declared.scene.Scene.{Scene}
 use Rattle.nv_linegrid.specs.declared.event.Redraw.{Redraw}
@@ -13,21 +14,27 @@ use Rattle.nv_history.specs.Runs.{TakenBatch}
 use Rattle.nv_history.specs.Asking.{own, takes_by}
 use Rattle.nv_history.specs.Spoken.{ShowsIfGiven, events_of, bytes_of_scene, bytes_of_messages, told_with, IsSpoken, AreSpoken, AreBytesOf}
 use Rattle.nv_history.proofs.SpokenParts.{spoken_none, spoken-push}
-use Rattle.nv_world.specs.Contents.{plain_cause}
+use Rattle.nv_world.specs.Contents.{plain_cause, plain_event}
 use Rattle.nv_world.specs.declared.effect.Batch.{Batch}
 use Rattle.nv_world.specs.declared.effect.Cause.{Cause as WorldCause}
+use Rattle.nv_world.specs.declared.entry.Event.{Event as WorldEvent}
 use Rattle.nv_world.specs.declared.story.Start.{Start}
 use Rattle.nv_halves.specs.Passes.{WorldPass, world_of_run, out_of, OfEach, IsFromWriter, GainedEach, IsOver}
 use Rattle.nv_halves.specs.Applying.{AppliesOnce}
 use Rattle.nv_halves.specs.Halves.{WroteAll, WroteFront, WroteBy, WritesHalf}
-use Rattle.nv_halves.specs.inside.Insisting.{Stays, ClosesOnce, Shuts}
-use Rattle.nv_halves.specs.inside.Taking.{sent_in, IsTaken, TakesBatch, IsOverNow, IsExact, GainsTakes, WritesSoFar, WritesPart, bytes_of_taken, IsCutOff, WritesOnce}
+use Rattle.nv_halves.specs.inside.Insisting.{Stays, AnswersOnce, TriesOnce, ClosesOnce, Shuts, what_was_asked}
+use Rattle.nv_halves.specs.inside.Taking.{sent_in, IsTaken, TakesBatch, IsOverNow, IsExact, GainsTakes, WritesSoFar, WritesPart, TakesOnce, bytes_of_taken, IsCutOff, Drops, WritesOnce}
 use Rattle.nv_halves.specs.declared.ends.WriterEnd.{WriterEnd}
 use Rattle.nv_halves.specs.declared.ends.WriterEnd.TheVariants as w
 use Rattle.nv_halves.specs.declared.insisting.Asked.{Asked}
 use Rattle.nv_halves.specs.declared.insisting.Asked.TheVariants as asked
+use Rattle.nv_halves.specs.declared.insisting.Tried.{Tried}
+use Rattle.nv_halves.specs.declared.insisting.Tried.TheVariants as tried
+use Rattle.nv_halves.specs.declared.writer.Took.{Took}
+use Rattle.nv_halves.specs.declared.writer.Took.TheVariants as took
 use Rattle.nv_halves.specs.declared.writer.Written.TheVariants as written
-use Rattle.nv_halves.proofs.Onces.{same_then, stays_self}
+use Rattle.nv_halves.proofs.Onces.{same_then, stays_self, stays_once}
+use Rattle.nv_halves.proofs.Answering.{once_shut}
 use Rattle.nv_halves.proofs.Staying.{goes_over}
 use Rattle.nv_halves.proofs.Exactness.{gains_none, gains_stay, gains_push, exact_begun, exact_on, exact_found, exact_take, exact_close}
 
@@ -49,6 +56,14 @@ take_past [] b n = ap (λ (k : ℕ). take k b) (let e : 0 + n ≡ n = omega arit
 take_past (x ∷ a) b n =
     let e : length (x ∷ a) + n ≡ suc (length a + n) = omega arith in
     ap (λ (k : ℕ). take k (x ∷ (a ++ b))) e ∙ ap (λ (l : List ℕ). x ∷ l) (take_past a b n)
+
+-- the first bytes, with more behind them
+take_front : (n : ℕ) (a b : List ℕ) → take (length (take n a)) (a ++ b) ≡ take n a
+take_front zero a b = refl
+take_front (suc n) [] b = refl
+take_front (suc n) (x ∷ a) b =
+    let e : length (x ∷ take n a) ≡ suc (length (take n a)) = omega arith in
+    ap (λ (k : ℕ). take k (x ∷ (a ++ b))) e ∙ ap (λ (l : List ℕ). x ∷ l) (take_front n a b)
 
 -- ---- takes that a pass gained
 
@@ -209,6 +224,69 @@ part_shut p q r s before out met h k = record {
   written = h.written;
 }
 
+-- ---- what nobody is sent
+
+part_stay : (p q r : WorldPass) (s : ℕ) (before out : Option (List ℕ)) → WritesPart p q s before out → Stays q r → WritesPart p r s before out
+part_stay p q r s before out h k = record {
+  got = h.got;
+  takes = takes_stay p q r s h.got h.takes k;
+  bytes = h.bytes;
+  bytes_are = h.bytes_are;
+  count = h.count;
+  written = h.written;
+}
+
+part_more : (p q r : WorldPass) (s : ℕ) (before out : Option (List ℕ)) (batch : Batch) → TakesBatch q r s batch → WritesPart p q s before out → WritesPart p r s before out
+part_more p q r s before out batch b h =
+    let told = h.bytes_are.1 in
+    let more = bytes_of_taken told (sent_in batch) batch.scene in
+    record {
+      got = h.got ++ batch_taken q r s batch b ∷ [];
+      takes = takes_batch p q r s h.got batch h.takes b;
+      bytes = h.bytes ++ more;
+      bytes_are = (
+        h.bytes_are.0 ++ events_of told batch.scene,
+        told_with told batch.scene,
+        spoken-push nothing_told told (told_with told batch.scene) h.got (batch_taken q r s batch b) h.bytes more h.bytes_are.0 (events_of told batch.scene) h.bytes_are.2
+            (batch_spoken q r s told batch b),
+      );
+      count = length (take h.count h.bytes);
+      written = h.written ∙ ap (λ (l : List ℕ). append_known before l) (sym (take_front h.count h.bytes more));
+    }
+
+pub drops_self : (p : WorldPass) (s : ℕ) → Drops p p s
+drops_self p s = record { same = (stays_self p).same; part = λ first before now h. h }
+
+pub drops_then : (p q r : WorldPass) (s : ℕ) → Drops p q s → Drops q r s → Drops p r s
+drops_then p q r s a b = record { same = same_then p q r a.same b.same; part = λ first before now h. b.part first before now (a.part first before now h) }
+
+drops_stay : (p q : WorldPass) (s : ℕ) → Stays p q → Drops p q s
+drops_stay p q s k = record { same = k.same; part = λ first before now h. part_stay first p q s before now h k }
+
+drops_batch : (p q : WorldPass) (s : ℕ) (batch : Batch) → TakesBatch p q s batch → Drops p q s
+drops_batch p q s batch b = record { same = b.once.same; part = λ first before now h. part_more first p q s before now batch b h }
+
+-- a take, whatever it gave
+pub drops_took : (met : Took) (p q : WorldPass) (s : ℕ) → TakesOnce met p q s → Drops p q s
+drops_took (took.Batch batch) p q s t = drops_batch p q s batch t
+drops_took took.Nothing p q s t = drops_stay p q s t
+drops_took (took.Over cause) p q s t = drops_stay p q s t.0
+drops_took took.NoMemory p q s t = drops_stay p q s t
+
+same_shut : (p q : WorldPass) (s : ℕ) (met : Asked) → Shuts met p q s → IsSamePass p q
+same_shut p q s asked.Done k = k.0.same
+same_shut p q s (asked.Gone cause) k = k.0.same
+same_shut p q s asked.NoMemory k = k.same
+
+drops_shut : (p q : WorldPass) (s : ℕ) (met : Asked) → Shuts met p q s → Drops p q s
+drops_shut p q s met k = record { same = same_shut p q s met k; part = λ first before now h. part_shut first p q s before now met h k }
+
+-- a close that was tried once
+pub drops_tried : (p q : WorldPass) (s : ℕ) (event : WorldEvent) (met : Tried) → plain_event event ≡ close_of s → TriesOnce p q event met → Drops p q s
+drops_tried p q s event (tried.Answered done) e a =
+    drops_shut p q s (what_was_asked done) (once_shut p q s done (subst (λ (x : Event). AnswersOnce p q x done) e a))
+drops_tried p q s event (tried.Again back) e a = drops_stay p q s (stays_once p q _ a a.comes.0)
+
 -- ---- how a writer ends
 
 front_written : (p q : WorldPass) (s : ℕ) (before out : Option (List ℕ)) (h : WritesPart p q s before out)
@@ -253,12 +331,12 @@ goes_on p q s told now out later batch b e n first before h = writes_batch first
 pub idles_on : (p q : WorldPass) (s : ℕ) (told : Told) (out : Option (List ℕ)) → Stays p q → WritesOnce written.Idle p q s told told out out
 idles_on p q s told out k first before h = writes_stay first p q s told before out h k
 
--- writing failed, or memory was wanting, and then the session was shut
-pub ends_cut : (end : WriterEnd) (p q r : WorldPass) (s : ℕ) (told now : Told) (out later : Option (List ℕ)) (batch : Batch) (met : Asked) → TakesBatch p q s batch
-    → IsCutOff end × ((count : ℕ) × (later ≡ append_known out (take count (bytes_of_taken told (sent_in batch) batch.scene)))) → Shuts met q r s
+-- writing failed, or memory was wanting, and then all that was due was dropped
+pub ends_cut : (end : WriterEnd) (p q r : WorldPass) (s : ℕ) (told now : Told) (out later : Option (List ℕ)) (batch : Batch) → TakesBatch p q s batch
+    → IsCutOff end × ((count : ℕ) × (later ≡ append_known out (take count (bytes_of_taken told (sent_in batch) batch.scene)))) → Drops q r s
     → WritesOnce (written.Ends end) p r s told now out later
-ends_cut end p q r s told now out later batch met b c k first before h =
-    half_part end first r s before later c.0 (part_shut first q r s before later met (part_batch first p q s told before out later batch c.1.0 b c.1.1 h) k)
+ends_cut end p q r s told now out later batch b c k first before h =
+    half_part end first r s before later c.0 (k.part first before later (part_batch first p q s told before out later batch c.1.0 b c.1.1 h))
 
 -- the session is over
 pub ends_over : (cause : WorldCause) (p q : WorldPass) (s : ℕ) (told : Told) (out : Option (List ℕ)) → Stays p q × IsOverNow q s cause → WritesOnce (written.Ends (w.Over cause)) p q s told told out out
@@ -269,7 +347,6 @@ pub ends_wanting : (p q : WorldPass) (s : ℕ) (told : Told) (out : Option (List
 ends_wanting p q s told out k first before h =
     half_part w.NoMemory first q s before out tt (part_all first q s told before out (writes_stay first p q s told before out h k))
 
--- nobody reads, and the session was shut
-pub ends_unread : (p r : WorldPass) (s : ℕ) (told : Told) (out : Option (List ℕ)) (met : Asked) → Shuts met p r s → WritesOnce (written.Ends w.NoMemory) p r s told told out out
-ends_unread p r s told out met k first before h =
-    half_part w.NoMemory first r s before out tt (part_shut first p r s before out met (part_all first p s told before out h) k)
+-- nobody reads, and then all that was due was dropped
+pub ends_unread : (p r : WorldPass) (s : ℕ) (told : Told) (out : Option (List ℕ)) → Drops p r s → WritesOnce (written.Ends w.NoMemory) p r s told told out out
+ends_unread p r s told out k first before h = half_part w.NoMemory first r s before out tt (k.part first before out (part_all first p s told before out h))

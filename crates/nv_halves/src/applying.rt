@@ -79,8 +79,8 @@ fn is_asked(event: &Event) -> bool {
     matches!(event, Event::Request { .. } | Event::Close { .. })
 }
 
-// Applies an event to the world in hand, and tells whom it wakes.
-fn apply_and_tell(
+/// Applies an event to the world in hand, and tells whom it wakes.
+pub(crate) fn apply_and_tell(
     world: &mut World,
     caller: u32,
     event: Event,

@@ -1,9 +1,12 @@
-//! Bells: how a writer that has nothing to take sleeps until something is due.
+//! Bells: how a writer that has nothing to take sleeps until something is due, and a reader whose
+//! call is to wait until what is due was taken.
 //!
-//! Each lane has a bell. A writer reads its word before it takes, and sleeps on the word only where
-//! the take gave nothing. Whoever makes something due adds one to the word, and then looks whether
-//! anybody sleeps on it. So no ring is lost, and where nobody sleeps no call of the system is made.
-//! Nothing is proved of any of this but that it is safe: a pause of a second is the net.
+//! Each lane has a bell, with a word for each half. A writer reads its word before it takes, and
+//! sleeps on the word only where the take gave nothing; a reader reads its own before it tries a
+//! call, and sleeps only where the call is to wait. Whoever makes something due adds one to the
+//! word of the writer, and a writer that took, or ends, to that of its reader; then they look
+//! whether anybody sleeps on it. So no ring is lost, and where nobody sleeps no call of the system
+//! is made. Nothing is proved of any of this but that it is safe: a pause of a second is the net.
 //!
 //! The half that reads says at its bell that it runs. A writer that has nothing to take and isn't
 //! told so for some seconds runs alone, as where the system gave no thread for the other half.
@@ -13,19 +16,43 @@ use std::sync::Wait;
 use std::sync::atomic::{AtomicU64, Ordering};
 use std::time::Duration;
 
-// For how many milliseconds a writer sleeps at most.
+// For how many milliseconds a half sleeps at most.
 const LONGEST_SLEEP: u64 = 1000;
 
 // How often a writer sleeps at most until the half that reads begins.
 const MOST_SLEEPS: u64 = 5;
 
+// How often a word was rung, in the 32 bits on which `sleep_on` sleeps.
+fn heard_on(word: &AtomicU64) -> u32 {
+    (word.load(Ordering::SeqCst) & 0xffff_ffff) as u32
+}
+
+// Sleeps until a word is rung, where it wasn't since `heard_on` told this; for a second at most.
+fn sleep_on<R: Wait>(rt: &R, word: &AtomicU64, asleep: &AtomicU64, heard: u32) {
+    asleep.fetch_add(1, Ordering::SeqCst);
+    word.park_timeout(rt, heard, Duration::from_millis(LONGEST_SLEEP));
+    asleep.fetch_sub(1, Ordering::SeqCst);
+}
+
+// Rings a word, and wakes who sleeps on it.
+fn ring_on(word: &AtomicU64, asleep: &AtomicU64) {
+    word.fetch_add(1, Ordering::SeqCst);
+    if asleep.load(Ordering::SeqCst) != 0 {
+        word.wake_one();
+    }
+}
+
 /// The bell of one lane.
 #[derive(Drop)]
 pub struct Bell {
-    // How often it was rung.
+    // How often its writer was rung.
     word: AtomicU64,
-    // How many sleep on it.
+    // How many sleep on that.
     asleep: AtomicU64,
+    // How often its reader was rung.
+    taken: AtomicU64,
+    // How many sleep on that.
+    waiting: AtomicU64,
     // The session that the lane serves, 0 where it serves none.
     session: AtomicU64,
     // Whether the half that reads of that session has begun: 1, and else 0.
@@ -38,6 +65,8 @@ impl Bell {
         Bell {
             word: AtomicU64::new(0),
             asleep: AtomicU64::new(0),
+            taken: AtomicU64::new(0),
+            waiting: AtomicU64::new(0),
             session: AtomicU64::new(0),
             is_read: AtomicU64::new(0),
         }
@@ -61,25 +90,25 @@ impl Bell {
         false
     }
 
-    // How often it was rung, in the 32 bits on which `sleep` sleeps.
+    // How often its writer was rung, in the 32 bits on which `sleep` sleeps.
     pub(crate) fn heard(&self) -> u32 {
-        (self.word.load(Ordering::SeqCst) & 0xffff_ffff) as u32
+        heard_on(&self.word)
     }
 
-    // Sleeps until it rings, where it wasn't rung since `heard` told this; for a second at most.
+    // The writer sleeps until it is rung, where it wasn't since `heard` told this; for a second at
+    // most.
     pub(crate) fn sleep<R: Wait>(&self, rt: &R, heard: u32) {
-        self.asleep.fetch_add(1, Ordering::SeqCst);
-        self.word
-            .park_timeout(rt, heard, Duration::from_millis(LONGEST_SLEEP));
-        self.asleep.fetch_sub(1, Ordering::SeqCst);
+        sleep_on(rt, &self.word, &self.asleep, heard);
     }
 
     // Wakes the writer of the lane.
     fn ring(&self) {
-        self.word.fetch_add(1, Ordering::SeqCst);
-        if self.asleep.load(Ordering::SeqCst) != 0 {
-            self.word.wake_one();
-        }
+        ring_on(&self.word, &self.asleep);
+    }
+
+    // Whether the lane serves a session.
+    fn is_of(&self, session: u64) -> bool {
+        self.session.load(Ordering::SeqCst) == session
     }
 
     // Whether the world has something for the session of the lane: what is due, or its end.
@@ -92,9 +121,40 @@ impl Bell {
 /// Says at the bell of this session that the half that reads has begun, and wakes its writer.
 pub(crate) fn begin(bells: &[Bell], session: u64) {
     for lane in 0..bells.len() {
-        if bells[lane].session.load(Ordering::SeqCst) == session {
+        if bells[lane].is_of(session) {
             bells[lane].is_read.store(1, Ordering::SeqCst);
             bells[lane].ring();
+        }
+    }
+}
+
+/// How often the reader of this session was rung, in the 32 bits on which `wait_for_take` sleeps.
+pub(crate) fn takes_heard(bells: &[Bell], session: u64) -> u32 {
+    for lane in 0..bells.len() {
+        if bells[lane].is_of(session) {
+            return heard_on(&bells[lane].taken);
+        }
+    }
+    0
+}
+
+/// The reader of this session sleeps until it is rung, where it wasn't since `takes_heard` told
+/// this; for a second at most. `false` where no bell is its own, and then it doesn't sleep.
+pub(crate) fn wait_for_take<R: Wait>(rt: &R, bells: &[Bell], session: u64, heard: u32) -> bool {
+    for lane in 0..bells.len() {
+        if bells[lane].is_of(session) {
+            sleep_on(rt, &bells[lane].taken, &bells[lane].waiting, heard);
+            return true;
+        }
+    }
+    false
+}
+
+/// Wakes the reader of this session: what was due was taken, or its writer has ended.
+pub(crate) fn tell_taken(bells: &[Bell], session: u64) {
+    for lane in 0..bells.len() {
+        if bells[lane].is_of(session) {
+            ring_on(&bells[lane].taken, &bells[lane].waiting);
         }
     }
 }
@@ -107,7 +167,8 @@ pub struct Lanes {
 }
 
 impl Lanes {
-    fn none() -> Lanes {
+    /// No lane.
+    pub(crate) fn none() -> Lanes {
         Lanes { words: [0; 4] }
     }
 

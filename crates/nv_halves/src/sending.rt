@@ -12,9 +12,39 @@ use crate::ends::WriterEnd;
 use crate::voice::Voice;
 use nv_io::{Sink, put_all};
 use nv_painter::Batch as SpokenBatch;
-use nv_world::{Batch, put_messages};
+use nv_screen::HeldScene;
+use nv_world::{Batch, SharedMessage, put_messages, size_of_messages};
 use std::alloc::{AllocError, Global};
 use std::net::{Net, TcpListener, TcpStream};
+
+/// A batch that takes more bytes than this, about, gets room for all of them at once.
+const LONG: u64 = 65_536;
+
+/// That room, in bytes. The system gives memory for a block of this size only as far as it is
+/// written, and has all of it back as soon as it is dropped.
+const LONG_ROOM: usize = 1 << 25;
+
+// How many cells a scene has.
+fn cells_of(scene: &Option<HeldScene>) -> u64 {
+    match scene {
+        Some(held) => {
+            let scene = held.scene();
+            u64::from(scene.width).saturating_mul(u64::from(scene.height))
+        }
+        None => 0,
+    }
+}
+
+// Makes room for the bytes of a batch that is long. Where there is no memory for so much, it is
+// made as they are put.
+fn make_room(messages: &[SharedMessage], scene: &Option<HeldScene>, room: &mut Vec<u8>) {
+    if room.capacity() >= LONG_ROOM {
+        return;
+    }
+    if size_of_messages(messages).saturating_add(cells_of(scene)) > LONG {
+        let _ = room.reserve(LONG_ROOM);
+    }
+}
 
 // Puts the bytes of a batch in place of what `room` held: the shortest spellings of its messages,
 // and then the redraw notification that shows its scene, where it has one.
@@ -31,6 +61,7 @@ fn spell<V: Voice>(
     ensures told { OnOk result (V.told voice.new ≡ told_with (V.told voice.old) batch.scene) }
 {
     let Batch { messages, scene } = batch;
+    make_room(&messages, &scene, room);
     room.clear();
     put_messages(alloc, messages, room)?;
     voice.speak(

@@ -1,16 +1,16 @@
 //! The half that writes: it takes what is due to its session and writes it, until the session is
 //! over.
-ghost use Rattle.std.specs.Prelude.{◌≡◌, ◌<◌, ◌≤◌, ℕ, List, Option, length};
+ghost use Rattle.std.specs.Prelude.{◌≡◌, ◌<◌, ◌≤◌, length};
 ghost use Rattle.nv_io.specs.Faults.{Rose};
-ghost use Rattle.nv_linegrid.specs.Told.{Told, nothing_told};
+ghost use Rattle.nv_linegrid.specs.Told.{nothing_told};
 ghost use Rattle.nv_turn.specs.Passes.{IsSamePass};
 ghost use Rattle.nv_halves.specs.Passes.{plain_pass};
 ghost use Rattle.nv_halves.specs.Halves.{WritesHalf};
-ghost use Rattle.nv_halves.specs.inside.Taking.{TakesOnce, WritesOnce, what_was_taken};
+ghost use Rattle.nv_halves.specs.inside.Taking.{Drops, TakesOnce, WritesOnce, what_was_taken};
 
-use crate::bells::Bell;
+use crate::bells::{Bell, tell_taken};
 use crate::ends::WriterEnd;
-use crate::insisting::{Answer, insist, shut};
+use crate::insisting::{Answer, insist, try_once};
 use crate::sending::send;
 use crate::voice::Voice;
 use nv_io::Sink;
@@ -77,11 +77,55 @@ fn take_due<R: Wait>(
     requires { pass.turn ≡ turn.now.turn }
     ensures { TakesOnce result.1 (plain_pass pass) (plain_pass result.0) session }
 {
-    let (pass, answer) = insist(rt, turn, bells, pass, Event::Take { session });
+    let (pass, answer) = insist(rt, turn, bells, pass, Event::Take { session }, u64::MAX);
     (pass, took_by(answer))
 }
 
-// Takes what is due to a session, and writes it. Where that fails the session is closed.
+// Closes a session for which no message waits. Where one does the session stays open.
+fn shut_idle<R: Wait>(
+    rt: &R,
+    turn: &Turn<World>,
+    bells: &[Bell],
+    pass: Pass<World>,
+    session: u64,
+) -> Pass<World>
+    requires { pass.turn ≡ turn.now.turn }
+    ensures { Drops (plain_pass pass) (plain_pass result) session }
+{
+    let (pass, _) = try_once(rt, turn, bells, pass, Event::Close { session }, 0);
+    pass
+}
+
+// Whether a take found its session over, or memory wanting.
+fn is_over(took: Took) -> bool {
+    matches!(took, Took::Over(_) | Took::NoMemory)
+}
+
+// Takes all that is due to a session, which nobody is sent, and closes the session, unless
+// something else has: nothing stays in the world for it.
+fn drop_due<R: Wait>(
+    rt: &R,
+    turn: &Turn<World>,
+    bells: &[Bell],
+    pass: Pass<World>,
+    session: u64,
+) -> Pass<World>
+    requires { pass.turn ≡ turn.now.turn }
+    ensures { Drops (plain_pass pass) (plain_pass result) session }
+{
+    let mut pass = pass;
+    'takes: for _ in rt.forever() {
+        let (next, took) = take_due(rt, turn, bells, pass, session);
+        if is_over(took) {
+            return next;
+        }
+        pass = shut_idle(rt, turn, bells, next, session);
+    }
+    unreachable!()
+}
+
+// Takes what is due to a session, and writes it. Where that fails all that is due is dropped, and
+// the session is closed.
 fn write_once<R: Net<Listener = TcpListener, Stream = TcpStream> + Wait, S: Sink, V: Voice>(
     rt: &R,
     alloc: Global,
@@ -103,34 +147,20 @@ fn write_once<R: Net<Listener = TcpListener, Stream = TcpStream> + Wait, S: Sink
 {
     let (pass, took) = take_due(rt, turn, bells, pass, session);
     match took {
-        Took::Batch(batch) => match send(rt, alloc, batch, voice, room, output) {
-            Ok(()) => (pass, Written::On),
-            Err(end) => {
-                let (pass, _) = shut(rt, turn, bells, pass, session);
-                (pass, Written::Ends(end))
+        Took::Batch(batch) => {
+            tell_taken(bells, session);
+            match send(rt, alloc, batch, voice, room, output) {
+                Ok(()) => (pass, Written::On),
+                Err(end) => {
+                    let pass = drop_due(rt, turn, bells, pass, session);
+                    (pass, Written::Ends(end))
+                }
             }
-        },
+        }
         Took::Nothing => (pass, Written::Idle),
         Took::Over(cause) => (pass, Written::Ends(WriterEnd::Over(cause))),
         Took::NoMemory => (pass, Written::Ends(WriterEnd::NoMemory)),
     }
-}
-
-// Closes a session of which nobody reads, as where there was no memory for a thread that does.
-fn shut_unread<R: Wait>(
-    rt: &R,
-    turn: &Turn<World>,
-    bells: &[Bell],
-    pass: Pass<World>,
-    session: u64,
-) -> Pass<World>
-    requires { pass.turn ≡ turn.now.turn }
-    ensures { (told : Told) (out : Option (List ℕ))
-        → WritesOnce (Written.Ends WriterEnd.NoMemory) (plain_pass pass) (plain_pass result)
-        session told told out out }
-{
-    let (pass, _) = shut(rt, turn, bells, pass, session);
-    pass
 }
 
 // Takes and writes what is due to a session, and sleeps where nothing is, until the session is over
@@ -167,10 +197,8 @@ fn write_all<R: Net<Listener = TcpListener, Stream = TcpStream> + Wait, S: Sink,
             Written::On => {}
             Written::Idle => {
                 if !bells[lane].is_read(rt) {
-                    return (
-                        shut_unread(rt, turn, bells, pass, session),
-                        WriterEnd::NoMemory,
-                    );
+                    let pass = drop_due(rt, turn, bells, pass, session);
+                    return (pass, WriterEnd::NoMemory);
                 }
                 bells[lane].sleep(rt, heard);
             }
@@ -183,9 +211,10 @@ fn write_all<R: Net<Listener = TcpListener, Stream = TcpStream> + Wait, S: Sink,
 /// Takes what is due to a session, one batch after another, and writes each to `output` as the
 /// voice speaks it, until the session is over. Each batch is taken under the turn; it is spoken and
 /// written outside it. Where nothing is due the half sleeps on the bell of its lane. After a fault
-/// of `output`, or want of memory, it closes the session; so it does where the half that reads
-/// hasn't begun after some seconds, since there was no memory for its thread. On every way out
-/// `output` is finished, so that the half that reads from the same connection finds its end.
+/// of `output`, or want of memory, it takes what is due without writing it, and closes the session;
+/// so it does where the half that reads hasn't begun after some seconds, since there was no memory
+/// for its thread. On every way out `output` is finished, so that the half that reads from the same
+/// connection finds its end.
 pub fn writer_half<
     R: Net<Listener = TcpListener, Stream = TcpStream> + Wait,
     S: Sink,
@@ -222,6 +251,7 @@ pub fn writer_half<
         &mut voice,
         &mut output,
     );
+    tell_taken(bells, session);
     output.finish(rt);
     WriterHalf { pass, output, end }
 }

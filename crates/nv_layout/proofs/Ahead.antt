@@ -7,6 +7,7 @@ use Rattle.nv_layout.specs.Division.{Child, wishes, is_modest, need, within, wis
 use Rattle.nv_layout.specs.Least.{least, least_sum, least_max, gap, NoneEmpty}
 use Rattle.nv_layout.specs.Sizing.{rooms_of, wish_size, share_size, next_size, behind_wish, behind_share, rooms_behind, CanTake}
 use Rattle.nv_layout.specs.Places.{extent, part, beyond, rects, rects_along, IsRoomy, IsOnScreen}
+use Rattle.nv_layout.specs.inside.Measured.{other}
 use Rattle.nv_layout.specs.declared.division.Rooms.{Rooms}
 use Rattle.nv_layout.specs.declared.nodes.Axis.{Axis}
 use Rattle.nv_layout.specs.declared.nodes.Axis.TheVariants.{Across, Down}
@@ -111,11 +112,6 @@ sizes_next_where false r c cs h =
 
 pub sizes_next : (r : Rooms) (c : Child) (cs : List Child) → IsReady r (c ∷ cs) → sizes_by r (c ∷ cs) ≡ next_size r c ∷ sizes_by (rooms_behind r c) cs
 sizes_next r c cs h = sizes_next_where (wishes c) r c cs (ready_where r c cs h)
-
--- the other axis
-abbrev other : Axis → Axis
-other Across = Down
-other Down = Across
 
 -- children that fill what is left of an area
 pub record Ahead (a : Axis) (ts : Shapes) (cs : List Child) (r : Rooms) (rest : Rect) : Type 0 where

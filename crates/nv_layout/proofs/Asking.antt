@@ -1,8 +1,8 @@
 -- How much room a tree asks for once a window is opened, closed, or wishes another size.
-use Rattle.std.proofs.Common.{◌≡◌, ℕ, ℤ, ◌+◌, ◌≤◌, max, Bool, true, false, if◌then◌else◌, Option, Some, None, refl, ap, sym, ◌∙◌, subst, arith}
+use Rattle.std.proofs.Common.{◌≡◌, ℕ, ℤ, ◌+◌, ◌≤◌, max, Bool, true, false, if◌then◌else◌, Option, Some, None, refl, subst, arith}
 use Rattle.std.specs.Ordering.{int_eq}
 use Rattle.nv_layout.specs.Content.{Shape, leaf, group, Shapes, no_shapes, more_shapes}
-use Rattle.nv_layout.specs.Least.{leaf_least, gap, along_or_across, least, least_sum, least_max}
+use Rattle.nv_layout.specs.Least.{leaf_least, gap, least, least_sum, least_max}
 use Rattle.nv_layout.specs.Changes.{holds, append, put_before, axis_of, both, put_opened, split, split_among, group_left, put_left, close, close_among}
 use Rattle.nv_layout.specs.Kept.{SplitAsksForTwo, CloseAsksForNoMore}
 use Rattle.nv_layout.specs.declared.nodes.Axis.{Axis}

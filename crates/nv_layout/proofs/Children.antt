@@ -156,3 +156,7 @@ module _ (a : Axis) (ts : List Tree) (all : Bool) (i : ℕ) (t : Tree) (h : i < 
 
 pub needs_in_all : (all : Bool) (cs : List Child) → (need (filter wishes (counted_children_where all cs)) + need (filter is_modest (counted_children_where all cs)) ≡ need cs) × (length (filter is_modest (counted_children_where all cs)) ≤ length cs)
 needs_in_all all cs = (need_parts (counted_children_where all cs) ∙ need-counted_children_where all cs, omega (arith, filter-most is_modest (counted_children_where all cs), length-counted_children all cs))
+
+-- and by its place among the children
+pub least_there : (a : Axis) (ts : List Tree) (i : ℕ) (t : Tree) → i < length ts → t ≡ get_or ts i t → (child_at (child_list a (shapes_of ts)) i).least ≡ least a (shape_of t)
+least_there a ts i t h is = ap (λ c. c.least) (child_at-shapes_of a ts i t h ∙ ap (λ u. child a (shape_of u)) (sym is))

@@ -1,18 +1,14 @@
 -- The equations of `content`.
 use Rattle.std.proofs.Common.{rules, ◌≡◌, ℕ, ◌+◌, ◌-◌, ◌<◌, ◌≤◌, List, [], ◌∷◌, length, drop, get_or, refl, ap, ◌∙◌, arith, add-one, drop-cons}
-use Rattle.nv_layout.specs.Content.{leaf, group, Shapes, no_shapes, more_shapes, shape_of, shapes_of}
+use Rattle.nv_layout.specs.Content.{group, Shapes, no_shapes, more_shapes, shape_of, shapes_of}
 use Rattle.nv_layout.specs.Least.{gap, gaps, child_count}
 use Rattle.nv_layout.specs.declared.nodes.Axis.{Axis}
 use Rattle.nv_layout.specs.declared.nodes.Axis.TheVariants.{Across, Down}
-use Rattle.nv_layout.specs.declared.nodes.Leaf.{Leaf}
 use Rattle.nv_layout.specs.declared.nodes.Tree.{Tree, the_lemmas}
-use Rattle.nv_layout.specs.declared.nodes.Tree.TheVariants.{Leaf as LeafOf, Row as RowOf, Column as ColumnOf}
+use Rattle.nv_layout.specs.declared.nodes.Tree.TheVariants.{Row as RowOf, Column as ColumnOf}
 use Rattle.std.proofs.Math.ListN.{drop_of_length-le}
 use Rattle.std.specs.Prelude.{Vec}
 use Rattle.std.specs.declared.alloc.Global.{Global}
-
-pub shape_of-Leaf : (l : Leaf) → shape_of (LeafOf l) ≡ leaf l
-shape_of-Leaf l = search (rules, the_lemmas)
 
 pub shape_of-Row : (v : Vec Tree Global) → shape_of (RowOf v) ≡ group Across (shapes_of v.items)
 shape_of-Row v = search (rules, the_lemmas)

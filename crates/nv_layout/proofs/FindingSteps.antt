@@ -1,9 +1,9 @@
 -- The rectangle of one window is looked for child by child.
-use Rattle.std.proofs.Common.{◌≡◌, ℕ, ℤ, ◌+◌, ◌-◌, ◌≤◌, ◌<◌, Bool, true, false, List, [], ◌∷◌, ◌++◌, length, drop, get_or, Option, Some, None, if◌then◌else◌, refl, ap, sym, ◌∙◌, subst, arith}
+use Rattle.std.proofs.Common.{◌≡◌, ℕ, ℤ, ◌+◌, ◌-◌, ◌≤◌, ◌<◌, Bool, true, false, List, [], ◌∷◌, ◌++◌, length, drop, get_or, Option, Some, None, if◌then◌else◌, refl, ap, sym, ◌∙◌, subst}
 use Rattle.std.specs.Prelude.{find, option_map, is_some}
 use Rattle.std.specs.List.{list_all}
 use Rattle.std.specs.Ordering.{int_eq}
-use Rattle.nv_layout.specs.Content.{Shape, Shapes, group, no_shapes, more_shapes, shape_of, shapes_of}
+use Rattle.nv_layout.specs.Content.{group, more_shapes, shape_of, shapes_of}
 use Rattle.nv_layout.specs.Division.{Child, wishes, counted_children}
 use Rattle.nv_layout.specs.Least.{least, gap, gaps, child_list, NoneEmpty}
 use Rattle.nv_layout.specs.Sizing.{child_at, next_size, rooms_behind, rooms_of}
@@ -15,7 +15,7 @@ use Rattle.nv_layout.specs.declared.nodes.Rect.{Rect}
 use Rattle.nv_layout.specs.declared.nodes.Tree.{Tree}
 use Rattle.nv_layout.proofs.Contents.{shapes_of-end}
 use Rattle.nv_layout.proofs.Ahead.{sizes_by, Ahead, Next, next_ahead}
-use Rattle.nv_layout.proofs.PlacingSteps.{counting, placing_start, rects_start, shapes_here, children_here}
+use Rattle.nv_layout.proofs.PlacingSteps.{counting, ahead_start, rects_start, shapes_here, children_here}
 
 -- a window among rectangles, where some come first
 among_none : (w : ℤ) (ps qs : List Placed) → rect_among w ps ≡ None → rect_among w (ps ++ qs) ≡ rect_among w qs
@@ -45,7 +45,7 @@ pub finding_start : (a : Axis) (ts : List Tree) (all : Bool) (r : Rooms) (w : �
     → NoneEmpty (group a (shapes_of ts)) → IsRoomy (group a (shapes_of ts)) area → IsOnScreen area → all ≡ list_all wishes (child_list a (shapes_of ts))
     → r ≡ rooms_of (extent a area - gaps a (shapes_of ts)) (counted_children (child_list a (shapes_of ts))) → Finding a ts all 0 r area w area
 finding_start a ts all r w area whole roomy screen e f = record {
-  ahead = (placing_start a ts all r area 0 [] whole roomy screen e f).ahead;
+  ahead = ahead_start a ts all r area whole roomy screen e f;
   found = ap (rect_among w) (rects_start a ts all r area e f);
 }
 

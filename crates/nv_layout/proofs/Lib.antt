@@ -5,14 +5,16 @@ pub mod Apart
 pub mod GroupRules
 pub mod LeafOrder
 pub mod Contents
+pub mod Measuring
 pub mod LeavesCount
 pub mod Children
 pub mod SoFar
 pub mod Granting
 pub mod Ahead
-pub mod Written
+pub mod Naming
 pub mod PlacingSteps
 pub mod Rebuilt
+pub mod Leading
 pub mod Smaller
 pub mod Closing
 pub mod Asking

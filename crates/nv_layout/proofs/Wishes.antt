@@ -1,9 +1,9 @@
 -- Wishes put child by child, and windows listed child by child.
-use Rattle.std.proofs.Common.{◌≡◌, ℕ, ℤ, ◌+◌, ◌-◌, ◌≤◌, ◌<◌, List, [], ◌∷◌, ◌++◌, length, map, take, drop, get_or, set, refl, ap, sym, ◌∙◌, append_assoc, append-nil, arith}
-use Rattle.std.proofs.lemmas.List.{map-set, get_or-map, length-map, length-set, take_all}
+use Rattle.std.proofs.Common.{◌≡◌, ℕ, ℤ, ◌+◌, ◌≤◌, ◌<◌, List, [], ◌∷◌, ◌++◌, length, map, take, drop, get_or, set, refl, ap, sym, ◌∙◌, append_assoc, append-nil, arith}
+use Rattle.std.proofs.lemmas.List.{map-set, get_or-map, length-map, take_all}
 use Rattle.std.proofs.lemmas.List.Edits.{map_over_more}
 use Rattle.std.proofs.Math.ListN.{drop_of_length-le}
-use Rattle.nv_layout.specs.Content.{Shape, Shapes, no_shapes, more_shapes, shape_of, shapes_of, shapes_from}
+use Rattle.nv_layout.specs.Content.{Shape, more_shapes, shape_of, shapes_of, shapes_from}
 use Rattle.nv_layout.specs.Changes.{with_wish, with_wish_among}
 use Rattle.nv_layout.specs.Least.{leaves_of, leaves_in}
 use Rattle.nv_layout.specs.Tiling.{windows}

@@ -1,7 +1,7 @@
 -- inside: shapes as lists of tokens, by which a proof tells them apart. No contract cites this.
 use Rattle.std.specs.Prelude.{◌≡◌, ℕ, ℤ, pos, ◌==◌, if◌then◌else◌, List, [], ◌∷◌}
 use Rattle.std.specs.Coded.{Coded, code_by, coded×, coded_ℕ, coded_ℤ, coded_list}
-use Rattle.std.proofs.Common.{refl, ap, sym, ◌∙◌}
+use Rattle.std.proofs.Common.{refl, ap, ◌∙◌}
 use Rattle.nv_layout.specs.Content.{Shape, leaf, group, Shapes, no_shapes, more_shapes}
 use Rattle.nv_layout.specs.Changes.{append}
 use Rattle.nv_layout.specs.declared.nodes.Axis.{Axis}

@@ -8,3 +8,4 @@ pub mod Shares
 pub mod Sizing
 pub mod Tiling
 pub mod Codes
+pub mod inside

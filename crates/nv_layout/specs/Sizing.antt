@@ -1,9 +1,8 @@
 -- inside: how far a division is, child by child. Only private calls cite this.
-use Rattle.std.specs.Prelude.{◌≡◌, ℕ, ◌+◌, ◌-◌, ◌≤◌, ◌<◌, List, ◌++◌, length, take, drop, slice_index_or, filter, if◌then◌else◌}
+use Rattle.std.specs.Prelude.{◌≡◌, ℕ, ◌+◌, ◌-◌, ◌≤◌, ◌<◌, List, length, slice_index_or, filter, if◌then◌else◌}
 use Rattle.std.specs.Int.{div_ceil}
 use Rattle.nv_layout.specs.Division.{Child, wishes, is_modest, need, total, within, wishes_granted}
 use Rattle.nv_layout.specs.declared.division.Rooms.{Rooms}
-use Rattle.nv_layout.specs.declared.nodes.Placed.{Placed}
 
 -- the child at a place
 abbrev pub child_at : List Child → ℕ → Child
@@ -61,7 +60,3 @@ pub record CanTake (r : Rooms) (c : Child) : Type 0 where
   pub wish : 0 < c.wish → (c.least ≤ r.wish_need) × (r.other_need + r.wish_need ≤ r.wish_room)
   pub share : c.wish ≡ 0 → (c.least ≤ r.share_need) × (r.share_need ≤ r.share_room)
       × (1 ≤ r.sharers)
-
--- a list with others written over it from a place on
-abbrev pub list_after_writing : List Placed → ℕ → List Placed → List Placed
-list_after_writing all at some = take at all ++ (some ++ drop (at + length some) all)

@@ -3,11 +3,12 @@
 // Both calls build the new tree beside the old one and then put it in place, so that want of memory
 // changes nothing.
 
-ghost use Rattle.std.specs.Prelude.{◌≡◌, ◌+◌, ◌<◌, ◌≤◌, ◌↔◌, length, take, slice_index_or, true, false, Some, IsTrue, IsFalse, IfOk, OnOk, OnErr};
+ghost use Rattle.std.specs.Prelude.{◌≡◌, ◌+◌, ◌<◌, ◌≤◌, ◌++◌, ◌↔◌, length, take, slice_index_or, true, false, Some, IsTrue, IsFalse, IfOk, OnOk, OnErr};
 ghost use Rattle.std.specs.Option.{option_map};
 ghost use Rattle.nv_layout.specs.Content.{shape_of, shapes_of, leaf, group, more_shapes, no_shapes};
-ghost use Rattle.nv_layout.specs.Changes.{holds, holds_among, append, put_before, axis_of, both, put_opened, split, split_among, group_left, put_left, close, close_among, leaf_wishing, with_wish, with_wish_among};
+ghost use Rattle.nv_layout.specs.Changes.{holds, holds_among, append, put_before, axis_of, both, put_opened, split, split_among, group_left, put_left, close, close_among, with_wish, with_wish_among};
 ghost use Rattle.nv_layout.specs.Least.{leaves_of, leaves_in};
+ghost use Rattle.nv_layout.specs.inside.Paths.{path_among, path_of, LeadsTo};
 
 use crate::nodes::{Axis, Leaf, Side, Tree};
 use std::alloc::{AllocError, Global};
@@ -119,7 +120,6 @@ impl Tree {
 
     /// The tree that it becomes where a window is opened on a side of one of its own, as by
     /// `split`.
-    #[cycle(opened)]
     pub fn opened(
         &self,
         alloc: Global,
@@ -130,21 +130,57 @@ impl Tree {
         requires { holds window (shape_of self.now) ≡ true }
         ensures { IfOk result (λ tree. shape_of tree ≡ split side window new (shape_of self.now)) }
     {
+        let mut path = Vec::new(alloc);
+        push_path(self, window, &mut path)?;
+        self.opened_at(alloc, path.as_slice(), window, side, new)
+    }
+
+    // The same by the path to the window.
+    #[cycle(opened)]
+    fn opened_at(
+        &self,
+        alloc: Global,
+        path: &[usize],
+        window: i64,
+        side: Side,
+        new: Leaf,
+    ) -> Result<Tree, AllocError>
+        requires held { holds window (shape_of self.now) ≡ true }
+        requires path { path.now ≡ path_of window (shape_of self.now) }
+        ensures { IfOk result (λ tree. shape_of tree ≡ split side window new (shape_of self.now)) }
+    {
         match self {
             Tree::Leaf(leaf) => both(alloc, side, *leaf, new),
             Tree::Row(trees) => {
-                Ok(Tree::Row(opened_among(alloc, trees, Axis::Across, window, side, new)?))
+                Ok(Tree::Row(opened_among(alloc, trees, Axis::Across, path, window, side, new)?))
             }
             Tree::Column(trees) => {
-                Ok(Tree::Column(opened_among(alloc, trees, Axis::Down, window, side, new)?))
+                Ok(Tree::Column(opened_among(alloc, trees, Axis::Down, path, window, side, new)?))
             }
         }
     }
 
     // What is left of the tree without a window of its own.
-    #[cycle(closed)]
     fn closed(&self, alloc: Global, window: i64) -> Result<Option<Tree>, AllocError>
         requires { holds window (shape_of self.now) ≡ true }
+        ensures { IfOk result (λ left. option_map shape_of left
+            ≡ close window (shape_of self.now)) }
+    {
+        let mut path = Vec::new(alloc);
+        push_path(self, window, &mut path)?;
+        self.closed_at(alloc, path.as_slice(), window)
+    }
+
+    // The same by the path to the window.
+    #[cycle(closed)]
+    fn closed_at(
+        &self,
+        alloc: Global,
+        path: &[usize],
+        window: i64,
+    ) -> Result<Option<Tree>, AllocError>
+        requires held { holds window (shape_of self.now) ≡ true }
+        requires path { path.now ≡ path_of window (shape_of self.now) }
         ensures { IfOk result (λ left. option_map shape_of left
             ≡ close window (shape_of self.now)) }
     {
@@ -153,11 +189,14 @@ impl Tree {
             Tree::Row(trees) => {
                 Ok(regrouped(
                     Axis::Across,
-                    closed_among(alloc, trees, Axis::Across, window)?,
+                    closed_among(alloc, trees, Axis::Across, path, window)?,
                 ))
             }
             Tree::Column(trees) => {
-                Ok(regrouped(Axis::Down, closed_among(alloc, trees, Axis::Down, window)?))
+                Ok(regrouped(
+                    Axis::Down,
+                    closed_among(alloc, trees, Axis::Down, path, window)?,
+                ))
             }
         }
     }
@@ -177,6 +216,49 @@ fn place_of(trees: &[Tree], window: i64) -> usize
         }
     }
     trees.len()
+}
+
+// Puts the path to a window behind other places: for each row and column that it stands in, from
+// the root down, the place of the child that holds it. Answers whether it is there.
+#[cycle(path)]
+fn push_path(tree: &Tree, window: i64, into: &mut Vec<usize>) -> Result<bool, AllocError>
+    ensures found { IfOk result (λ found. found ≡ holds window (shape_of tree.now)) }
+    ensures path { OnOk result (into.new.items
+        ≡ into.old.items ++ path_of window (shape_of tree.now)) }
+{
+    match tree {
+        Tree::Leaf(leaf) => Ok(leaf.window == window),
+        Tree::Row(trees) => push_path_among(trees, window, into),
+        Tree::Column(trees) => push_path_among(trees, window, into),
+    }
+}
+
+// The same for the children of a row or a column.
+#[cycle(path)]
+fn push_path_among(trees: &[Tree], window: i64, into: &mut Vec<usize>) -> Result<bool, AllocError>
+    ensures found { IfOk result (λ found. found ≡ holds_among window (shapes_of trees.now)) }
+    ensures path { OnOk result (into.new.items
+        ≡ into.old.items ++ path_among window 0 (shapes_of trees.now)) }
+{
+    let start = into.len();
+    for (place, tree) in trees.iter().enumerate() {
+        into.push(place)?;
+        let found = push_path(tree, window, into)?;
+        if found {
+            return Ok(true);
+        }
+        into.truncate(start);
+    }
+    Ok(false)
+}
+
+// The place of the child of a group that a path leads to first, and the path on from there.
+fn way_on<'a>(trees: &[Tree], path: &'a [usize], window: i64) -> (usize, &'a [usize])
+    requires held { holds_among window (shapes_of trees.now) ≡ true }
+    requires path { path.now ≡ path_among window 0 (shapes_of trees.now) }
+    ensures { LeadsTo window trees.now result.0 result.1.now }
+{
+    (path[0], &path[1..])
 }
 
 // The leaf wishes this where it is that of the window.
@@ -262,17 +344,19 @@ fn opened_among(
     alloc: Global,
     trees: &[Tree],
     axis: Axis,
+    path: &[usize],
     window: i64,
     side: Side,
     new: Leaf,
 ) -> Result<Vec<Tree>, AllocError>
-    requires { holds_among window (shapes_of trees.now) ≡ true }
+    requires held { holds_among window (shapes_of trees.now) ≡ true }
+    requires path { path.now ≡ path_among window 0 (shapes_of trees.now) }
     ensures { IfOk result (λ all. shapes_of all.items
         ≡ split_among axis side window new (shapes_of trees.now)) }
 {
-    let place = place_of(trees, window);
+    let (place, further) = way_on(trees, path, window);
     let mut all = copies(alloc, &trees[..place])?;
-    let opened = trees[place].opened(alloc, window, side, new)?;
+    let opened = trees[place].opened_at(alloc, further, window, side, new)?;
     put_opened(&mut all, axis, &trees[place], opened)?;
     push_copies(alloc, &trees[place + 1..], &mut all)?;
     Ok(all)
@@ -284,15 +368,17 @@ fn closed_among(
     alloc: Global,
     trees: &[Tree],
     axis: Axis,
+    path: &[usize],
     window: i64,
 ) -> Result<Vec<Tree>, AllocError>
-    requires { holds_among window (shapes_of trees.now) ≡ true }
+    requires held { holds_among window (shapes_of trees.now) ≡ true }
+    requires path { path.now ≡ path_among window 0 (shapes_of trees.now) }
     ensures { IfOk result (λ all. shapes_of all.items
         ≡ close_among axis window (shapes_of trees.now)) }
 {
-    let place = place_of(trees, window);
+    let (place, further) = way_on(trees, path, window);
     let mut all = copies(alloc, &trees[..place])?;
-    let left = trees[place].closed(alloc, window)?;
+    let left = trees[place].closed_at(alloc, further, window)?;
     put_left(&mut all, axis, left)?;
     push_copies(alloc, &trees[place + 1..], &mut all)?;
     Ok(all)

@@ -1,10 +1,11 @@
 // How the room of a row or a column is divided among its children.
 
-ghost use Rattle.std.specs.Prelude.{◌≡◌, ◌+◌, ◌-◌, ◌^◌, ◌<◌, ◌≤◌, length};
+ghost use Rattle.std.specs.Prelude.{◌≡◌, ◌+◌, ◌-◌, ◌^◌, ◌<◌, ◌≤◌, length, slice_index_or};
 ghost use Rattle.std.specs.List.{list_all};
 ghost use Rattle.nv_layout.specs.Content.{shape_of, shapes_of};
 ghost use Rattle.nv_layout.specs.Division.{wishes, counted_children, counted_children_where, need, within};
-ghost use Rattle.nv_layout.specs.Least.{child_list, gaps, wish};
+ghost use Rattle.nv_layout.specs.Least.{child_list, least, wish};
+ghost use Rattle.nv_layout.specs.inside.Measured.{AreLeasts};
 ghost use Rattle.nv_layout.specs.Sizing.{child_at, rooms_with, rooms_of, room_left, next_size, rooms_behind, CanTake};
 
 use crate::nodes::{Axis, Tree};
@@ -26,15 +27,16 @@ pub(crate) struct Rooms {
 }
 
 impl Rooms {
-    // The rooms of children before any is sized.
-    pub(crate) fn new(trees: &[Tree], axis: Axis, all_wish: bool, room: u32) -> Rooms
+    // The rooms of children before any is sized. The least sizes of the first of them may be known.
+    pub(crate) fn new(trees: &[Tree], axis: Axis, all_wish: bool, room: u32, known: &[u32]) -> Rooms
         requires wishes { all_wish ≡ list_all wishes (child_list axis (shapes_of trees.now)) }
         requires enough { need (child_list axis (shapes_of trees.now)) ≤ room }
+        requires known { AreLeasts axis trees.now known.now }
         ensures { result ≡ rooms_of room (counted_children
             (child_list axis (shapes_of trees.now))) }
     {
-        let rooms = needs(trees, axis, all_wish, room);
-        let share_room = room_shared(trees, axis, all_wish, &rooms);
+        let rooms = needs(trees, axis, all_wish, room, known);
+        let share_room = room_shared(trees, axis, all_wish, &rooms, known);
         Rooms {
             share_room,
             ..rooms
@@ -77,6 +79,20 @@ fn bounded(size: u32, least: u32, room: u32, need: u32) -> u32
     size.min(room - (need - least)).max(least)
 }
 
+// The least size of the child at a place, which may be known.
+pub(crate) fn least_at(tree: &Tree, place: usize, axis: Axis, known: &[u32]) -> u32
+    requires small { least axis (shape_of tree.now) < 2 ^ 32 }
+    requires known { place < length known.now
+        → slice_index_or known.now place 0 ≡ least axis (shape_of tree.now) }
+    ensures { result ≡ least axis (shape_of tree.now) }
+{
+    if place < known.len() {
+        known[place]
+    } else {
+        least_along(tree, axis)
+    }
+}
+
 // What a tree wishes for along an axis, 0 for nothing.
 fn wish_along(tree: &Tree, axis: Axis) -> u32
     ensures { result ≡ wish axis (shape_of tree.now) }
@@ -116,8 +132,9 @@ pub(crate) fn counted_wish(trees: &[Tree], place: usize, axis: Axis, all_wish: b
 }
 
 // The rooms of children, where the others would share all of the room.
-fn needs(trees: &[Tree], axis: Axis, all_wish: bool, room: u32) -> Rooms
-    requires { need (child_list axis (shapes_of trees.now)) ≤ room }
+fn needs(trees: &[Tree], axis: Axis, all_wish: bool, room: u32, known: &[u32]) -> Rooms
+    requires enough { need (child_list axis (shapes_of trees.now)) ≤ room }
+    requires known { AreLeasts axis trees.now known.now }
     ensures { result ≡ rooms_with room room (counted_children_where all_wish
         (child_list axis (shapes_of trees.now))) }
 {
@@ -125,7 +142,7 @@ fn needs(trees: &[Tree], axis: Axis, all_wish: bool, room: u32) -> Rooms
     let mut share_need = 0;
     let mut sharers = 0;
     for (place, tree) in trees.iter().enumerate() {
-        let least = least_along(tree, axis);
+        let least = least_at(tree, place, axis, known);
         if counted_wish(trees, place, axis, all_wish) == 0 {
             share_need += least;
             sharers += 1;
@@ -144,10 +161,11 @@ fn needs(trees: &[Tree], axis: Axis, all_wish: bool, room: u32) -> Rooms
 }
 
 // What the children with a wish leave of their room.
-fn room_shared(trees: &[Tree], axis: Axis, all_wish: bool, rooms: &Rooms) -> u32
+fn room_shared(trees: &[Tree], axis: Axis, all_wish: bool, rooms: &Rooms, known: &[u32]) -> u32
     requires start { rooms.now ≡ rooms_with rooms.now.wish_room rooms.now.share_room
         (counted_children_where all_wish (child_list axis (shapes_of trees.now))) }
     requires enough { need (child_list axis (shapes_of trees.now)) ≤ rooms.now.wish_room }
+    requires known { AreLeasts axis trees.now known.now }
     ensures { result ≡ room_left rooms.now.wish_room
         (counted_children_where all_wish (child_list axis (shapes_of trees.now))) }
 {
@@ -156,7 +174,7 @@ fn room_shared(trees: &[Tree], axis: Axis, all_wish: bool, rooms: &Rooms) -> u32
     for (place, tree) in trees.iter().enumerate() {
         let wish = counted_wish(trees, place, axis, all_wish);
         if wish != 0 {
-            let least = least_along(tree, axis);
+            let least = least_at(tree, place, axis, known);
             room -= bounded(wish, least, room, need);
             need -= least;
         }

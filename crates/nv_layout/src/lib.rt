@@ -7,8 +7,10 @@ mod division;
 pub mod laws;
 mod nodes;
 mod places;
+mod placing;
 mod sizes;
 
 pub use nodes::{Axis, Leaf, Placed, Rect, Side, Tree, Trees};
-pub use places::{rect_of, rects};
+pub use places::rect_of;
+pub use placing::placed;
 pub use sizes::{least, leaves, push_windows};

@@ -1,6 +1,6 @@
 // The least size of a tree, and how many windows it has.
 
-ghost use Rattle.std.specs.Prelude.{◌≡◌, ◌+◌, ◌*◌, ◌^◌, ◌<◌, ◌≤◌, ◌++◌, ◌∷◌, [], length, drop, OnOk};
+ghost use Rattle.std.specs.Prelude.{◌≡◌, ◌+◌, ◌^◌, ◌<◌, ◌++◌, ◌∷◌, [], length, drop, OnOk};
 ghost use Rattle.nv_layout.specs.Content.{shape_of, shapes_of};
 ghost use Rattle.nv_layout.specs.Least.{leaf_least, gap, least, least_sum, least_max, leaves_of, leaves_in, IsMeasurable};
 ghost use Rattle.nv_layout.specs.Tiling.{windows};
@@ -99,7 +99,7 @@ pub(crate) fn least_along(tree: &Tree, axis: Axis) -> u32
     }
 }
 
-fn leaf_least(axis: Axis) -> u32
+pub(crate) fn leaf_least(axis: Axis) -> u32
     ensures { result ≡ leaf_least axis }
 {
     match axis {

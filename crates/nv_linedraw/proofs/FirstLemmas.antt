@@ -1,5 +1,5 @@
 -- Lemmas on the first cells of a line.
-use Rattle.std.proofs.Common.{◌≡◌, ◌<◌, ◌≤◌, ◌+◌, ℕ, List, ◌++◌, length, take, drop, replicate, refl, sym, ap, ◌∙◌, arith, append_assoc, ◌==◌, ⊎_elim}
+use Rattle.std.proofs.Common.{◌≡◌, ◌<◌, ◌≤◌, ◌+◌, ℕ, List, ◌++◌, length, take, drop, replicate, refl, sym, ap, ◌∙◌, arith, append_assoc, ◌==◌, [], subst, ⊎_elim}
 use Rattle.std.proofs.lemmas.Bool.{cases_lt}
 use Rattle.std.proofs.lemmas.List.{take-append-drop, take_all, length-take, take-take, take-append-le}
 use Rattle.nv_text.specs.declared.piece.Piece.{Piece}
@@ -9,7 +9,9 @@ use Rattle.nv_hl.specs.Cells.{space}
 use Rattle.nv_linedraw.specs.declared.looks.Looks.{Looks}
 use Rattle.nv_linedraw.specs.declared.looks.Span.{Span}
 use Rattle.nv_linedraw.specs.LineCells.{atoms_from, cells_from_column, cells_of_line, col_after, filler_of, filling, rest_attr}
-use Rattle.nv_linedraw.proofs.LayLemmas.{atoms_from-append, cells_from_column-append, stop_behind}
+use Rattle.nv_linedraw.specs.declared.flow.Drawn.{Drawn}
+use Rattle.nv_linedraw.specs.inside.DrawnCells.{PiecesAreLaid, LineFlow, stop_behind}
+use Rattle.nv_linedraw.proofs.LayLemmas.{atoms_from-append, cells_from_column-append}
 
 pub all_from_few : {X : Type 0} (n : ℕ) (xs ys : List X) → xs ≡ take n ys → length xs < n → xs ≡ ys
 all_from_few n xs ys is few =
@@ -73,3 +75,14 @@ module _ (w t : ℕ) (line : List ℕ) (spans : List Span) (looks : Looks) where
       whole most laid laid filled col ps refl (all_from_few most ps (pieces_of line) is (omega (arith, few, count few))) (all few) (col_is few) (put few))
       (λ (many : most ≤ length laid). ap (take most) (kept many) ∙ front most laid ps is many laid_is)
       (cases_lt (length laid) most)
+
+-- what was laid from nothing, filled and cut
+pub first_laid : (d : Drawn) (most : ℕ) (start filled : List Cell) (after : LineFlow) (ps : List Piece) → ps ≡ take most (pieces_of d.line.now)
+    → PiecesAreLaid d most ps (record { cells = start; col = 0; stop = 0 }) after → start ≡ []
+    → (most ≤ length after.cells → filled ≡ after.cells)
+    → (length after.cells < most
+    → filled ≡ after.cells ++ replicate (filling d.width (length d.line.now == 0) after.col) (space (rest_attr d.spans.now (length d.line.now))))
+    → take most filled ≡ take most (cells_of_line d.width d.tabstop d.line.now d.spans.now d.looks.now)
+first_laid d most start filled after ps is laid none kept put =
+    let all = subst (λ (cs : List Cell). PiecesAreLaid d most ps (record { cells = cs; col = 0; stop = 0 }) after) none laid in
+    first_are d.width d.tabstop d.line.now d.spans.now d.looks.now most after.cells filled after.col ps is all.front all.all all.col all.count kept put

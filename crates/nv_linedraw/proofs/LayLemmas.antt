@@ -1,7 +1,7 @@
 -- Lemmas on cells that are laid one after another.
 use Rattle.std.proofs.Common.{◌≡◌, ◌<◌, ◌≤◌, ◌+◌, ◌-◌, ℕ, suc, Bool, true, false, cond, List, [], ◌∷◌, ◌++◌, length, take, drop, replicate, get_or, refl, sym, ap, subst, ◌∙◌, arith, append_assoc, append-nil, ◌==◌}
 use Rattle.std.proofs.Math.Seq.{drop-cons}
-use Rattle.std.proofs.lemmas.List.{take_all, take-append-le}
+use Rattle.std.proofs.lemmas.List.{drop_all, take_all, take-append-le}
 use Rattle.nv_text.specs.declared.piece.Kind.{Kind}
 use Rattle.nv_text.specs.declared.piece.Kind.TheVariants.{Tab, Control, Escape, Cluster}
 use Rattle.nv_text.specs.declared.piece.Piece.{Piece}
@@ -9,7 +9,9 @@ use Rattle.nv_hl.specs.declared.attribute.Attr.{Attr}
 use Rattle.nv_hl.specs.declared.cell.Cell.{Cell}
 use Rattle.nv_hl.specs.Cells.{cell_of, right_half, space}
 use Rattle.nv_linedraw.specs.declared.looks.Span.{Span}
-use Rattle.nv_linedraw.specs.LineCells.{Atom, single, atom_cells, atom_col, atoms_from, cells_from_column, cluster_atom, col_after, kind_atoms, piece_atoms, round, stop_after}
+use Rattle.nv_linedraw.specs.declared.flow.Drawn.{Drawn}
+use Rattle.nv_linedraw.specs.inside.DrawnCells.{PiecesAreLaid, LineFlow, drawn_atoms, laid_cells, laid_col, stop_behind}
+use Rattle.nv_linedraw.specs.LineCells.{Atom, single, atom_cells, atom_col, atoms_from, cells_from_column, cluster_atom, col_after, filler_of, kind_atoms, piece_atoms, round, stop_after}
 
 -- ---- one equal atom after another
 
@@ -57,11 +59,6 @@ pub col_after-append : (w col : ℕ) (xs ys : List Atom) → col_after w col (xs
 col_after-append w col [] ys = refl
 col_after-append w col (x ∷ xs) ys = col_after-append w (atom_col w col x) xs ys
 
--- the cells behind the last tab stop, once pieces stand there
-abbrev pub stop_behind : ℕ → ℕ → List Piece → ℕ
-stop_behind tabstop stop [] = stop
-stop_behind tabstop stop (p ∷ ps) = stop_behind tabstop (stop_after tabstop stop p.kind) ps
-
 module _ (tabstop : ℕ) (line : List ℕ) (spans : List Span) (special : Attr) where
   pub atoms_from-append : (stop : ℕ) (ps qs : List Piece)
       → atoms_from tabstop stop line spans special (ps ++ qs)
@@ -103,6 +100,11 @@ module _ (tabstop : ℕ) (line : List ℕ) (spans : List Span) (special : Attr) 
       ∙ ap (λ t. col_after w col (atoms_from tabstop stop line spans special t)) (sym here)
       ∙ before
 
+pub piece_stop : (tabstop stop after k goal : ℕ) (ps : List Piece) (p : Piece) → drop k ps ≡ p ∷ drop (k + 1) ps → after ≡ stop_after tabstop stop p.kind
+    → stop_behind tabstop stop (drop k ps) ≡ goal → stop_behind tabstop after (drop (k + 1) ps) ≡ goal
+piece_stop tabstop stop after k goal ps p here stopped before =
+    ap (λ s. stop_behind tabstop s (drop (k + 1) ps)) stopped ∙ ap (stop_behind tabstop stop) (sym here) ∙ before
+
 -- ---- each piece has a cell
 
 some_pair : (b d : Bool) (f c r : Cell) → 0 < length (cond b (f ∷ []) (cond d (f ∷ c ∷ r ∷ []) (c ∷ r ∷ [])) ++ [])
@@ -139,3 +141,24 @@ pub drop_at : {X : Type 0} (xs : List X) (k : ℕ) (d : X) → k < length xs →
 drop_at xs k d lt =
     let next : suc k ≡ k + 1 = omega arith in
     drop-cons xs k d lt ∙ ap (λ n. get_or xs k d ∷ drop n xs) next
+
+-- all pieces were laid
+pub all_laid : (d : Drawn) (most : ℕ) (ps : List Piece) (k : ℕ) (before after : LineFlow) → length ps ≤ k
+    → after.cells ++ cells_from_column d.width (filler_of d.looks.now) after.col (drawn_atoms d after.stop (drop k ps)) ≡ laid_cells d before ps
+    → col_after d.width after.col (drawn_atoms d after.stop (drop k ps)) ≡ laid_col d before ps
+    → stop_behind d.tabstop after.stop (drop k ps) ≡ stop_behind d.tabstop before.stop ps
+    → k + length before.cells ≤ length after.cells
+    → PiecesAreLaid d most ps before after
+all_laid d most ps k before after le cells col stop count =
+    let none : drop k ps ≡ [] = drop_all k ps le in
+    let all : after.cells ≡ laid_cells d before ps =
+    sym (append-nil after.cells)
+    ∙ ap (λ qs. after.cells ++ cells_from_column d.width (filler_of d.looks.now) after.col (drawn_atoms d after.stop qs)) (sym none)
+    ∙ cells in
+    record {
+      front = sym (take_all (length after.cells) after.cells (omega arith)) ∙ ap (take (length after.cells)) all;
+      all = λ few. all;
+      col = λ few. ap (λ qs. col_after d.width after.col (drawn_atoms d after.stop qs)) (sym none) ∙ col;
+      stop = λ few. ap (stop_behind d.tabstop after.stop) (sym none) ∙ stop;
+      count = λ few. omega (arith, le, count);
+    }

@@ -1,6 +1,8 @@
 pub mod FirstLemmas
+pub mod HalfLemmas
 pub mod LayLemmas
 pub mod PlaceLemmas
 pub mod PlainLines
 pub mod RowLemmas
+pub mod SpanLemmas
 pub mod WholeLemmas

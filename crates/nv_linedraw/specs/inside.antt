@@ -1,3 +1,4 @@
 pub mod DrawnCells
 pub mod Placing
 pub mod Plain
+pub mod Stretches

@@ -6,6 +6,7 @@ mod laws;
 mod lines;
 mod looks;
 mod places;
+mod spans;
 
 pub use laws::row_laws;
 pub use lines::{cells, first_cells, first_rows, is_plain, rows};

@@ -3,7 +3,7 @@
 ghost use Rattle.nv_hl.specs.Attributes.{empty_attr};
 ghost use Rattle.nv_hl.specs.Cells.{space};
 ghost use Rattle.nv_linedraw.specs.LineCells.{cells_of_line, filling, rest_attr, rows_of_line};
-ghost use Rattle.nv_linedraw.specs.inside.DrawnCells.{laid_cells, laid_col};
+ghost use Rattle.nv_linedraw.specs.inside.DrawnCells.{PiecesAreLaid, line_flow};
 ghost use Rattle.nv_linedraw.specs.inside.Plain.{byte_cell, plain_filling, plain_line};
 ghost use Rattle.std.specs.Int.{is_in_range};
 ghost use Rattle.std.specs.List.{list_all};
@@ -11,6 +11,7 @@ ghost use Rattle.std.specs.Prelude.{◌≡◌, ◌<◌, ◌≤◌, ◌+◌, ◌/
 
 use crate::flow::{Drawn, Flow, rest_attr};
 use crate::looks::{Looks, Span};
+use crate::spans::spans_among;
 use nv_hl::{Attr, Cell};
 use nv_text::{Piece, first_pieces};
 use std::alloc::{AllocError, Global};
@@ -40,36 +41,73 @@ fn put_blanks(cells: &mut Vec<Cell>, n: u32, d: &Drawn) -> Result<(), AllocError
     Ok(())
 }
 
-/// Lays pieces until there are so many cells.
+// Of at most so many spans each piece looks at all.
+const FEW_SPANS: usize = 16;
+
+// At most so many pieces look at all spans each.
+const FEW_PIECES: usize = 8;
+
+/// Lays pieces until there are so many cells. `stop` cells of the line stand behind the last tab
+/// stop; gives how many do then.
+fn lay_each(
+    flow: &mut Flow,
+    alloc: Global,
+    d: &Drawn,
+    pieces: &[Piece],
+    mut stop: u32,
+    most: usize,
+) -> Result<u32, AllocError>
+    requires within { flow.old.col < d.now.width }
+    requires stop { stop < d.now.tabstop }
+    requires pieces { All (λ p. (p.from < p.to) × (p.to ≤ length d.now.line.now)) pieces.now }
+    ensures laid { IfOk result (λ after. PiecesAreLaid d.now most pieces.now
+        (line_flow flow.old stop) (line_flow flow.new after)) }
+    ensures within { flow.new.col < d.now.width }
+    ensures stop_within { IfOk result (λ after. after < d.now.tabstop) }
+{
+    for piece in pieces {
+        stop = flow.put_piece(alloc, d, *piece, stop)?;
+        if most <= flow.cells.len() {
+            return Ok(stop);
+        }
+    }
+    Ok(stop)
+}
+
+/// Lays pieces until there are so many cells. `stop` cells of the line stand behind the last tab
+/// stop; gives how many do then. Of many spans each half of the pieces looks only at those that
+/// reach into it, so none is looked at more often than the logarithm of the number of pieces says.
 fn lay_pieces(
     flow: &mut Flow,
     alloc: Global,
     d: &Drawn,
     pieces: &[Piece],
+    stop: u32,
     most: usize,
-) -> Result<(), AllocError>
+) -> Result<u32, AllocError>
     requires within { flow.old.col < d.now.width }
-    requires stop { 0 < d.now.tabstop }
+    requires stop { stop < d.now.tabstop }
     requires pieces { All (λ p. (p.from < p.to) × (p.to ≤ length d.now.line.now)) pieces.now }
-    ensures front { OnOk result (flow.new.cells.items
-        ≡ take (length flow.new.cells.items)
-        (flow.old.cells.items ++ laid_cells d.now flow.old.col pieces.now)) }
-    ensures all { OnOk result (length flow.new.cells.items < most
-        → flow.new.cells.items ≡ flow.old.cells.items ++ laid_cells d.now flow.old.col pieces.now) }
-    ensures col { OnOk result (length flow.new.cells.items < most
-        → flow.new.col ≡ laid_col d.now flow.old.col pieces.now) }
-    ensures count { OnOk result (length flow.new.cells.items < most
-        → length pieces.now + length flow.old.cells.items ≤ length flow.new.cells.items) }
+    ensures laid { IfOk result (λ after. PiecesAreLaid d.now most pieces.now
+        (line_flow flow.old stop) (line_flow flow.new after)) }
     ensures within { flow.new.col < d.now.width }
+    ensures stop_within { IfOk result (λ after. after < d.now.tabstop) }
 {
-    let mut stop = 0;
-    for piece in pieces {
-        stop = flow.put_piece(alloc, d, *piece, stop)?;
-        if most <= flow.cells.len() {
-            return Ok(());
-        }
+    if d.spans.len() <= FEW_SPANS || pieces.len() <= FEW_PIECES {
+        return lay_each(flow, alloc, d, pieces, stop, most);
     }
-    Ok(())
+    let spans = spans_among(alloc, d.spans, pieces)?;
+    let among = Drawn {
+        spans: spans.as_slice(),
+        ..*d
+    };
+    let (front, back) = pieces.split_at(pieces.len() / 2);
+    let middle = lay_pieces(flow, alloc, &among, front, stop, most)?;
+    if most <= flow.cells.len() {
+        return Ok(middle);
+    }
+    let end = lay_pieces(flow, alloc, &among, back, middle, most)?;
+    Ok(end)
 }
 
 /// Fills the last row, unless there are so many cells already.
@@ -200,7 +238,7 @@ pub fn first_cells(
         col: 0,
     };
     let pieces = first_pieces(alloc, line, most)?;
-    lay_pieces(&mut flow, alloc, &d, pieces.as_slice(), most)?;
+    lay_pieces(&mut flow, alloc, &d, pieces.as_slice(), 0, most)?;
     fill(&mut flow, &d, most)?;
     let mut cells = flow.cells;
     cells.truncate(most);

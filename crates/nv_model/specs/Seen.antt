@@ -1,5 +1,5 @@
 -- What is seen of an editor: all that the answer to a call depends on.
-use Rattle.std.specs.Prelude.{ℕ, ℤ, Bool, List, Option, option_map}
+use Rattle.std.specs.Prelude.{ℕ, ℤ, Bool, false, List, Option, None, Some, bytes_eq, option_map}
 use Rattle.nv_places.specs.Flat.{flat, lines_of}
 use Rattle.nv_marks.specs.declared.extmark.Mark.{Mark}
 use Rattle.nv_marks.specs.Marks.{greatest_id}
@@ -24,6 +24,11 @@ pub record SeenBuffer : Type 0 where
   pub modified : Bool
   pub listed : Bool
   pub tabstop : ℕ
+
+-- whether there is a buffer, and it has this name (help: nvim_buf_set_name())
+abbrev pub is_name_of : List ℕ → Option SeenBuffer → Bool
+is_name_of name None = false
+is_name_of name (Some b) = bytes_eq b.name name
 
 -- what is seen of an editor: its live buffers, their handles rising, and all else
 pub record Seen : Type 0 where

@@ -4,4 +4,6 @@ pub mod Givings
 pub mod Objecting
 pub mod Offering
 pub mod Seeing
-pub mod Watching
+pub mod Quiet
+pub mod Verdicts
+pub mod Following

@@ -11,12 +11,14 @@ use Rattle.nv_world.specs.declared.story.Start.{Start}
 use Rattle.nv_book.specs.Books.{Recorded, entries_of_records}
 use Rattle.nv_book.specs.Outputs.{ToldBy, session_named, Enters, GoesOut, Plays}
 use Rattle.nv_book.specs.Reading.{IsReplayed, IsReplaying, IsStepOf, Replaying, ReplaysOne}
+use Rattle.nv_book.specs.Upcoming.{IsUpcoming}
+use Rattle.nv_book.specs.declared.replay.Upcoming.{Upcoming}
 use Rattle.nv_book.specs.inside.Playing.{IsPlayedTo}
 use Rattle.nv_book.specs.Reading.{IsWhyUnread}
 use Rattle.nv_book.specs.declared.faults.Unread.{Unread}
 use Rattle.nv_watch.specs.Verdicts.{Sight, sight}
 use Rattle.nv_replay.specs.Sights.{IsSight, AreSights}
-use Rattle.nv_replay.specs.inside.Tallies.{GoesOverAll, GoesOnOver, IsGoingOver, IsGoneOver, IsTallyOf, tally_with}
+use Rattle.nv_replay.specs.inside.Tallies.{GoesOver, GoesOverAll, GoesOnOver, IsComing, IsGoingOver, IsGoneOver, IsTallyOf, tally_with}
 use Rattle.nv_replay.specs.declared.tallying.Tally.{Tally}
 use Rattle.nv_replay.proofs.Comparing.{as_many, tally_more}
 
@@ -90,11 +92,20 @@ gone_over fed bytes left rs ps seen t old new going same h = record {
   sights = subst (λ (s : Start). AreSights s [] ps seen) (sym same) going.sights;
 }
 
+-- the next entry was read
+pub coming_over : (fed bytes : List ℕ) (rs ps : List Recorded) (seen : List Sight) (t : Tally) (next : Upcoming) (old new : Replaying)
+    → IsGoingOver fed rs ps seen t old → new.start ≡ old.start → IsUpcoming bytes rs ps next new → IsComing bytes rs ps seen next t new
+coming_over fed bytes rs ps seen t next old new going same h = record {
+  upcoming = h;
+  tally_is = going.tally_is;
+  sights = subst (λ (s : Start). AreSights s [] ps seen) (sym same) going.sights;
+}
+
 -- one entry more was gone over
-pub goes_on : (fed bytes : List ℕ) (rs ps : List Recorded) (seen : List Sight) (s : Step) (t u : Tally) (old new : Replaying)
-    → IsGoingOver fed rs ps seen t old → new.start ≡ old.start → u ≡ tally_with t s.at new.recorded s.sent → ReplaysOne bytes rs ps s new → GoesOnOver bytes rs ps seen s u new
-goes_on fed bytes rs ps seen s t u old new going same is h =
-    let entries : entries_of_records ps ≡ entries_of_records rs = going.replaying.played_are.same in
+pub goes_on : (fed bytes : List ℕ) (rs ps : List Recorded) (seen : List Sight) (next : Upcoming) (s : Step) (t u : Tally) (old new : Replaying)
+    → IsComing fed rs ps seen next t old → new.start ≡ old.start → u ≡ tally_with t s.at new.recorded s.sent → ReplaysOne bytes rs ps s new → GoesOnOver bytes rs ps seen s u new
+goes_on fed bytes rs ps seen next s t u old new going same is h =
+    let entries : entries_of_records ps ≡ entries_of_records rs = going.upcoming.played_are.same in
     record {
       entry = h.entry;
       given = h.given;
@@ -114,3 +125,8 @@ unread_all bytes left seen r fault new is h = subst (λ (q : Result Tally Unread
 
 pub none_on_err : {X E : Type 0} (r : Result X E) (e : E) (P : Type 0) → r ≡ Err e → OnOk r P
 none_on_err {X} {E} r e P is = subst (λ (q : Result X E). OnOk q P) (sym is) tt
+
+-- why no entry more was gone over
+pub unread_one : (bytes : List ℕ) (left : Option (List ℕ)) (rs ps : List Recorded) (seen : List Sight) (r : Result Step Unread) (fault : Unread) (t : Tally) (new : Replaying) → r ≡ Err fault
+    → IsWhyUnread new.start.limits bytes left fault → GoesOver bytes left rs ps seen r t new
+unread_one bytes left rs ps seen r fault t new is h = subst (λ (q : Result Step Unread). GoesOver bytes left rs ps seen q t new) (sym is) h

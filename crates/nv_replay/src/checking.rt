@@ -1,26 +1,30 @@
 //! A book that is played again, compared and watched.
-ghost use Rattle.std.specs.Prelude.{◌≡◌, ◌≤◌, ◌∷◌, ◌++◌, ◌↔◌, ℕ, [], List, length, slice_get, Some, OnOk, Err};
+ghost use Rattle.std.specs.Prelude.{◌≡◌, ◌≤◌, ◌++◌, ◌↔◌, ℕ, [], List, length, slice_get, Some, IfOk, OnOk, Err};
 ghost use Rattle.nv_io.specs.Faults.{Rose};
 ghost use Rattle.nv_io.specs.Streams.{Gave};
 ghost use Rattle.nv_dispatch.specs.Runs.{usual_limits};
-ghost use Rattle.nv_world.specs.Contents.{plain_entries};
+ghost use Rattle.nv_world.specs.Contents.{plain_entries, plain_event};
+ghost use Rattle.nv_world.specs.Worlds.{IsLightEvent};
+ghost use Rattle.nv_book.specs.Books.{Recorded};
 ghost use Rattle.nv_book.specs.Reading.{IsReplaying};
 ghost use Rattle.nv_watch.specs.Verdicts.{IsVerdict, Sight, sight};
 ghost use Rattle.nv_watch.specs.declared.verdict.Verdict.{Verdict as PlainVerdict};
 ghost use Rattle.nv_replay.specs.Ends.{CheckEnds};
 ghost use Rattle.nv_replay.specs.inside.Endings.{Concludes, SaysNoFirst};
-ghost use Rattle.nv_replay.specs.inside.Tallies.{GoesOverAll};
+ghost use Rattle.nv_replay.specs.inside.Tallies.{GoesOver, GoesOverAll, IsComing};
+ghost use Rattle.nv_replay.specs.inside.Watching.{GoesAlong};
 
 use crate::ending::{ReplayEnd, end_of_unread};
 use crate::saying::first_no;
 use crate::summary::summary;
 use crate::tallying::{Tally, compare_next};
-use nv_book::{Replay, Unread};
+use crate::watching::{prepare, watch};
+use nv_book::{Replay, Unread, Upcoming};
 use nv_dispatch::usual_limits;
 use nv_io::{Sink, Source, put_all};
-use nv_watch::{Watcher, drive};
-use nv_world::{History, Step, World};
-use std::alloc::{AllocError, Global};
+use nv_watch::{Watcher, catch_up};
+use nv_world::{History, Step};
+use std::alloc::Global;
 use std::net::{Net, TcpListener, TcpStream};
 
 /// A book that was gone over: its history, and what was counted and compared.
@@ -30,17 +34,37 @@ pub struct GoneOver {
     pub tally: Tally,
 }
 
-// Shows a step to the watchers.
-fn watch<W: Watcher>(watchers: &mut Vec<W>, world: &World, step: Step) -> Result<(), AllocError>
+// Plays the entry of a book that was read, compares it, and shows its step to the watchers.
+fn pass_one<R: Net<Listener = TcpListener, Stream = TcpStream>, I: Source, W: Watcher>(
+    rt: &R,
+    replay: &mut Replay,
+    source: &mut I,
+    watchers: &mut Vec<W>,
+    tally: &mut Tally,
+    upcoming: Upcoming,
+) -> Result<Step, Unread>
+    requires light { IsLightEvent (plain_event upcoming.heading.entry.event) }
+    ensures goes { (bytes : List ℕ)
+        × Gave (I.taken source.old) (I.taken source.new) (I.left source.old) (I.left source.new)
+        bytes
+        × ((fed : List ℕ) (records played : List Recorded) (seen : List Sight)
+        → IsComing fed records played seen upcoming tally.old replay.old
+        → GoesOver (fed ++ bytes) (I.left source.new) records played seen result tally.new
+        replay.new) }
     ensures count { OnOk result (length watchers.new.items ≡ length watchers.old.items) }
-    ensures seen { OnOk result ((i : ℕ) (old new : W) (seen : List Sight)
+    ensures along { IfOk result (λ made. (i : ℕ) (old new : W)
         → slice_get watchers.old.items i ≡ Some old → slice_get watchers.new.items i ≡ Some new
-        → W.HasSeen old seen → W.HasSeen new (seen ++ sight world.now step ∷ [])) }
-    ensures rule { OnOk result ((i : ℕ) (old new : W) (seen : List Sight) (x : Sight)
-        → slice_get watchers.old.items i ≡ Some old → slice_get watchers.new.items i ≡ Some new
-        → W.Breaks old seen x ↔ W.Breaks new seen x) }
+        → GoesAlong replay.old.world (sight replay.new.world made) (W.HasSeen old)
+        (W.IsBehind old) (W.IsBehind new) (W.Breaks old) (W.Breaks new)) }
+    ensures same { replay.new.start ≡ replay.old.start }
+    ensures later { I.faults source.old ≤ I.faults source.new }
+    ensures fault { result ≡ Err Unread.ReadFault
+        → Rose (I.faults source.old) (I.faults source.new) }
 {
-    drive(watchers, world, &step)
+    prepare(watchers, replay.world(), &upcoming.heading.entry.event)?;
+    let step = compare_next(rt, replay, source, upcoming, tally)?;
+    watch(watchers, replay.world(), &step)?;
+    Ok(step)
 }
 
 // Goes over all entries of a book, from its first on.
@@ -73,9 +97,15 @@ fn go_over<R: Net<Listener = TcpListener, Stream = TcpStream>, I: Source, W: Wat
         differs: None,
     };
     for _round in 0..u64::MAX {
-        match compare_next(rt, replay, source, &mut tally)? {
-            Some(step) => watch(watchers, replay.world(), step)?,
-            None => return Ok(tally),
+        match replay.read(rt, source)? {
+            Some(upcoming) => {
+                let step = pass_one(rt, replay, source, watchers, &mut tally, upcoming)?;
+                drop(step);
+            }
+            None => {
+                catch_up(watchers, replay.world())?;
+                return Ok(tally);
+            }
         }
     }
     Err(Unread::NoMemory)

@@ -8,6 +8,7 @@ mod replaying;
 mod saying;
 mod summary;
 mod tallying;
+mod watching;
 
 pub use checking::check;
 pub use ending::{ReplayEnd, WriteEnd};

@@ -1,12 +1,15 @@
 //! What is counted and compared while a history is gone over.
-ghost use Rattle.std.specs.Prelude.{◌≡◌, ◌≤◌, ◌++◌, ℕ, List, Err};
+ghost use Rattle.std.specs.Prelude.{◌≡◌, ◌≤◌, ◌++◌, ℕ, List, Err, IfOk};
 ghost use Rattle.nv_io.specs.Faults.{Rose};
 ghost use Rattle.nv_io.specs.Streams.{Gave};
+ghost use Rattle.nv_world.specs.Contents.{plain_event};
+ghost use Rattle.nv_world.specs.Worlds.{IsLightEvent};
 ghost use Rattle.nv_book.specs.Books.{Recorded};
+ghost use Rattle.nv_book.specs.Upcoming.{HasEntered};
 ghost use Rattle.nv_watch.specs.Verdicts.{Sight};
-ghost use Rattle.nv_replay.specs.inside.Tallies.{GoesOver, IsGoingOver, tally_with};
+ghost use Rattle.nv_replay.specs.inside.Tallies.{GoesOver, IsComing, tally_with};
 
-use nv_book::{Replay, Unread};
+use nv_book::{Replay, Unread, Upcoming};
 use nv_io::Source;
 use nv_world::Step;
 use std::net::{Net, TcpListener, TcpStream};
@@ -31,31 +34,30 @@ impl Tally {
     }
 }
 
-/// Plays the next entry of a book, and compares its output with the book's. `None` at the end of
-/// the book.
+/// Plays the entry of a book that was read, and compares its output with the book's.
 pub fn compare_next<R: Net<Listener = TcpListener, Stream = TcpStream>, I: Source>(
     rt: &R,
     replay: &mut Replay,
     source: &mut I,
+    upcoming: Upcoming,
     tally: &mut Tally,
-) -> Result<Option<Step>, Unread>
+) -> Result<Step, Unread>
+    requires light { IsLightEvent (plain_event upcoming.heading.entry.event) }
     ensures goes { (bytes : List ℕ)
         × Gave (I.taken source.old) (I.taken source.new) (I.left source.old) (I.left source.new)
         bytes
         × ((fed : List ℕ) (records played : List Recorded) (seen : List Sight)
-        → IsGoingOver fed records played seen tally.old replay.old
+        → IsComing fed records played seen upcoming tally.old replay.old
         → GoesOver (fed ++ bytes) (I.left source.new) records played seen result tally.new
         replay.new) }
+    ensures enters { IfOk result
+        (HasEntered upcoming.heading.entry replay.old.world replay.new.world) }
     ensures same { replay.new.start ≡ replay.old.start }
     ensures later { I.faults source.old ≤ I.faults source.new }
     ensures fault { result ≡ Err Unread.ReadFault
         → Rose (I.faults source.old) (I.faults source.new) }
 {
-    match replay.next(rt, source)? {
-        Some(step) => {
-            tally.add(step.at, replay.recorded(), step.sent.as_slice());
-            Ok(Some(step))
-        }
-        None => Ok(None),
-    }
+    let step = replay.play(rt, source, upcoming)?;
+    tally.add(step.at, replay.recorded(), step.sent.as_slice());
+    Ok(step)
 }

@@ -8,7 +8,7 @@ use Rattle.nv_layout.specs.Changes.{holds}
 use Rattle.nv_layout.specs.Places.{rects}
 use Rattle.nv_layout.specs.declared.nodes.Placed.{Placed}
 use Rattle.nv_layout.specs.declared.nodes.Rect.{Rect}
-use Rattle.nv_layout.proofs.Written.{rects_name_windows}
+use Rattle.nv_layout.proofs.Naming.{rects_name_windows}
 use Rattle.nv_windows.specs.Rooms.{windows_in}
 use Rattle.nv_windows.specs.Sound.{IsSoundPage, IsSoundWorkspace, handles_of_tabpages, times_among}
 use Rattle.nv_windows.specs.Workspace.{Page, Workspace, current_window, handles_of_windows, is_live_window, tabpage_at, tabpage_of, window_at}

@@ -1,5 +1,5 @@
 -- The marks that show on a row, among those that may.
-use Rattle.std.proofs.Common.{◌≡◌, ℕ, ◌<◌, ◌≤◌, ◌&&◌, Bool, true, false, cond, not, nat_le, nat_lt, suc, List, [], ◌∷◌, ◌++◌, length, map, filter, All, Option, Some, None, refl, ap, subst, ◌∙◌, arith}
+use Rattle.std.proofs.Common.{◌≡◌, ℕ, ◌<◌, ◌≤◌, ◌&&◌, Bool, true, false, cond, not, nat_le, nat_lt, suc, List, [], ◌∷◌, ◌++◌, length, map, filter, All, Option, Some, None, refl, ap, sym, subst, ◌∙◌, arith}
 use Rattle.std.specs.Prelude.{IsPermutation, flat_map}
 use Rattle.std.specs.Cmp.{IsTotalOrder, IsStrictWeakOrder, then_total, on_total, nat_cmp_total}
 use Rattle.std.specs.Ordering.{is_lt}
@@ -18,7 +18,7 @@ use Rattle.nv_hl.specs.Groups.{NamedGroup}
 use Rattle.nv_linedraw.specs.declared.looks.Span.{Span}
 use Rattle.nv_windows.specs.Views.{row_begin}
 use Rattle.nv_scene.specs.Panes.{AreSpansOf, paint_order, range_from, range_to, shows_by, shows_on, span_on}
-use Rattle.nv_scene.specs.inside.Painting.{AreLaid, may_show, may_show_by, showing_marks, spans_of_mark}
+use Rattle.nv_scene.specs.inside.Painting.{AreLaid, ShowOnRows, may_show, may_show_by, may_show_on, mark_if_on, showing_marks, spans_of_mark}
 
 pub paint_order_total : IsTotalOrder paint_order
 paint_order_total =
@@ -69,14 +69,42 @@ shown_among first behind row len marks above below =
     filter_narrower (shows_on row len) (may_show first) (λ k e. shown_stops k.start row len first k.stop k.paint above e) (filter (starts_within (row_begin 0) (row_begin behind)) marks)
     ∙ filter_narrower (shows_on row len) (starts_within (row_begin 0) (row_begin behind)) (λ k e. shown_starts k.start row len behind k.stop k.paint below e) marks
 
--- their spans are those of the row
-pub spans_shown : (groups : List NamedGroup) (first behind row len : ℕ) (marks laid : List Mark) (spans : List Span) → first ≤ row → row < behind
-    → AreLaid first behind marks laid → spans ≡ map (span_on groups row len) (filter (shows_on row len) laid) → AreSpansOf groups marks row len spans
-spans_shown groups first behind row len marks laid spans above below are is = record {
-  order = filter (shows_on row len) laid;
-  marks_are =
+pub laid_shown : (first behind : ℕ) (marks laid : List Mark) → AreLaid first behind marks laid → ShowOnRows first behind marks laid
+laid_shown first behind marks laid are = record {
+  same_marks = λ row len above below.
       subst (λ (l : List Mark). IsPermutation l (filter (shows_on row len) laid)) (shown_among first behind row len marks above below)
       (IsPermutation-filter (shows_on row len) (showing_marks first behind marks) laid are.same_marks);
+  rising = are.rising;
+}
+
+-- and so are those that may show on some of the rows, for these
+shown_on_row : (p : Pos) (row len first behind : ℕ) (stop : Option Far) (paint : Option Paint) → first ≤ row → row < behind → shows_by p row len stop paint ≡ true
+    → (nat_lt p.row behind && may_show_by first stop paint) ≡ true
+shown_on_row p row len first behind None paint h i e = cc
+shown_on_row p row len first behind (Some far) None h i e = cc
+shown_on_row p row len first behind (Some far) (Some paint) h i e =
+    numbers p.row row first behind far.pos.row (nat_lt (range_from p row) (range_to far.pos row len)) h i e
+  where
+    numbers : (a row first behind stop : ℕ) (t : Bool) → first ≤ row → row < behind → (nat_le a row && nat_le row stop && t) ≡ true
+        → (nat_lt a behind && nat_le first stop) ≡ true
+    numbers a row first behind stop t h i e = grind (arith, nat_tests)
+
+pub shown_in_part : (first behind from to : ℕ) (marks laid : List Mark) → first ≤ from → to ≤ behind → ShowOnRows first behind marks laid
+    → ShowOnRows from to marks (filter (may_show_on from to) laid)
+shown_in_part first behind from to marks laid after before are = record {
+  same_marks = λ row len above below.
+      subst (λ (l : List Mark). IsPermutation (filter (shows_on row len) marks) l)
+      (sym (filter_narrower (shows_on row len) (may_show_on from to) (λ k e. shown_on_row k.start row len from to k.stop k.paint above below e) laid))
+      (are.same_marks row len (omega (arith, after, above)) (omega (arith, below, before)));
+  rising = IsSortedBy-filter (λ (m k : Mark). is_lt (paint_order m k)) paint_order_ranks (may_show_on from to) laid are.rising;
+}
+
+-- their spans are those of the row
+pub spans_shown : (groups : List NamedGroup) (first behind row len : ℕ) (marks laid : List Mark) (spans : List Span) → first ≤ row → row < behind
+    → ShowOnRows first behind marks laid → spans ≡ map (span_on groups row len) (filter (shows_on row len) laid) → AreSpansOf groups marks row len spans
+spans_shown groups first behind row len marks laid spans above below are is = record {
+  order = filter (shows_on row len) laid;
+  marks_are = are.same_marks row len above below;
   rising = IsSortedBy-filter (λ (m k : Mark). is_lt (paint_order m k)) paint_order_ranks (shows_on row len) laid are.rising;
   spans_are = is;
 }
@@ -106,4 +134,14 @@ all_shown groups row len (k ∷ ks) = by (shows_on row len k) (all_shown groups 
         → cond t (span_on groups row len k ∷ []) [] ++ flat_map (spans_of_mark groups row len) ks
         ≡ map (span_on groups row len) (cond t (k ∷ filter (shows_on row len) ks) (filter (shows_on row len) ks))
     by true rest = ap (λ (l : List Span). span_on groups row len k ∷ l) rest
+    by false rest = rest
+
+-- the marks that may show on some rows, one by one
+pub all_on : (first behind : ℕ) (marks : List Mark) → flat_map (mark_if_on first behind) marks ≡ filter (may_show_on first behind) marks
+all_on first behind [] = refl
+all_on first behind (k ∷ ks) = by (may_show_on first behind k) (all_on first behind ks)
+  where
+    by : (t : Bool) → flat_map (mark_if_on first behind) ks ≡ filter (may_show_on first behind) ks
+        → cond t (k ∷ []) [] ++ flat_map (mark_if_on first behind) ks ≡ cond t (k ∷ filter (may_show_on first behind) ks) (filter (may_show_on first behind) ks)
+    by true rest = ap (λ (l : List Mark). k ∷ l) rest
     by false rest = rest

@@ -20,7 +20,7 @@ use Rattle.nv_layout.specs.declared.nodes.Rect.{Rect}
 use Rattle.nv_layout.proofs.Apart.{rects_have_least_size, rects_lie_in_area}
 use Rattle.nv_layout.proofs.Spans.{times_in-append}
 use Rattle.nv_layout.proofs.Tilings.{rects_tile}
-use Rattle.nv_layout.proofs.Written.{rects_name_windows}
+use Rattle.nv_layout.proofs.Naming.{rects_name_windows}
 use Rattle.nv_linedraw.specs.LineCells.{no_looks, rows_of_line}
 use Rattle.nv_linedraw.proofs.WholeLemmas.{rows_are_whole}
 use Rattle.nv_windows.specs.Rooms.{rect_in, text_area, windows_area, without_status}

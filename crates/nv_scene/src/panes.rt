@@ -1,13 +1,13 @@
 //! Windows as panes: the lines that they show, with what marks show on them.
-ghost use Rattle.std.specs.Prelude.{◌≡◌, ◌-◌, ◌<◌, ◌≤◌, All, length, true, IfOk};
+ghost use Rattle.std.specs.Prelude.{◌≡◌, ℕ, ◌+◌, ◌-◌, ◌<◌, ◌≤◌, All, length, true, IfOk, IsFalse, OnOk};
 ghost use Rattle.nv_model.specs.Standing.{seen_now, seen_buffer_now};
 ghost use Rattle.std.specs.Ordering.{int_eq};
 ghost use Rattle.nv_windows.specs.Workspace.{current_window, is_live_window};
 ghost use Rattle.nv_editor.specs.Sound.{IsOfGroups, ShowsText};
 ghost use Rattle.nv_scene.specs.Panes.{AreLinesOf, IsLineOf, IsPaneIn, IsPaneOf, status_line_of};
-ghost use Rattle.nv_scene.specs.inside.Painting.{AreLaid};
+ghost use Rattle.nv_scene.specs.inside.Painting.{AreLaid, ShowOnRows};
 
-use crate::spans::{marks_for, spans_on};
+use crate::spans::{marks_among, marks_for, spans_on};
 use nv_buffer::{Buffer, Line};
 use nv_editor::Editor;
 use nv_hl::Groups;
@@ -31,7 +31,7 @@ fn scene_line(
     requires first { first ≤ row }
     requires behind { row < behind }
     requires groups { All (IsOfGroups groups.now) marks.now }
-    requires laid { AreLaid first behind buffer.now.marks.marks marks.now }
+    requires shown { ShowOnRows first behind buffer.now.marks.marks marks.now }
     ensures { IfOk result (λ line. IsLineOf groups.now (seen_buffer_now buffer.now) row line) }
 {
     let Some(line) = buffer.text().line(row as usize) else {
@@ -40,6 +40,101 @@ fn scene_line(
     let spans = spans_on(alloc, groups, marks, row, line.len() as u32)?;
     let bytes = line.share()?;
     Ok(SceneLine { row, bytes, spans })
+}
+
+// Of at most so many marks each row looks at all.
+const FEW_MARKS: usize = 16;
+
+// Whether each row looks at all of the marks, since these are few, or the rows are no two.
+fn are_few(marks: &[Mark], first: u32, behind: u32) -> bool
+    requires { first ≤ behind }
+    ensures { IsFalse result → first + 1 < behind }
+{
+    marks.len() <= FEW_MARKS || behind - first <= 1
+}
+
+// A row between two others, about halfway.
+fn row_between(first: u32, behind: u32) -> u32
+    requires { first + 1 < behind }
+    ensures after { first < result }
+    ensures before { result < behind }
+{
+    first + (behind - first) / 2
+}
+
+// Puts the rows of a buffer from one up to before another behind other lines.
+fn push_each(
+    alloc: Global,
+    groups: &Groups,
+    buffer: &Buffer,
+    marks: &[Mark],
+    first: u32,
+    behind: u32,
+    lines: &mut Vec<SceneLine>,
+) -> Result<(), AllocError>
+    requires order { first ≤ behind }
+    requires within { behind ≤ length buffer.now.text }
+    requires groups { All (IsOfGroups groups.now) marks.now }
+    requires shown { ShowOnRows first behind buffer.now.marks.marks marks.now }
+    ensures count { OnOk result
+        (length lines.new.items ≡ length lines.old.items + (behind - first)) }
+    ensures lines { OnOk result ((start : ℕ) → start + length lines.old.items ≡ first
+        → AreLinesOf groups.now (seen_buffer_now buffer.now) start lines.old.items
+        → AreLinesOf groups.now (seen_buffer_now buffer.now) start lines.new.items) }
+{
+    for row in first..behind {
+        let line = scene_line(alloc, groups, buffer, marks, first, behind, row)?;
+        lines.push(line)?;
+    }
+    Ok(())
+}
+
+// The same. Of many marks each half of the rows looks only at those that may show on it, so a mark
+// is looked at for each row on which it may show, and some times more.
+fn push_lines(
+    alloc: Global,
+    groups: &Groups,
+    buffer: &Buffer,
+    marks: &[Mark],
+    first: u32,
+    behind: u32,
+    lines: &mut Vec<SceneLine>,
+) -> Result<(), AllocError>
+    requires order { first ≤ behind }
+    requires within { behind ≤ length buffer.now.text }
+    requires groups { All (IsOfGroups groups.now) marks.now }
+    requires shown { ShowOnRows first behind buffer.now.marks.marks marks.now }
+    ensures count { OnOk result
+        (length lines.new.items ≡ length lines.old.items + (behind - first)) }
+    ensures lines { OnOk result ((start : ℕ) → start + length lines.old.items ≡ first
+        → AreLinesOf groups.now (seen_buffer_now buffer.now) start lines.old.items
+        → AreLinesOf groups.now (seen_buffer_now buffer.now) start lines.new.items) }
+{
+    if are_few(marks, first, behind) {
+        return push_each(alloc, groups, buffer, marks, first, behind, lines);
+    }
+    let middle = row_between(first, behind);
+    let front = marks_among(alloc, marks, first, middle)?;
+    push_lines(
+        alloc,
+        groups,
+        buffer,
+        front.as_slice(),
+        first,
+        middle,
+        lines,
+    )?;
+    let back = marks_among(alloc, marks, middle, behind)?;
+    push_lines(
+        alloc,
+        groups,
+        buffer,
+        back.as_slice(),
+        middle,
+        behind,
+        lines,
+    )?;
+    Ok(())
 }
 
 // The rows of a buffer from one up to before another.
@@ -60,10 +155,7 @@ fn scene_lines(
         (λ lines. AreLinesOf groups.now (seen_buffer_now buffer.now) first lines.items) }
 {
     let mut lines = Vec::with_capacity(alloc, (behind - first) as usize)?;
-    for row in first..behind {
-        let line = scene_line(alloc, groups, buffer, marks, first, behind, row)?;
-        lines.push(line)?;
-    }
+    push_lines(alloc, groups, buffer, marks, first, behind, &mut lines)?;
     Ok(lines)
 }
 

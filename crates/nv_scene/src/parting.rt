@@ -1,37 +1,16 @@
-//! The windows of a tree in an area, and the separators between them.
-ghost use Rattle.std.specs.Prelude.{◌≡◌, ◌++◌, IfOk, OnOk};
+//! The separators between the windows of a tree.
+ghost use Rattle.std.specs.Prelude.{◌≡◌, ◌+◌, ◌<◌, ◌++◌, drop, length, IfOk, OnOk};
 ghost use Rattle.nv_layout.specs.Content.{group, shape_of, shapes_of};
-ghost use Rattle.nv_layout.specs.Least.{NoneEmpty};
-ghost use Rattle.nv_layout.specs.Places.{IsOnScreen, IsRoomy, rects, separators};
+ghost use Rattle.nv_layout.specs.Places.{separators};
 ghost use Rattle.nv_scene.specs.Separators.{AreWindowsOf, spanned_area};
-ghost use Rattle.nv_scene.specs.inside.Parting.{HasSpan, column_behind, separator_between};
+ghost use Rattle.nv_scene.specs.inside.Parting.{HasSpan, column_behind, separator_between, windows_behind, windows_within};
 
-use nv_layout::{Axis, Placed, Rect, Tree, leaves, rects};
+use nv_layout::{Axis, Placed, Rect, Tree};
 use std::alloc::{AllocError, Global};
-
-// The windows of a tree with their rectangles in an area, in tree order.
-pub(crate) fn placed_windows(
-    alloc: Global,
-    tree: &Tree,
-    area: Rect,
-) -> Result<Vec<Placed>, AllocError>
-    requires filled { NoneEmpty (shape_of tree.now) }
-    requires roomy { IsRoomy (shape_of tree.now) area }
-    requires on_screen { IsOnScreen area }
-    ensures { IfOk result (λ placed. placed.items ≡ rects (shape_of tree.now) area) }
-{
-    let nowhere = Placed {
-        window: 0,
-        rect: area,
-    };
-    let mut placed = vec![in alloc; nowhere; leaves(tree)]?;
-    rects(tree, area, placed.as_mut_slice());
-    Ok(placed)
-}
 
 /// The separators of a tree, in tree order: between neighbours in a row a column, as high as the
 /// row (own rule). `placed` are the windows of the tree with their rectangles in an area, as
-/// `nv_layout::rects` gives them.
+/// `nv_layout::placed` gives them.
 pub fn separators(alloc: Global, tree: &Tree, placed: &[Placed]) -> Result<Vec<Rect>, AllocError>
     requires { AreWindowsOf (shape_of tree.now) placed.now }
     ensures { IfOk result
@@ -42,15 +21,23 @@ pub fn separators(alloc: Global, tree: &Tree, placed: &[Placed]) -> Result<Vec<R
     Ok(found)
 }
 
-// Puts the separators of a tree behind others.
+// Puts the separators of a tree behind others. The windows begin with those of the tree; what
+// follows these is left.
 #[cycle(separators)]
-fn push_separators(tree: &Tree, placed: &[Placed], into: &mut Vec<Rect>) -> Result<(), AllocError>
-    requires { AreWindowsOf (shape_of tree.now) placed.now }
-    ensures { OnOk result (into.new.items
-        ≡ into.old.items ++ separators (shape_of tree.now) (spanned_area placed.now)) }
+fn push_separators<'a>(
+    tree: &Tree,
+    placed: &'a [Placed],
+    into: &mut Vec<Rect>,
+) -> Result<&'a [Placed], AllocError>
+    requires { AreWindowsOf (shape_of tree.now) (windows_within (shape_of tree.now) placed.now) }
+    ensures left { IfOk result
+        (λ left. left.now ≡ windows_behind (shape_of tree.now) placed.now) }
+    ensures found { OnOk result (into.new.items ≡ into.old.items
+        ++ separators (shape_of tree.now)
+        (spanned_area (windows_within (shape_of tree.now) placed.now))) }
 {
     match tree {
-        Tree::Leaf(_) => Ok(()),
+        Tree::Leaf(_) => Ok(&placed[1..]),
         Tree::Row(trees) => push_in_group(trees, Axis::Across, placed, into),
         Tree::Column(trees) => push_in_group(trees, Axis::Down, placed, into),
     }
@@ -58,39 +45,45 @@ fn push_separators(tree: &Tree, placed: &[Placed], into: &mut Vec<Rect>) -> Resu
 
 // The same for the children of a row or a column.
 #[cycle(separators)]
-fn push_in_group(
+fn push_in_group<'a>(
     trees: &[Tree],
     axis: Axis,
-    placed: &[Placed],
+    placed: &'a [Placed],
     into: &mut Vec<Rect>,
-) -> Result<(), AllocError>
-    requires { AreWindowsOf (group axis (shapes_of trees.now)) placed.now }
-    ensures { OnOk result (into.new.items ≡ into.old.items
-        ++ separators (group axis (shapes_of trees.now)) (spanned_area placed.now)) }
+) -> Result<&'a [Placed], AllocError>
+    requires { AreWindowsOf (group axis (shapes_of trees.now))
+        (windows_within (group axis (shapes_of trees.now)) placed.now) }
+    ensures left { IfOk result
+        (λ left. left.now ≡ windows_behind (group axis (shapes_of trees.now)) placed.now) }
+    ensures found { OnOk result (into.new.items ≡ into.old.items
+        ++ separators (group axis (shapes_of trees.now))
+        (spanned_area (windows_within (group axis (shapes_of trees.now)) placed.now))) }
 {
     let mut left = placed;
-    for tree in trees {
-        let (here, others) = left.split_at(leaves(tree));
-        push_separators(tree, here, into)?;
-        push_separator(axis, here, others, into)?;
+    for (place, tree) in trees.iter().enumerate() {
+        let others = push_separators(tree, left, into)?;
+        let (here, _) = left.split_at(left.len() - others.len());
+        push_separator(trees, place, axis, here, into)?;
         left = others;
     }
-    Ok(())
+    Ok(left)
 }
 
-// Puts the separator between windows and others that follow them, where one stands there.
+// Puts the separator behind the windows of a child, if others follow it in a row.
 fn push_separator(
+    trees: &[Tree],
+    place: usize,
     axis: Axis,
     here: &[Placed],
-    others: &[Placed],
     into: &mut Vec<Rect>,
 ) -> Result<(), AllocError>
-    requires { HasSpan here.now }
-    ensures { OnOk result (into.new.items
-        ≡ into.old.items ++ separator_between axis here.now others.now) }
+    requires place { place < length trees.now }
+    requires span { HasSpan here.now }
+    ensures { OnOk result (into.new.items ≡ into.old.items
+        ++ separator_between axis here.now (shapes_of (drop (place + 1) trees.now))) }
 {
     match axis {
-        Axis::Across if !others.is_empty() => {
+        Axis::Across if place + 1 < trees.len() => {
             into.push(column_behind(here))?;
             Ok(())
         }

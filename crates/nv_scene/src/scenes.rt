@@ -8,10 +8,10 @@ ghost use Rattle.nv_scene.specs.Scenes.{ArePanesIn, IsSceneOf, attr_named, bars_
 ghost use Rattle.nv_scene.specs.Settling.{IsSettled};
 
 use crate::panes::pane_of;
-use crate::parting::{placed_windows, separators};
+use crate::parting::separators;
 use nv_editor::Editor;
 use nv_hl::{Attr, Colours, Groups};
-use nv_layout::{Placed, Rect};
+use nv_layout::{Placed, Rect, placed};
 use nv_linedraw::Looks;
 use nv_screen::{Bars, Pane, Scene, Spot};
 use nv_windows::{Tabpage, Window, Windows};
@@ -150,7 +150,7 @@ pub fn scene_of(editor: &Editor) -> Result<Scene, AllocError>
     editor.known();
     let alloc = editor.alloc();
     let tree = &current_page(editor).tree;
-    let placed = placed_windows(alloc, tree, windows_area(editor.windows()))?;
+    let placed = placed(alloc, tree, windows_area(editor.windows()))?;
     let panes = panes_in(editor, placed.as_slice())?;
     let separators = separators(alloc, tree, placed.as_slice())?;
     let (width, height) = editor.windows().size();

@@ -2,7 +2,7 @@
 ghost use Rattle.std.specs.Prelude.{◌≡◌, All, Some, None, ◌++◌, IfOk, OnOk, filter, map, if◌then◌else◌};
 ghost use Rattle.nv_editor.specs.Sound.{IsOfGroups};
 ghost use Rattle.nv_scene.specs.Panes.{holds_of_row, range_from, range_to, shows_on, span_on};
-ghost use Rattle.nv_scene.specs.inside.Painting.{AreLaid, may_show, spans_of_mark};
+ghost use Rattle.nv_scene.specs.inside.Painting.{AreLaid, may_show, may_show_on, mark_if_on, spans_of_mark};
 
 use nv_buffer::Pos;
 use nv_hl::Groups;
@@ -40,6 +40,41 @@ pub(crate) fn marks_for(
     found.retain(|mark| may_show(mark, first));
     found.sort_unstable_by_key(|mark| (mark.priority, mark.ns, mark.id));
     Ok(found)
+}
+
+// Whether a mark may show on the rows from one up to before another.
+fn may_show_on(mark: &Mark, first: u32, behind: u32) -> bool
+    ensures { result ≡ may_show_on first behind mark.now }
+{
+    mark.start.row < behind && may_show(mark, first)
+}
+
+// Puts a mark behind others, if it may show on the rows from one up to before another.
+fn push_if_on(among: &mut Vec<Mark>, mark: &Mark, first: u32, behind: u32) -> Result<(), AllocError>
+    ensures { OnOk result
+        (among.new.items ≡ among.old.items ++ mark_if_on first behind mark.now) }
+{
+    if !may_show_on(mark, first, behind) {
+        return Ok(());
+    }
+    among.push(*mark)?;
+    Ok(())
+}
+
+// Those of marks that may show on the rows from one up to before another, in their order.
+pub(crate) fn marks_among(
+    alloc: Global,
+    marks: &[Mark],
+    first: u32,
+    behind: u32,
+) -> Result<Vec<Mark>, AllocError>
+    ensures { IfOk result (λ among. among.items ≡ filter (may_show_on first behind) marks.now) }
+{
+    let mut among = Vec::new(alloc);
+    for mark in marks {
+        push_if_on(&mut among, mark, first, behind)?;
+    }
+    Ok(among)
 }
 
 // The first byte of a row from which a range is on that begins at a place.

@@ -1,4 +1,4 @@
--- What a closure captures that goes to another thread: the half that reads.
+-- What a closure captures that goes to another thread: the half that reads, and the one that writes.
 use mathlib.Core.List.{[], ◌∷◌}
 use mir.Syntax.{Sym, Lifetime}
 use base.Fml.{Lft}
@@ -21,17 +21,28 @@ use Rattle.nv_world.specs.contracts.story.WorldStory.TheImpl as story
 use Rattle.nv_halves.specs.contracts.bells.Bell as bell_row
 use Rattle.nv_halves.proofs.bells.Bell.TheSendSync as bell
 use Rattle.nv_halves.specs.contracts.reader.ReaderHalf as half
+use Rattle.nv_halves.specs.contracts.writer.WriterHalf as writer
 use Rattle.nv_halves.proofs.ends.ReaderEnd.TheSendSync as end
+use Rattle.nv_halves.proofs.ends.WriterEnd.TheSendSync as writer_end
 
 -- what such a half gives back
 pub half_sends : (I : RattleType) → IsSend I → IsSend (half.the_row I)
 half_sends I s = search (crossing_passes, end.the_field_send) depth 20
+
+pub writer_sends : (S : RattleType) → IsSend S → IsSend (writer.the_row S)
+writer_sends S s = search (crossing_passes, writer_end.the_field_send) depth 20
 
 -- seven captures that may go to another thread
 pub seven_send : {ν : Sym} {A B C D E F G : RattleType} → IsSend A → IsSend B → IsSend C → IsSend D → IsSend E → IsSend F → IsSend G
     → IsSend (TupleAt ν (A ∷ B ∷ C ∷ D ∷ E ∷ F ∷ G ∷ []))
 seven_send {ν} {A} {B} {C} {D} {E} {F} {G} a b c d e f g = declared_send (type_at ν (A ∷ B ∷ C ∷ D ∷ E ∷ F ∷ G ∷ []))
     (as_row_send (row_field A) a, (as_row_send (row_field B) b, (as_row_send (row_field C) c, (as_row_send (row_field D) d, (as_row_send (row_field E) e, (as_row_send (row_field F) f, (as_row_send (row_field G) g, tt)))))))
+
+-- and nine of them
+pub nine_send : {ν : Sym} {A B C D E F G H I : RattleType} → IsSend A → IsSend B → IsSend C → IsSend D → IsSend E → IsSend F → IsSend G → IsSend H → IsSend I
+    → IsSend (TupleAt ν (A ∷ B ∷ C ∷ D ∷ E ∷ F ∷ G ∷ H ∷ I ∷ []))
+nine_send {ν} {A} {B} {C} {D} {E} {F} {G} {H} {I} a b c d e f g h i = declared_send (type_at ν (A ∷ B ∷ C ∷ D ∷ E ∷ F ∷ G ∷ H ∷ I ∷ []))
+    (as_row_send (row_field A) a, (as_row_send (row_field B) b, (as_row_send (row_field C) c, (as_row_send (row_field D) d, (as_row_send (row_field E) e, (as_row_send (row_field F) f, (as_row_send (row_field G) g, (as_row_send (row_field H) h, (as_row_send (row_field I) i, tt)))))))))
 
 -- one for each: the allocator, the turn, the bells, the pass, and the number of the session
 pub heap_sends : {ℓ : Lifetime} {κ : Lft} → IsSend (ShrRef ℓ κ heap_row.the_row)

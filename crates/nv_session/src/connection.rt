@@ -127,12 +127,56 @@ fn joined(reader: ReaderEnd, writer: WriterEnd) -> Ended
     }
 }
 
+// Runs the half that writes, in a thread of its own where one can be made. That ends with its
+// session, and so does what it kept of the memory that the half freed, as of screens.
+fn write_apart<
+    R: Net<Listener = TcpListener, Stream = TcpStream> + Threads + Wait + Sync,
+    S: Sink + Send + Drop,
+    V: Voice + Send + Drop,
+>(
+    rt: &R,
+    alloc: Global,
+    turn: &Turn<World>,
+    bells: &[Bell],
+    lane: usize,
+    pass: Pass<World>,
+    session: u64,
+    output: S,
+    voice: V,
+) -> WriterHalf<S>
+    requires turn { pass.turn ≡ turn.now.turn }
+    requires lane { lane < length bells.now }
+    requires told { V.told voice ≡ nothing_told }
+    ensures pass { IsSamePass (plain_pass pass) (plain_pass result.pass) }
+    ensures wrote { WritesHalf result.end (plain_pass pass) (plain_pass result.pass) session
+        (S.taken output) (S.taken result.output) }
+    ensures later { S.faults output ≤ S.faults result.output }
+    ensures fault { result.end ≡ WriterEnd.WriteFault
+        → Rose (S.faults output) (S.faults result.output) }
+{
+    join(
+        rt,
+        || -> WriterHalf<S>
+            requires { IsSync R.row × IsSend S.row × IsSend V.row × (pass.turn ≡ turn.now.turn)
+                × (lane < length bells.now) × (V.told voice ≡ nothing_told) }
+            ensures pass { IsSamePass (plain_pass pass) (plain_pass result.pass) }
+            ensures wrote { WritesHalf result.end (plain_pass pass) (plain_pass result.pass)
+                session (S.taken output) (S.taken result.output) }
+            ensures later { S.faults output ≤ S.faults result.output }
+            ensures fault { result.end ≡ WriterEnd.WriteFault
+                → Rose (S.faults output) (S.faults result.output) }
+        { writer_half(rt, alloc, turn, bells, lane, pass, session, output, voice) },
+        || (),
+    )
+    .0
+}
+
 // Runs both halves of a session, each in a thread of its own.
 pub(crate) fn run_halves<
     R: Net<Listener = TcpListener, Stream = TcpStream> + Threads + Wait + Sync,
     I: Source + Send + Drop,
     S: Sink + Send + Drop,
-    V: Voice + Drop,
+    V: Voice + Send + Drop,
 >(
     rt: &R,
     alloc: Global,
@@ -176,15 +220,15 @@ pub(crate) fn run_halves<
                 → Rose (I.faults input) (I.faults result.input) }
         { reader_half(rt, alloc, turn, bells, first, session, input) },
         || -> WriterHalf<S>
-            requires { (second.turn ≡ turn.now.turn) × (lane < length bells.now)
-                × (V.told voice ≡ nothing_told) }
+            requires { IsSync R.row × IsSend S.row × IsSend V.row × (second.turn ≡ turn.now.turn)
+                × (lane < length bells.now) × (V.told voice ≡ nothing_told) }
             ensures pass { IsSamePass (plain_pass second) (plain_pass result.pass) }
             ensures wrote { WritesHalf result.end (plain_pass second) (plain_pass result.pass)
                 session (S.taken output) (S.taken result.output) }
             ensures later { S.faults output ≤ S.faults result.output }
             ensures fault { result.end ≡ WriterEnd.WriteFault
                 → Rose (S.faults output) (S.faults result.output) }
-        { writer_half(rt, alloc, turn, bells, lane, second, session, output, voice) },
+        { write_apart(rt, alloc, turn, bells, lane, second, session, output, voice) },
     )
 }
 

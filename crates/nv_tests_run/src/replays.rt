@@ -67,6 +67,8 @@ impl Watcher for Tester {
 
     ghost Breaks = { λ w before x. ⊥ };
 
+    ghost IsBehind = { λ w seen. ⊥ };
+
     fn see(&mut self, _world: &World, step: &Step) -> Result<(), AllocError> {
         self.steps.set(self.steps.get().saturating_add(1));
         if self.manner == Manner::Wants {
@@ -75,6 +77,15 @@ impl Watcher for Tester {
         if self.manner == Manner::Doubts && step.at >= 1 {
             self.verdict = Verdict::No(1);
         }
+        Ok(())
+    }
+
+    fn glance(&mut self, world: &World, step: &Step) -> Result<(), AllocError> {
+        self.see(world, step)?;
+        Ok(())
+    }
+
+    fn catch_up(&mut self, _world: &World) -> Result<(), AllocError> {
         Ok(())
     }
 

@@ -1,5 +1,5 @@
-//! Worlds event by event: a session that is held, one whose outbox runs over, the splices of the
-//! last entry, and settled windows, against rows written by hand.
+//! Worlds event by event: a session that is held, one whose outbox runs over, bytes that are due,
+//! the splices of the last entry, and settled windows, against rows written by hand.
 ghost use Rattle.nv_world.specs.Contents.{plain_event};
 ghost use Rattle.nv_world.specs.Worlds.{IsLightEvent};
 
@@ -127,6 +127,34 @@ fn a_full_outbox_closes_its_session(rt: HostRuntime) -> Result<(), Fail> {
             ('w', 0)
         ]
     );
+    Ok(())
+}
+
+// The bytes that are due to session 2: with all lines of a text, after an edit, once it took, and
+// once it is closed.
+fn due_of(alloc: Global, world: &mut World) -> Result<[u64; 4], AllocError> {
+    told(world, Event::Open);
+    told(world, Event::Open);
+    let event = attach(alloc, 2, true)?;
+    told(world, event);
+    let lines = world.bytes_due(2);
+    edit(alloc, world, 1)?;
+    let more = world.bytes_due(2);
+    take(world, 2);
+    let none = world.bytes_due(2);
+    edit(alloc, world, 1)?;
+    told(world, Event::Close { session: 2 });
+    Ok([lines, more, none, world.bytes_due(2)])
+}
+
+fn due(alloc: Global) -> Result<[u64; 4], AllocError> {
+    let mut world = World::new(alloc, usual_limits(), 16)?;
+    due_of(alloc, &mut world)
+}
+
+#[test]
+fn bytes_count_until_they_are_taken(rt: HostRuntime) -> Result<(), Fail> {
+    assert_eq!(rt; due(rt.alloc())?, [160, 257, 0, 0]);
     Ok(())
 }
 

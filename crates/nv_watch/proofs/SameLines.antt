@@ -1,12 +1,83 @@
--- Two texts row by row.
-use Rattle.std.proofs.Common.{◌≡◌, refl, ap, sym, ℕ, zero, suc, ◌<◌, Bool, List, [], ◌∷◌, Some, drop, slice_get, length, arith}
+-- Two texts row by row, and one that stands in chunks.
+use Rattle.std.proofs.Common.{◌≡◌, refl, ap, sym, ◌∙◌, ℕ, zero, suc, ◌<◌, ◌≤◌, Bool, true, false, List, [], ◌∷◌, ◌++◌, drop, get_or, length, length-append, arith}
 use Rattle.std.specs.Prelude.{◌&&◌, bytes_eq}
+use Rattle.nv_lines.specs.Chunks.{chunk_lines}
+use Rattle.nv_lines.specs.declared.chunk.Chunk.{Chunk}
 use Rattle.nv_watch.specs.Folds.{are_same_lines}
+use Rattle.nv_watch.proofs.Handles.{rest_here}
 
-pub same_at : (xs bs : List (List ℕ)) (i : ℕ) (same : Bool) → length xs ≡ length bs → i < length bs
-    → ((x y : List ℕ) → slice_get xs i ≡ Some x → slice_get bs i ≡ Some y → same ≡ bytes_eq x y)
+pub same_at : (xs bs : List (List ℕ)) (i : ℕ) (x b : List ℕ) (same : Bool) → length xs ≡ length bs → i < length xs
+    → x ≡ get_or xs i x → b ≡ get_or bs i b → same ≡ bytes_eq x b
     → are_same_lines (drop i xs) (drop i bs) ≡ (same && are_same_lines (drop (suc i) xs) (drop (suc i) bs))
-same_at xs [] i same count below is = absurd (omega (arith, below))
-same_at [] (b ∷ bs) i same count below is = absurd (omega (arith, count))
-same_at (a ∷ xs) (b ∷ bs) zero same count below is = ap (λ (t : Bool). t && are_same_lines xs bs) (sym (is a b refl refl))
-same_at (a ∷ xs) (b ∷ bs) (suc i) same count below is = same_at xs bs i same (omega (arith, count)) (omega (arith, below)) is
+same_at [] bs i x b same count below xi bi is = absurd (omega (arith, below))
+same_at (y ∷ xs) [] i x b same count below xi bi is = absurd (omega (arith, count))
+same_at (y ∷ xs) (c ∷ bs) zero x b same count below xi bi is =
+    ap (λ (t : Bool). t && are_same_lines xs bs) (sym (is ∙ ap (λ (l : List ℕ). bytes_eq l b) xi ∙ ap (λ (l : List ℕ). bytes_eq y l) bi))
+same_at (y ∷ xs) (c ∷ bs) (suc i) x b same count below xi bi is = same_at xs bs i x b same (omega (arith, count)) (omega (arith, below)) xi bi is
+
+both_then : (a b c : Bool) → (a && (b && c)) ≡ ((a && b) && c)
+both_then true b c = refl
+both_then false b c = refl
+
+-- two texts are the same where their fronts are, and what stands behind these
+same_parts : (xs ys bs cs : List (List ℕ)) → length xs ≡ length bs
+    → are_same_lines (xs ++ ys) (bs ++ cs) ≡ (are_same_lines xs bs && are_same_lines ys cs)
+same_parts [] ys [] cs count = refl
+same_parts [] ys (b ∷ bs) cs count = absurd (omega (arith, count))
+same_parts (x ∷ xs) ys [] cs count = absurd (omega (arith, count))
+same_parts (x ∷ xs) ys (b ∷ bs) cs count =
+    ap (λ (t : Bool). bytes_eq x b && t) (same_parts xs ys bs cs (omega (arith, count)))
+    ∙ both_then (bytes_eq x b) (are_same_lines xs bs) (are_same_lines ys cs)
+
+-- the lines of the chunks from one on are its own, and those of the chunks behind it
+lines_here : (cs : List Chunk) (i : ℕ) (c : Chunk) (held : List (List ℕ)) → i < length cs → c ≡ get_or cs i c → held ≡ c.lines
+    → chunk_lines (drop i cs) ≡ held ++ chunk_lines (drop (suc i) cs)
+lines_here cs i c held within is held_is =
+    ap chunk_lines (rest_here cs i c within is)
+    ∙ ap (λ (l : List (List ℕ)). l ++ chunk_lines (drop (suc i) cs)) (sym held_is)
+
+pub chunk_fits : (cs : List Chunk) (i : ℕ) (c : Chunk) (held left : List (List ℕ)) → i < length cs → c ≡ get_or cs i c → held ≡ c.lines
+    → length (chunk_lines (drop i cs)) ≡ length left → length held ≤ length left
+chunk_fits cs i c held left within is held_is count =
+    omega (arith, count, ap length (lines_here cs i c held within is held_is), length-append held (chunk_lines (drop (suc i) cs)))
+
+pub count_behind : (cs : List Chunk) (i : ℕ) (c : Chunk) (held left here others : List (List ℕ)) → i < length cs → c ≡ get_or cs i c → held ≡ c.lines
+    → left ≡ here ++ others → length here ≡ length held
+    → length (chunk_lines (drop i cs)) ≡ length left → length (chunk_lines (drop (suc i) cs)) ≡ length others
+count_behind cs i c held left here others within is held_is parts as_many count =
+    omega (
+      arith,
+      count,
+      as_many,
+      ap length parts,
+      ap length (lines_here cs i c held within is held_is),
+      length-append held (chunk_lines (drop (suc i) cs)),
+      length-append here others,
+    )
+
+pub same_behind : (cs : List Chunk) (i : ℕ) (c : Chunk) (held left here others : List (List ℕ)) (same all : Bool)
+    → i < length cs → c ≡ get_or cs i c → held ≡ c.lines → left ≡ here ++ others → length here ≡ length held → same ≡ are_same_lines held here
+    → are_same_lines (chunk_lines (drop i cs)) left ≡ all
+    → (same && are_same_lines (chunk_lines (drop (suc i) cs)) others) ≡ all
+same_behind cs i c held left here others same all within is held_is parts as_many same_is known =
+    ap (λ (t : Bool). t && are_same_lines (chunk_lines (drop (suc i) cs)) others) same_is
+    ∙ sym (same_parts held (chunk_lines (drop (suc i) cs)) here others (sym as_many))
+    ∙ ap (λ (l : List (List ℕ)). are_same_lines l (here ++ others)) (sym (lines_here cs i c held within is held_is))
+    ∙ ap (λ (l : List (List ℕ)). are_same_lines (chunk_lines (drop i cs)) l) (sym parts)
+    ∙ known
+
+none_behind : (cs : List Chunk) (i : ℕ) → length cs ≤ i → chunk_lines (drop i cs) ≡ []
+none_behind [] zero past = refl
+none_behind [] (suc i) past = refl
+none_behind (c ∷ cs) zero past = absurd (omega (arith, past))
+none_behind (c ∷ cs) (suc i) past = none_behind cs i (omega (arith, past))
+
+none_same : (xs left : List (List ℕ)) (all : Bool) → xs ≡ [] → length xs ≡ length left → are_same_lines xs left ≡ all → true ≡ all
+none_same [] [] all none count known = known
+none_same [] (l ∷ left) all none count known = absurd (omega (arith, count))
+none_same (x ∷ xs) left all none count known = absurd (omega (arith, ap length none))
+
+-- where no chunk is left, all lines were the same
+pub all_same : (cs : List Chunk) (i : ℕ) (left : List (List ℕ)) (all : Bool) → length cs ≤ i → length (chunk_lines (drop i cs)) ≡ length left
+    → are_same_lines (chunk_lines (drop i cs)) left ≡ all → true ≡ all
+all_same cs i left all past count known = none_same (chunk_lines (drop i cs)) left all (none_behind cs i past) count known

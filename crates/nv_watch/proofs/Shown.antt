@@ -5,7 +5,7 @@ use Rattle.std.proofs.lemmas.Bool.Decides.{nat_tests}
 use Rattle.std.proofs.lemmas.List.{length-set}
 use Rattle.std.proofs.lemmas.Option.{slice_get_within}
 use Rattle.nv_history.proofs.Places.{set_here, set_there}
-use Rattle.nv_watch.specs.inside.Shown.{HaveBecome}
+use Rattle.nv_watch.specs.inside.Became.{HaveBecome}
 
 module _ {B : Type 0} (Became : B → B → Type 0) where
   pub none_shown : (old : List B) → HaveBecome old old 0 Became

@@ -7,6 +7,7 @@ pub mod MarkEnds
 pub mod MarkRule
 pub mod SeenWorlds
 pub mod SentParts
+pub mod Shown
 pub mod Verdicts
 pub mod Watchers
 pub mod inside

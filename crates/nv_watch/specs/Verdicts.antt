@@ -1,6 +1,8 @@
 -- What a watcher sees, and when a rule is broken (own rule).
-use Rattle.std.specs.Prelude.{◌≡◌, ℕ, ◌≤◌, Bool, List, ◌∷◌, ◌++◌, if◌then◌else◌, min}
-use Rattle.nv_world.specs.Worlds.{WorldRecord}
+use Rattle.std.specs.Prelude.{◌≡◌, ℕ, ◌≤◌, Bool, false, List, [], ◌∷◌, ◌++◌, fold, length, if◌then◌else◌, min, Option, Some, None, IsSome}
+use Rattle.nv_history.specs.Events.{Entry}
+use Rattle.nv_world.specs.Contents.{plain_entries}
+use Rattle.nv_world.specs.Worlds.{WorldRecord, model_of}
 use Rattle.nv_world.specs.declared.step.Step.{Step}
 use Rattle.nv_watch.specs.declared.verdict.Verdict.{Verdict}
 use Rattle.nv_watch.specs.declared.verdict.Verdict.TheVariants.{Yes, No}
@@ -37,3 +39,37 @@ IsVerdict breaks seen (No n) =
 abbrev pub verdict_with : Verdict → ℕ → Bool → Verdict
 verdict_with Yes n broken = if broken then No n else Yes
 verdict_with (No m) n broken = if broken then No (min m n) else No m
+
+-- ---- sights one after another
+
+-- the last that was seen
+abbrev pub latest : Option Sight → Sight → Option Sight
+latest last x = Some x
+
+abbrev pub last_sight : List Sight → Option Sight
+last_sight seen = fold latest None seen
+
+-- a world is that of the last that was seen
+pub record IsLastWorld (seen : List Sight) (k : WorldRecord) : Type 0 where
+  pub last : Sight
+  pub last_is : last_sight seen ≡ Some last
+  pub world_is : last.world ≡ k
+
+-- a world has one entry more than another, behind the same beginning, and neither is spent
+pub record HasOneMore (k later : WorldRecord) (entry : Entry) : Type 0 where
+  pub capacity : later.capacity ≡ k.capacity
+  pub limits : later.limits ≡ k.limits
+  pub history : plain_entries later.history ≡ plain_entries k.history ++ entry ∷ []
+  pub known : k.spent ≡ false
+  pub later_known : later.spent ≡ false
+  pub runs : IsSome (model_of later)
+
+-- a sight follows those that were seen: its world has one entry more than that of the last, which
+-- is its step's, and spliced nothing
+pub record FollowsQuietly (seen : List Sight) (x : Sight) : Type 0 where
+  pub last : Sight
+  pub last_is : last_sight seen ≡ Some last
+  pub entry : Entry
+  pub more : HasOneMore last.world x.world entry
+  pub number : x.step.at ≡ length (plain_entries last.world.history)
+  pub quiet : x.step.splices.items ≡ []

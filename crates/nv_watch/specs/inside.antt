@@ -1,4 +1,5 @@
 -- What private contracts alone cite.
+pub mod Became
 pub mod Checked
 pub mod Counts
 pub mod Folded
@@ -6,5 +7,4 @@ pub mod GridsFolded
 pub mod GridsTaken
 pub mod Mirroring
 pub mod Parts
-pub mod Shown
 pub mod Watched

@@ -2,7 +2,7 @@
 ghost use Rattle.std.specs.Prelude.{◌≡◌, ◌↔◌, ◌++◌, ◌∷◌, [], List, OnOk};
 ghost use Rattle.nv_watch.specs.Verdicts.{IsVerdict, Sight, sight};
 ghost use Rattle.nv_watch.specs.Watchers.{rule_of};
-ghost use Rattle.nv_watch.specs.inside.Watched.{HasWatched};
+ghost use Rattle.nv_watch.specs.inside.Watched.{HasWatched, IsAnyBehind};
 
 use crate::buffer_fold::BufferFold;
 use crate::counter::Counter;
@@ -27,12 +27,32 @@ impl Watcher for AnyWatcher {
 
     ghost Breaks = { rule_of };
 
+    ghost IsBehind = { IsAnyBehind };
+
     fn see(&mut self, world: &World, step: &Step) -> Result<(), AllocError> {
         match self {
             AnyWatcher::Buffers(fold) => fold.see(world, step),
             AnyWatcher::Grids(fold) => fold.see(world, step),
             AnyWatcher::Marks(check) => check.see(world, step),
             AnyWatcher::Replies(counter) => counter.see(world, step),
+        }
+    }
+
+    fn glance(&mut self, world: &World, step: &Step) -> Result<(), AllocError> {
+        match self {
+            AnyWatcher::Buffers(fold) => fold.glance(world, step),
+            AnyWatcher::Grids(fold) => fold.glance(world, step),
+            AnyWatcher::Marks(check) => check.glance(world, step),
+            AnyWatcher::Replies(counter) => counter.glance(world, step),
+        }
+    }
+
+    fn catch_up(&mut self, world: &World) -> Result<(), AllocError> {
+        match self {
+            AnyWatcher::Buffers(fold) => fold.catch_up(world),
+            AnyWatcher::Grids(fold) => fold.catch_up(world),
+            AnyWatcher::Marks(check) => check.catch_up(world),
+            AnyWatcher::Replies(counter) => counter.catch_up(world),
         }
     }
 

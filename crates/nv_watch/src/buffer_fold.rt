@@ -118,6 +118,8 @@ impl Watcher for BufferFold {
 
     ghost Breaks = { λ f. IsFoldedWrong };
 
+    ghost IsBehind = { HasFolded };
+
     fn see(&mut self, world: &World, step: &Step) -> Result<(), AllocError> {
         let parts = parts_of(self.alloc, step.sent.as_slice())?;
         let messages = parts.messages.as_slice();
@@ -125,6 +127,15 @@ impl Watcher for BufferFold {
         let other = any_other_in(editor_of(world), step, messages, self.followed.as_slice());
         let broken = is_broken(parts.is_whole, fit, other);
         self.verdict = self.verdict.with(step.at, broken);
+        Ok(())
+    }
+
+    fn glance(&mut self, world: &World, step: &Step) -> Result<(), AllocError> {
+        self.see(world, step)?;
+        Ok(())
+    }
+
+    fn catch_up(&mut self, _world: &World) -> Result<(), AllocError> {
         Ok(())
     }
 

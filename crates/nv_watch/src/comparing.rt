@@ -1,8 +1,9 @@
 //! Mirrors beside the buffers that they are of.
-ghost use Rattle.std.specs.Prelude.{◌≡◌, ◌<◌, ℕ, List, pos, nat_abs, length, map, slice_get, Some, bytes_eq};
+ghost use Rattle.std.specs.Prelude.{◌≡◌, pos, nat_abs, length, map, Some, bytes_eq};
 ghost use Rattle.std.specs.List.{list_any};
 ghost use Rattle.std.specs.Ordering.{int_eq};
 ghost use Rattle.nv_rpc.specs.MessageView.{sent_of};
+ghost use Rattle.nv_lines.specs.Chunks.{chunk_lines};
 ghost use Rattle.nv_model.specs.Standing.{seen_now, seen_buffer_now};
 ghost use Rattle.nv_subs.specs.Mirrors.{holding};
 ghost use Rattle.nv_watch.specs.Folds.{are_same_lines, holds_other, tells_lines};
@@ -10,21 +11,47 @@ ghost use Rattle.nv_watch.specs.Folds.{are_same_lines, holds_other, tells_lines}
 use crate::mirror::Followed;
 use nv_buffer::Buffer;
 use nv_editor::Editor;
-use nv_lines::{LineList, Lines};
+use nv_lines::{Chunk, Line, LineList, Lines};
 use nv_rpc::Message;
 use nv_subs::Follower;
 
-// Whether two texts have the same line in a row.
-fn is_same_row(text: &Lines, lines: &LineList, row: usize) -> bool
-    requires text { row < length text.now }
-    requires lines { row < length lines.now }
-    ensures { (x y : List ℕ) → slice_get text.now row ≡ Some x → slice_get lines.now row ≡ Some y
-        → result ≡ bytes_eq x y }
+// Whether two lines have the same bytes.
+fn is_same_line(line: &Line, other: &Line) -> bool
+    ensures { result ≡ bytes_eq line.now other.now }
 {
-    match (text.line(row), lines.get(row)) {
-        (Some(line), Some(other)) => line.as_slice() == other.as_slice(),
-        _ => false,
+    line.as_slice() == other.as_slice()
+}
+
+// Whether two lists of lines are the same.
+fn are_same_rows(lines: &[Line], others: &[Line]) -> bool
+    ensures { result ≡ are_same_lines lines.now others.now }
+{
+    if lines.len() != others.len() {
+        return false;
     }
+    for row in 0..lines.len() {
+        if !is_same_line(&lines[row], &others[row]) {
+            return false;
+        }
+    }
+    true
+}
+
+// Whether chunks, one after another, hold these lines.
+fn hold_lines(chunks: &[Chunk], lines: &[Line]) -> bool
+    requires { length (chunk_lines chunks.now) ≡ length lines.now }
+    ensures { result ≡ are_same_lines (chunk_lines chunks.now) lines.now }
+{
+    let mut left = lines;
+    for chunk in chunks {
+        let held = chunk.lines.as_slice();
+        let (here, others) = left.split_at(held.len());
+        if !are_same_rows(held, here) {
+            return false;
+        }
+        left = others;
+    }
+    true
 }
 
 // Whether two texts have the same lines.
@@ -34,12 +61,7 @@ fn are_same_lines(text: &Lines, lines: &LineList) -> bool
     if text.count() != lines.len() {
         return false;
     }
-    for row in 0..lines.len() {
-        if !is_same_row(text, lines, row) {
-            return false;
-        }
-    }
-    true
+    hold_lines(text.chunks(), lines.as_slice())
 }
 
 // Whether a number is the changedtick of a buffer.

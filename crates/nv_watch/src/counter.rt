@@ -98,6 +98,8 @@ impl Watcher for Counter {
 
     ghost Breaks = { λ c. HasReplyTooMany };
 
+    ghost IsBehind = { HasCounted };
+
     fn see(&mut self, world: &World, step: &Step) -> Result<(), AllocError> {
         let parts = parts_of(self.alloc, step.sent.as_slice())?;
         let replies = count_replies(parts.messages.as_slice()) as u64;
@@ -108,6 +110,15 @@ impl Watcher for Counter {
         let taken = number(self.replies.as_slice(), step.session);
         let broken = is_broken(parts.is_whole, made, taken);
         self.verdict = self.verdict.with(step.at, broken);
+        Ok(())
+    }
+
+    fn glance(&mut self, world: &World, step: &Step) -> Result<(), AllocError> {
+        self.see(world, step)?;
+        Ok(())
+    }
+
+    fn catch_up(&mut self, _world: &World) -> Result<(), AllocError> {
         Ok(())
     }
 

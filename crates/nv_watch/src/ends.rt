@@ -1,10 +1,12 @@
 //! The ends of all marks of an editor.
 ghost use Rattle.std.specs.Prelude.{◌≡◌, ◌++◌, flat_map, IfOk, OnOk};
+ghost use Rattle.nv_places.specs.Flat.{row_start};
+ghost use Rattle.nv_places.specs.Places.{offset_of};
 ghost use Rattle.nv_model.specs.Standing.{seen_now, seen_buffer_now};
 ghost use Rattle.nv_watch.specs.MarkEnds.{ends_of, ends_of_buffer, ends_of_mark, ends_under, stop_ends};
 
 use crate::mark_end::MarkEnd;
-use crate::placing::offset_in;
+use crate::placing::start_of;
 use nv_buffer::Buffer;
 use nv_editor::Editor;
 use nv_lines::Lines;
@@ -12,20 +14,58 @@ use nv_marks::Mark;
 use nv_places::Pos;
 use std::alloc::{AllocError, Global};
 
+// A row, and the offset at which it begins in the flat text of lines.
+#[derive(Clone, Copy)]
+struct RowStart {
+    row: u32,
+    offset: u64,
+}
+
+// The start of a row. Where it is the one that is near it isn't looked for.
+fn start_near(text: &Lines, near: RowStart, row: u32) -> RowStart
+    requires { near.offset ≡ row_start text.now near.row }
+    ensures row { result.row ≡ row }
+    ensures offset { result.offset ≡ row_start text.now row }
+{
+    if near.row == row {
+        return near;
+    }
+    let offset = start_of(text, row);
+    RowStart { row, offset }
+}
+
+// The offset of a place in the flat text of lines, whose row is near from then on. `AllocError`
+// where it passes 64 bits.
+fn offset_near(text: &Lines, near: &mut RowStart, place: Pos) -> Result<u64, AllocError>
+    requires { near.old.offset ≡ row_start text.now near.old.row }
+    ensures offset { IfOk result (λ offset. offset ≡ offset_of text.now place) }
+    ensures near { near.new.offset ≡ row_start text.now near.new.row }
+{
+    let start = start_near(text, *near, place.row);
+    *near = start;
+    start
+        .offset
+        .checked_add(u64::from(place.col))
+        .ok_or(AllocError)
+}
+
 // Puts the end of a mark behind other ends, where the mark has one.
 fn add_stop(
     ends: &mut Vec<MarkEnd>,
     buffer: i64,
     text: &Lines,
+    near: &mut RowStart,
     mark: &Mark,
 ) -> Result<(), AllocError>
-    ensures { OnOk result (ends.new.items
+    requires { near.old.offset ≡ row_start text.now near.old.row }
+    ensures ends { OnOk result (ends.new.items
         ≡ ends.old.items ++ stop_ends buffer text.now mark.now mark.now.stop) }
+    ensures near { near.new.offset ≡ row_start text.now near.new.row }
 {
     let Some(far) = mark.stop else {
         return Ok(());
     };
-    let offset = offset_in(text, far.pos)?;
+    let offset = offset_near(text, near, far.pos)?;
     ends.push(MarkEnd {
         buffer,
         ns: mark.ns,
@@ -42,12 +82,15 @@ fn add_mark(
     ends: &mut Vec<MarkEnd>,
     buffer: i64,
     text: &Lines,
+    near: &mut RowStart,
     mark: &Mark,
 ) -> Result<(), AllocError>
-    ensures { OnOk result
+    requires { near.old.offset ≡ row_start text.now near.old.row }
+    ensures ends { OnOk result
         (ends.new.items ≡ ends.old.items ++ ends_of_mark buffer text.now mark.now) }
+    ensures near { near.new.offset ≡ row_start text.now near.new.row }
 {
-    let offset = offset_in(text, mark.start)?;
+    let offset = offset_near(text, near, mark.start)?;
     ends.push(MarkEnd {
         buffer,
         ns: mark.ns,
@@ -56,7 +99,7 @@ fn add_mark(
         right: mark.right,
         offset,
     })?;
-    add_stop(ends, buffer, text, mark)
+    add_stop(ends, buffer, text, near, mark)
 }
 
 // Puts the ends of marks behind other ends.
@@ -69,8 +112,9 @@ fn add_marks(
     ensures { OnOk result (ends.new.items
         ≡ ends.old.items ++ flat_map (ends_of_mark buffer text.now) marks.now) }
 {
+    let mut near = RowStart { row: 0, offset: 0 };
     for mark in marks {
-        add_mark(ends, buffer, text, mark)?;
+        add_mark(ends, buffer, text, &mut near, mark)?;
     }
     Ok(())
 }
@@ -86,8 +130,9 @@ fn marks_of(alloc: Global, buffer: &Buffer) -> Result<Vec<Mark>, AllocError>
         row: u32::MAX,
         col: u32::MAX,
     };
-    let mut found = Vec::new(alloc);
-    marks.range(first, last, marks.len(), &mut found)?;
+    let count = marks.len();
+    let mut found = Vec::with_capacity(alloc, count)?;
+    marks.range(first, last, count, &mut found)?;
     Ok(found)
 }
 
@@ -102,6 +147,7 @@ fn add_buffer(
         ≡ ends.old.items ++ ends_of_buffer handle (seen_buffer_now buffer.now)) }
 {
     let marks = marks_of(alloc, buffer)?;
+    ends.reserve(marks.len())?;
     add_marks(ends, handle, buffer.text(), marks.as_slice())
 }
 
@@ -126,8 +172,8 @@ pub fn ends_of(alloc: Global, editor: &Editor) -> Result<Vec<MarkEnd>, AllocErro
     ensures { IfOk result (λ ends. ends.items ≡ ends_of (seen_now editor.now)) }
 {
     let mut ends = Vec::new(alloc);
-    for buffer in editor.buffers() {
-        add_under(alloc, &mut ends, editor, buffer.handle())?;
+    for handle in editor.handles() {
+        add_under(alloc, &mut ends, editor, *handle)?;
     }
     Ok(ends)
 }

@@ -135,9 +135,20 @@ impl Watcher for GridFold {
 
     ghost Breaks = { λ f. ShowsWrong };
 
+    ghost IsBehind = { HasFolded };
+
     fn see(&mut self, world: &World, step: &Step) -> Result<(), AllocError> {
         let right = fold_step(self.alloc, &mut self.clients, world, step)?;
         self.verdict = self.verdict.with(step.at, !right);
+        Ok(())
+    }
+
+    fn glance(&mut self, world: &World, step: &Step) -> Result<(), AllocError> {
+        self.see(world, step)?;
+        Ok(())
+    }
+
+    fn catch_up(&mut self, _world: &World) -> Result<(), AllocError> {
         Ok(())
     }
 

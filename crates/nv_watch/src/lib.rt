@@ -26,4 +26,4 @@ pub use counter::Counter;
 pub use grid_fold::GridFold;
 pub use mark_check::MarkCheck;
 pub use verdict::Verdict;
-pub use watcher::{Watcher, drive};
+pub use watcher::{Watcher, catch_up, drive, glance};

@@ -1,13 +1,13 @@
 //! The watcher that follows marks.
-ghost use Rattle.std.specs.Prelude.{◌≡◌, ◌&&◌, [], option_map, slice_get, bytes_eq, codes, IfOk, OnOk};
+ghost use Rattle.std.specs.Prelude.{◌≡◌, ◌&&◌, ◌||◌, not, if◌then◌else◌, [], option_map, slice_get, bytes_eq, codes, IfOk, OnOk};
 ghost use Rattle.nv_model.specs.Standing.{seen_now};
 ghost use Rattle.nv_rpc.specs.Frames.{call_of_frame};
 ghost use Rattle.nv_world.specs.Contents.{plain_entries};
 ghost use Rattle.nv_watch.specs.MarkEnds.{ends_of};
-ghost use Rattle.nv_watch.specs.MarkRule.{IsMarkMisplaced, any_elsewhere, ends_after, has_only_splices, is_atomic_entry, is_call_entry, method_called};
+ghost use Rattle.nv_watch.specs.MarkRule.{IsMarkMisplaced, any_elsewhere, ends_after, entry_seen, has_only_splices, is_atomic_entry, is_call_entry, method_called};
 ghost use Rattle.nv_watch.specs.SeenWorlds.{editor_seen};
 ghost use Rattle.nv_watch.specs.Verdicts.{sight};
-ghost use Rattle.nv_watch.specs.inside.Checked.{HasChecked};
+ghost use Rattle.nv_watch.specs.inside.Checked.{HasChecked, IsCheckBehind};
 
 use crate::editors::editor_of;
 use crate::ends::ends_of;
@@ -27,6 +27,8 @@ pub struct MarkCheck {
     alloc: Global,
     // The ends of all marks after the last call, where they are known.
     ends: Option<Vec<MarkEnd>>,
+    // Whether the ends are still to be looked at, in the world after the last step.
+    is_behind: bool,
     verdict: Verdict,
 }
 
@@ -110,6 +112,24 @@ fn is_misplaced(ends: &Option<Vec<MarkEnd>>, world: &World, step: &Step) -> Resu
     is_any_elsewhere(ends, editor_of(world), step.splices.as_slice())
 }
 
+// The same where the ends are known; where they are to be looked at, the step splices nothing.
+fn is_misplaced_now(
+    is_behind: bool,
+    ends: &Option<Vec<MarkEnd>>,
+    world: &World,
+    step: &Step,
+) -> Result<bool, AllocError>
+    ensures { IfOk result (λ answer. answer
+        ≡ (not is_behind && (has_only_splices (sight world.now step.now)
+        && any_elsewhere (option_map (λ v. v.items) ends.now) (editor_seen world.now)
+        step.now.splices.items))) }
+{
+    if is_behind {
+        return Ok(false);
+    }
+    is_misplaced(ends, world, step)
+}
+
 // The ends of all marks of an editor, where that is known.
 fn ends_in(alloc: Global, editor: Option<&Editor>) -> Result<Option<Vec<MarkEnd>>, AllocError>
     ensures { IfOk result (λ ends. option_map (λ v. v.items) ends
@@ -119,6 +139,13 @@ fn ends_in(alloc: Global, editor: Option<&Editor>) -> Result<Option<Vec<MarkEnd>
         Some(editor) => Ok(Some(ends_of(alloc, editor)?)),
         None => Ok(None),
     }
+}
+
+// Whether the ends are still to be looked at behind a step.
+fn is_behind_then(is_behind: bool, world: &World, step: &Step) -> bool
+    ensures { result ≡ (is_behind || is_call_entry (entry_seen (sight world.now step.now))) }
+{
+    is_behind || is_call(world.history().entries(), step.at)
 }
 
 // Looks at the marks anew where the entry of a step is a call.
@@ -138,6 +165,24 @@ fn renew(
     Ok(())
 }
 
+// Looks at the marks anew where they are still to be looked at.
+fn renew_if(
+    is_behind: bool,
+    alloc: Global,
+    ends: &mut Option<Vec<MarkEnd>>,
+    world: &World,
+) -> Result<(), AllocError>
+    ensures { OnOk result (option_map (λ v. v.items) ends.new
+        ≡ (if is_behind then option_map ends_of (editor_seen world.now)
+        else option_map (λ v. v.items) ends.old)) }
+{
+    if !is_behind {
+        return Ok(());
+    }
+    *ends = ends_in(alloc, editor_of(world))?;
+    Ok(())
+}
+
 impl MarkCheck {
     /// A check that has seen nothing.
     pub fn new(alloc: Global) -> MarkCheck
@@ -146,6 +191,7 @@ impl MarkCheck {
         MarkCheck {
             alloc,
             ends: None,
+            is_behind: false,
             verdict: Verdict::Yes,
         }
     }
@@ -156,10 +202,25 @@ impl Watcher for MarkCheck {
 
     ghost Breaks = { λ c. IsMarkMisplaced };
 
+    ghost IsBehind = { IsCheckBehind };
+
     fn see(&mut self, world: &World, step: &Step) -> Result<(), AllocError> {
         let broken = is_misplaced(&self.ends, world, step)?;
         renew(self.alloc, &mut self.ends, world, step)?;
         self.verdict = self.verdict.with(step.at, broken);
+        Ok(())
+    }
+
+    fn glance(&mut self, world: &World, step: &Step) -> Result<(), AllocError> {
+        let broken = is_misplaced_now(self.is_behind, &self.ends, world, step)?;
+        self.is_behind = is_behind_then(self.is_behind, world, step);
+        self.verdict = self.verdict.with(step.at, broken);
+        Ok(())
+    }
+
+    fn catch_up(&mut self, world: &World) -> Result<(), AllocError> {
+        renew_if(self.is_behind, self.alloc, &mut self.ends, world)?;
+        self.is_behind = false;
         Ok(())
     }
 

@@ -1,6 +1,7 @@
 //! Where ends of marks stand, and where splices move them.
 ghost use Rattle.std.specs.Prelude.{◌≡◌, ◌+◌, IfOk, IfSome, IfNone};
 ghost use Rattle.std.specs.List.{list_any};
+ghost use Rattle.nv_places.specs.Flat.{row_start};
 ghost use Rattle.nv_places.specs.Moves.{moved_offset};
 ghost use Rattle.nv_places.specs.Places.{offset_of};
 ghost use Rattle.nv_model.specs.Standing.{seen_now, seen_buffer_now};
@@ -15,12 +16,18 @@ use nv_places::Pos;
 use nv_world::BufferSplice;
 use std::alloc::AllocError;
 
-/// The offset of a place in the flat text of lines. `AllocError` where it passes 64 bits.
-pub fn offset_in(text: &Lines, place: Pos) -> Result<u64, AllocError>
+/// The offset at which a row begins in the flat text of lines; behind them that of their end.
+pub fn start_of(text: &Lines, row: u32) -> u64
+    ensures { result ≡ row_start text.now row }
+{
+    text.offset((row as usize).min(text.count()))
+}
+
+// The offset of a place in the flat text of lines. `AllocError` where it passes 64 bits.
+fn offset_in(text: &Lines, place: Pos) -> Result<u64, AllocError>
     ensures { IfOk result (λ offset. offset ≡ offset_of text.now place) }
 {
-    let row = (place.row as usize).min(text.count());
-    text.offset(row)
+    start_of(text, place.row)
         .checked_add(u64::from(place.col))
         .ok_or(AllocError)
 }

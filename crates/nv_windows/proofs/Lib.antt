@@ -5,7 +5,9 @@ pub mod PageOrder
 pub mod Counting
 pub mod Changed
 pub mod Held
+pub mod Seated
 pub mod PartsAt
+pub mod Seating
 pub mod Cases
 pub mod Soundness
 pub mod SoundClosing

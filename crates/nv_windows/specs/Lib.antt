@@ -6,3 +6,4 @@ pub mod Sound
 pub mod Pages
 pub mod Kept
 pub mod Laws
+pub mod inside

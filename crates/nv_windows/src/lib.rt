@@ -3,6 +3,7 @@
 
 mod laws;
 mod parts;
+mod seats;
 mod slots;
 mod tabs;
 mod window;

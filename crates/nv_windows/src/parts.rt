@@ -5,10 +5,12 @@ ghost use Rattle.nv_layout.specs.Content.{shape_of};
 ghost use Rattle.nv_layout.specs.Least.{IsMeasurable, leaves_of};
 ghost use Rattle.nv_places.specs.Places.{IsNarrow, further};
 ghost use Rattle.nv_windows.specs.Operations.{with_wishes};
+ghost use Rattle.nv_windows.specs.Rooms.{without_status};
 ghost use Rattle.nv_windows.specs.Views.{MovesNarrowlyIn, after_splice};
 ghost use Rattle.nv_windows.specs.Workspace.{page_of, plain_leaf};
 ghost use Rattle.std.specs.Prelude.{◌≡◌, ◌≢◌, ◌<◌, All, IfOk, OnErr, OnOk, length, not, option_map, true};
 
+use crate::seats::Seats;
 use crate::slots::{drop_window, move_views, put_cursor, put_top, show, show_instead, window_on};
 use crate::tabs::{
     all_fit, close_in, current_after, drop_tabpage, drop_windows_of, fits, home_handle, home_of,
@@ -39,9 +41,10 @@ pub(crate) struct Parts {
 impl Parts {
     ghost use Rattle.nv_windows.specs.Kept.{page_at, with_next_window, with_tree_at, without_window_at, workspace_of};
     ghost use Rattle.nv_windows.specs.Operations.{after_close, after_opening, after_sizing, after_tab_close, after_tab_new, at_tabpage, at_window, entered_where, has_one_tabpage, is_only_window, opening, tabpage_opening, with_buffer_in, with_buffer_instead, with_cursor, with_top, with_wish_of, without_tabpage};
-    ghost use Rattle.nv_windows.specs.Rooms.{all_fit, has_room_beside, has_tabpage_left, has_window_left, next_leaf, text_area};
+    ghost use Rattle.nv_windows.specs.Rooms.{all_fit, has_room_beside, has_tabpage_left, has_window_left, next_leaf, text_area, windows_area};
     ghost use Rattle.nv_windows.specs.Sound.{IsSoundWorkspace};
-    ghost use Rattle.nv_windows.specs.Workspace.{fresh_workspace};
+    ghost use Rattle.nv_windows.specs.inside.Seats.{IsSoundSeating};
+    ghost use Rattle.nv_windows.specs.Workspace.{fresh_workspace, tabpage_of};
 
     /// Window 1000 on a buffer in tabpage 1, on a screen of 80 by 24.
     pub(crate) fn new(alloc: Global, buffer: i64) -> Result<Parts, AllocError>
@@ -82,17 +85,30 @@ impl Parts {
         ensures { result ≡ text_area (workspace_of self.now) window }
     {
         let home = home_of(&self.tabpages, window)?;
-        let screen = Rect {
+        let screen = self.windows_area();
+        let rect = rect_of(&self.tabpages[home].tree, screen, window)?;
+        Some(without_status(rect))
+    }
+
+    /// The rows and columns that windows have.
+    pub(crate) fn windows_area(&self) -> Rect
+        ensures { result ≡ windows_area (workspace_of self.now) }
+    {
+        Rect {
             row: 0,
             col: 0,
             width: self.width,
             height: self.height.saturating_sub(1),
-        };
-        let rect = rect_of(&self.tabpages[home].tree, screen, window)?;
-        Some(Rect {
-            height: rect.height.saturating_sub(1),
-            ..rect
-        })
+        }
+    }
+
+    /// The handle of the tabpage that a window is in.
+    pub(crate) fn home(&self, window: i64) -> Option<i64>
+        ensures { result ≡ option_map (λ t. t.handle)
+            (tabpage_of (workspace_of self.now) window) }
+    {
+        let home = home_of(&self.tabpages, window)?;
+        Some(self.tabpages[home].handle)
     }
 
     /// The tree that the tabpage at a place gets where the next window is opened in it.
@@ -261,8 +277,13 @@ impl Parts {
     }
 
     /// Closes a window, and its tabpage where it is the only one of it.
-    pub(crate) fn close(&mut self, alloc: Global, window: i64) -> Result<bool, AllocError>
-        requires sound { IsSoundWorkspace (workspace_of self.old) }
+    pub(crate) fn close(
+        &mut self,
+        alloc: Global,
+        window: i64,
+        seats: &Seats,
+    ) -> Result<bool, AllocError>
+        requires { IsSoundSeating (workspace_of self.old) seats.now.all.items }
         ensures told { IfOk result (λ closed. closed
             ≡ not (is_only_window (workspace_of self.old) window)) }
         ensures after { OnOk result (workspace_of self.new
@@ -280,7 +301,7 @@ impl Parts {
             return Ok(false);
         }
         let tabpage = self.tabpages[home].handle;
-        self.close_tabpage(tabpage);
+        self.close_tabpage(tabpage, seats);
         Ok(true)
     }
 
@@ -299,24 +320,26 @@ impl Parts {
     }
 
     /// Closes a tabpage with all its windows.
-    fn close_tabpage(&mut self, tabpage: i64)
+    fn close_tabpage(&mut self, tabpage: i64, seats: &Seats)
+        requires { IsSoundSeating (workspace_of self.old) seats.now.all.items }
         ensures { workspace_of self.new ≡ without_tabpage tabpage (workspace_of self.old) }
     {
-        drop_windows_of(&mut self.windows, &self.tabpages, tabpage);
+        drop_windows_of(&mut self.windows, &self.tabpages, tabpage, seats);
         let place = place_among(&self.tabpages, tabpage);
         drop_tabpage(&mut self.tabpages, tabpage);
         self.tabpage = current_after(&self.tabpages, place, self.tabpage, tabpage);
     }
 
     /// Closes the current tabpage, where it isn't the only one.
-    pub(crate) fn tab_close(&mut self) -> bool
+    pub(crate) fn tab_close(&mut self, seats: &Seats) -> bool
+        requires { IsSoundSeating (workspace_of self.old) seats.now.all.items }
         ensures told { result ≡ not (has_one_tabpage (workspace_of self.old)) }
         ensures after { workspace_of self.new ≡ after_tab_close (workspace_of self.old) }
     {
         if self.tabpages.len() == 1 {
             return false;
         }
-        self.close_tabpage(self.tabpage);
+        self.close_tabpage(self.tabpage, seats);
         true
     }
 
@@ -358,6 +381,16 @@ impl Parts {
         self.width = width;
         self.height = height;
         true
+    }
+}
+
+/// The text cells of a window by its rectangle.
+pub(crate) fn without_status(rect: Rect) -> Rect
+    ensures { result ≡ without_status rect }
+{
+    Rect {
+        height: rect.height.saturating_sub(1),
+        ..rect
     }
 }
 

@@ -4,16 +4,18 @@ ghost use Rattle.nv_layout.specs.Content.{shape_of};
 ghost use Rattle.nv_layout.specs.Changes.{close, holds, with_wish};
 ghost use Rattle.nv_layout.specs.Least.{IsMeasurable, leaves_of};
 ghost use Rattle.nv_layout.specs.Tiling.{windows};
-ghost use Rattle.nv_windows.specs.Operations.{handle_at, is_in, neighbour, other_tabpages, place_among, page_with, page_without, put_behind, tabpages_with};
+ghost use Rattle.nv_windows.specs.Operations.{handle_at, is_in, neighbour, place_among, page_with, page_without, put_behind, tabpages_with};
 ghost use Rattle.nv_windows.specs.Pages.{pages_of};
-ghost use Rattle.nv_windows.specs.Rooms.{fits_screen, windows_in};
-ghost use Rattle.nv_windows.specs.Workspace.{page_of};
+ghost use Rattle.nv_windows.specs.Rooms.{fits_screen};
+ghost use Rattle.nv_windows.specs.Workspace.{Workspace, page_of};
+ghost use Rattle.nv_windows.specs.inside.Seats.{IsSoundSeating};
 ghost use Rattle.nv_windows.specs.declared.window.Tabpage.{Tabpage};
 ghost use Rattle.std.specs.List.{list_all, list_any};
 ghost use Rattle.std.specs.Option.{option_map_or};
 ghost use Rattle.std.specs.Ordering.{int_eq};
-ghost use Rattle.std.specs.Prelude.{◌≡◌, ◌&&◌, ◌<◌, ◌≤◌, ◌++◌, ◌^◌, All, IfOk, IfSome, MatchOption, None, OnErr, OnOk, Some, find, flat_map, if◌then◌else◌, insert, length, map, not, position, filter, true};
+ghost use Rattle.std.specs.Prelude.{◌≡◌, ◌&&◌, ◌<◌, ◌≤◌, All, IfOk, IfSome, MatchOption, None, OnErr, OnOk, Some, find, flat_map, if◌then◌else◌, insert, length, not, position, filter, true};
 
+use crate::seats::Seats;
 use crate::window::{Tabpage, Window};
 use nv_layout::{Axis, Tree, least, push_windows};
 use std::alloc::{AllocError, Global};
@@ -205,14 +207,30 @@ pub(crate) fn drop_tabpage(tabpages: &mut Vec<Tabpage>, handle: i64)
     tabpages.retain(|tabpage| tabpage.handle != handle);
 }
 
-/// Takes the windows of the tabpage of a handle out.
-pub(crate) fn drop_windows_of(windows: &mut Vec<Window>, tabpages: &[Tabpage], handle: i64)
-    ensures { windows.new.items
-        ≡ filter (λ w. not (list_any
-        (λ t. int_eq t.handle handle && holds w.handle (shape_of t.tree)) tabpages.now))
-        windows.old.items }
+/// Whether a window is in the tabpage of a handle, by its seat if that is known.
+fn is_seated_in(seats: &Seats, tabpages: &[Tabpage], handle: i64, window: i64) -> bool
+    ensures { (ws : Workspace) → IsSoundSeating ws seats.now.all.items
+        → ws.tabpages ≡ pages_of tabpages.now → result ≡ is_in ws.tabpages handle window }
 {
-    windows.retain(|window| !is_in(tabpages, handle, window.handle));
+    match seats.spot(window) {
+        Some(spot) => spot.tabpage == handle,
+        None => is_in(tabpages, handle, window),
+    }
+}
+
+/// Takes the windows of the tabpage of a handle out.
+pub(crate) fn drop_windows_of(
+    windows: &mut Vec<Window>,
+    tabpages: &[Tabpage],
+    handle: i64,
+    seats: &Seats,
+)
+    ensures { (ws : Workspace) → IsSoundSeating ws seats.now.all.items
+        → ws.tabpages ≡ pages_of tabpages.now
+        → windows.new.items
+        ≡ filter (λ w. not (is_in ws.tabpages handle w.handle)) windows.old.items }
+{
+    windows.retain(|window| !is_seated_in(seats, tabpages, handle, window.handle));
 }
 
 /// The window that is current once one of a tabpage is closed.

@@ -5,10 +5,11 @@ ghost use Rattle.nv_places.specs.Places.{IsNarrow, further};
 ghost use Rattle.nv_windows.specs.Operations.{after_close, after_opening, after_sizing, after_tab_close, after_tab_new, at_tabpage, at_window, has_one_tabpage, is_only_window, opening, tabpage_opening, with_buffer_in, with_buffer_instead, with_cursor, with_top, with_wish_of};
 ghost use Rattle.nv_windows.specs.Rooms.{all_fit, all_windows, has_room_beside, has_tabpage_left, has_window_left, text_area};
 ghost use Rattle.nv_windows.specs.Views.{MovesNarrowlyIn, after_splice};
-ghost use Rattle.nv_windows.specs.Workspace.{current_window, fresh_workspace, handles_of_windows, is_live_window, is_live_tabpage, page_of, showing, tabpage_at, window_at};
-ghost use Rattle.std.specs.Prelude.{◌≡◌, ◌≢◌, ◌<◌, ◌≤◌, ◌^◌, All, IfOk, MatchOption, None, OnErr, OnOk, Some, map, not, option_copied, true};
+ghost use Rattle.nv_windows.specs.Workspace.{current_window, fresh_workspace, handles_of_windows, is_live_window, is_live_tabpage, page_of, showing, tabpage_at, tabpage_of, window_at};
+ghost use Rattle.std.specs.Prelude.{◌≡◌, ◌≢◌, ◌<◌, ◌^◌, All, IfOk, MatchOption, None, OnErr, OnOk, Some, map, not, option_copied, option_map, true};
 
-use crate::parts::Parts;
+use crate::parts::{Parts, without_status};
+use crate::seats::Seats;
 use crate::slots::{showing, window_at};
 use crate::tabs::{all_windows, tabpage_at};
 use crate::window::{Opened, Tabpage, Window};
@@ -24,6 +25,7 @@ use std::marker::Model;
 #[derive(Drop)]
 pub struct Windows {
     parts: Parts,
+    seats: Seats,
 }
 
 impl Model for Windows {
@@ -40,9 +42,9 @@ impl Model for Windows {
 
     ghost view = { λ w. workspace_of w.parts };
 
-    ghost use Rattle.nv_windows.specs.Sound.{IsSoundWorkspace};
+    ghost use Rattle.nv_windows.specs.inside.Seats.{IsSoundSeating};
 
-    ghost invariant = { λ w. IsSoundWorkspace (workspace_of w.parts) };
+    ghost invariant = { λ w. IsSoundSeating (workspace_of w.parts) w.seats.all.items };
 }
 
 impl Windows {
@@ -52,9 +54,10 @@ impl Windows {
     pub fn new(alloc: Global, buffer: i64) -> Result<Windows, AllocError>
         ensures { IfOk result (λ windows. windows ≡ fresh_workspace buffer) }
     {
-        Ok(Windows {
-            parts: Parts::new(alloc, buffer)?,
-        })
+        let parts = Parts::new(alloc, buffer)?;
+        let mut seats = Seats::new(alloc);
+        seats.renew(&parts);
+        Ok(Windows { parts, seats })
     }
 
     /// The window of a handle; `None` exactly where it isn't live.
@@ -77,7 +80,21 @@ impl Windows {
     pub fn area(&self, window: i64) -> Option<Rect>
         ensures { result ≡ text_area self.now window }
     {
-        self.parts.area(window)
+        match self.seats.spot(window) {
+            Some(spot) => Some(without_status(spot.rect)),
+            None => self.parts.area(window),
+        }
+    }
+
+    /// The handle of the tabpage that a window is in; `None` exactly where it isn't live. No memory
+    /// is taken.
+    pub fn home(&self, window: i64) -> Option<i64>
+        ensures { result ≡ option_map (λ t. t.handle) (tabpage_of self.now window) }
+    {
+        match self.seats.spot(window) {
+            Some(spot) => Some(spot.tabpage),
+            None => self.parts.home(window),
+        }
     }
 
     /// The handles of all windows by tabpage, then in tree order (help: nvim_list_wins()).
@@ -182,8 +199,11 @@ impl Windows {
             (self.new ≡ after_opening beside side buffer width height enter self.old) }
         ensures err { OnErr result (self.new ≡ self.old) }
     {
-        self.parts
-            .open(alloc, beside, side, buffer, width, height, enter)
+        let told = self
+            .parts
+            .open(alloc, beside, side, buffer, width, height, enter);
+        self.seats.renew(&self.parts);
+        told
     }
 
     /// Closes a live window, and its tabpage where it is the only one of it (help:
@@ -197,16 +217,20 @@ impl Windows {
         ensures after { OnOk result (self.new ≡ after_close window self.old) }
         ensures err { OnErr result (self.new ≡ self.old) }
     {
-        self.parts.close(alloc, window)
+        let closed = self.parts.close(alloc, window, &self.seats);
+        self.seats.renew(&self.parts);
+        closed
     }
 
     /// Closes the current tabpage with its windows (help: :tabclose). `false` comes exactly where
-    /// it is the only one, and then nothing changes. No memory is taken.
+    /// it is the only one, and then nothing changes. No memory is needed.
     pub fn tab_close(&mut self) -> bool
         ensures told { result ≡ not (has_one_tabpage self.old) }
         ensures after { self.new ≡ after_tab_close self.old }
     {
-        self.parts.tab_close()
+        let closed = self.parts.tab_close(&self.seats);
+        self.seats.renew(&self.parts);
+        closed
     }
 
     /// Makes the next tabpage behind the current one, with the next window on a buffer; both become
@@ -217,29 +241,34 @@ impl Windows {
         ensures after { OnOk result (self.new ≡ after_tab_new buffer self.old) }
         ensures err { OnErr result (self.new ≡ self.old) }
     {
-        self.parts.tab_new(alloc, buffer)
+        let tabpage = self.parts.tab_new(alloc, buffer);
+        self.seats.renew(&self.parts);
+        tabpage
     }
 
     /// Gives the screen another size in cells, whose last row no window has. `false` comes exactly
     /// where some tabpage's tree would not have its least size on it, and then nothing changes. No
-    /// memory is taken.
+    /// memory is needed.
     pub fn put_size(&mut self, width: u32, height: u32) -> bool
         requires width { width < 2 ^ 16 }
         requires height { height < 2 ^ 16 }
         ensures told { result ≡ all_fit width height self.old }
         ensures after { self.new ≡ after_sizing width height self.old }
     {
-        self.parts.put_size(width, height)
+        let fits = self.parts.put_size(width, height);
+        self.seats.renew(&self.parts);
+        fits
     }
 
     /// Puts the width that a live window wishes, in cells, in place of the one that it had; 0 is
-    /// none. No memory is taken (help: nvim_win_set_width()).
+    /// none. No memory is needed (help: nvim_win_set_width()).
     pub fn put_width(&mut self, window: i64, n: u32)
         requires live { is_live_window self.old window ≡ true }
         requires width { n < 2 ^ 16 }
         ensures { self.new ≡ with_wish_of window Across n self.old }
     {
         self.parts.put_wish(window, Axis::Across, n);
+        self.seats.renew(&self.parts);
     }
 
     /// The same for its height, which counts the status line (help: nvim_win_set_height()).
@@ -249,6 +278,7 @@ impl Windows {
         ensures { self.new ≡ with_wish_of window Down n self.old }
     {
         self.parts.put_wish(window, Axis::Down, n);
+        self.seats.renew(&self.parts);
     }
 
     /// Puts a live window's cursor. No memory is taken (help: nvim_win_set_cursor()).

@@ -8,6 +8,8 @@ use Rattle.nv_layout.proofs.nodes.Leaf.TheSendSync as leaf
 use Rattle.nv_layout.proofs.nodes.Tree.TheLaws.TheKnot as tree
 use Rattle.nv_places.proofs.place.Pos.TheSendSync as pos
 use Rattle.nv_windows.proofs.window.Window.TheSendSync as window
+use Rattle.nv_windows.proofs.seats.Seat.TheSendSync as placed_seat
+use Rattle.nv_windows.specs.contracts.seats.Seats as seats
 use Rattle.nv_windows.specs.contracts.windows.Windows as windows
 use Rattle.nv_windows.specs.contracts.window.Tabpage as tabpage
 use Rattle.nv_windows.specs.contracts.parts.Parts as parts
@@ -51,11 +53,14 @@ tabpage_send = search sends depth 20
 parts_field : IsSend parts.the_field.row
 parts_field = search (sends, tabpage_send) depth 20
 
+seats_field : IsSend seats.the_field.row
+seats_field = search (sends, placed_seat.the_send) depth 20
+
 windows_send : IsSend windows.the_row
-windows_send = search (sends, parts_field) depth 20
+windows_send = search (sends, parts_field, seats_field) depth 20
 
 windows_field : IsSend windows.the_field.row
-windows_field = search (sends, parts_field) depth 20
+windows_field = search (sends, parts_field, seats_field) depth 20
 
 ruleset stage_parts = (sends, windows_send, windows_field, namespaces.the_send, groups.the_send, ui.the_send, ui.the_field_send, limits.the_send, limits.the_field_send)
 

@@ -1,6 +1,8 @@
 pub mod Places
 pub mod Members
 pub mod Strings
+pub mod Sizing
+pub mod Putting
 pub mod Closing
 pub mod Draining
 pub mod Called

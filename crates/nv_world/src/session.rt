@@ -4,10 +4,12 @@ ghost use Rattle.nv_world.specs.declared.effect.Cause.{Cause};
 ghost use Rattle.nv_rpc.specs.Messages.{IsSendable};
 ghost use Rattle.nv_history.specs.Sessions.{Session as ModelSession, fresh_session, session_closed_by, session_emptied, session_quit};
 ghost use Rattle.nv_world.specs.Contents.{plain_cause, sent_of_shared};
+ghost use Rattle.nv_world.specs.Sizes.{bytes_unless_closed};
 ghost use Rattle.nv_world.specs.inside.Sessions.{IsOutbox, IsSession, messages_waiting};
 ghost use Rattle.nv_world.specs.inside.Tellings.{session_put};
 
 use crate::effect::Cause;
+use crate::measuring::size_of_message;
 use crate::shared::SharedMessage;
 use circular_buffer::HeapCircularBuffer;
 use std::alloc::{AllocError, Global};
@@ -19,6 +21,8 @@ pub struct Session {
     pub closed: Option<Cause>,
     /// The stamp of the world when its UI was last given the editor to show, 0 before.
     pub shown: u64,
+    /// How many bytes what waits for it takes.
+    pub bytes: u64,
 }
 
 /// A session that begins.
@@ -30,6 +34,7 @@ pub fn new_session(alloc: Global, capacity: u32) -> Result<Session, AllocError>
         outbox: Some(outbox),
         closed: None,
         shown: 0,
+        bytes: 0,
     })
 }
 
@@ -43,6 +48,17 @@ pub fn waiting(session: &Session) -> usize
     match &session.outbox {
         Some(outbox) => outbox.len(),
         None => 0,
+    }
+}
+
+/// How many bytes what waits for a session takes; 0 where it is closed.
+pub fn bytes_due(session: &Session) -> u64
+    ensures { (capacity : ℕ) (y : ModelSession) → IsSession capacity session.now y
+        → result ≡ bytes_unless_closed y.closed y.waiting }
+{
+    match session.closed {
+        None => session.bytes,
+        Some(_) => 0,
     }
 }
 
@@ -72,9 +88,12 @@ pub fn put(session: &mut Session, at: u64, message: SharedMessage)
     let Some(outbox) = &mut session.outbox else {
         return;
     };
+    let size = size_of_message(&message);
     if !was_put(outbox, message) {
         session.closed = Some(Cause::Overflowed(at));
+        return;
     }
+    session.bytes = session.bytes.saturating_add(size);
 }
 
 /// Closes a session that isn't closed. Its outbox is given up where nothing waits.
@@ -152,5 +171,6 @@ pub fn taken(
         session.outbox = None;
     }
     session.shown = shown;
+    session.bytes = 0;
     Ok(messages)
 }

@@ -10,6 +10,7 @@ ghost use Rattle.nv_history.specs.Spoken.{bytes_of_messages};
 ghost use Rattle.nv_world.specs.Contents.{sent_of_lines, sent_of_shared};
 ghost use Rattle.nv_world.specs.inside.Notices.{sent_of_notice};
 
+use crate::measuring::SizedLines;
 use nv_buffer::{LineList, Spliced};
 use nv_rpc::{Message, put_message};
 use nv_value::{Items, Value};
@@ -28,7 +29,7 @@ pub struct LinesEvent {
     /// buffer, sent for the first time.
     pub last: i64,
     /// The lines that stand there now.
-    pub lines: LineList,
+    pub lines: SizedLines,
 }
 
 /// A message that is due to a session. A lines event is one for all sessions that are told of it:
@@ -90,7 +91,7 @@ pub fn put_messages(
 fn lines_message(alloc: Global, event: &LinesEvent) -> Result<Message, AllocError>
     ensures { IfOk result (λ message. sent_of message ≡ sent_of_lines event.now) }
 {
-    let lines = values_of(alloc, &event.lines)?;
+    let lines = values_of(alloc, event.lines.lines())?;
     Ok(Message::Lines {
         buffer: event.buffer,
         tick: event.tick,
@@ -132,7 +133,7 @@ fn shared_lines(alloc: Global, event: LinesEvent) -> Result<Arc<LinesEvent, Glob
     ensures lines { IfOk result (λ shared. sent_of_lines (arc_value shared) ≡ sent_of_lines event) }
     ensures sendable { IfOk result (λ shared. IsSendable (sent_of_lines (arc_value shared))) }
 {
-    if !can_be_counted(&event.lines) {
+    if !can_be_counted(event.lines.lines()) {
         return Err(AllocError);
     }
     Ok(Arc::new(alloc, event)?)
@@ -150,7 +151,7 @@ pub fn splice_notice(alloc: Global, buffer: i64, spliced: Spliced) -> Result<Not
         tick,
         first: i64::from(edit.first),
         last: i64::from(edit.last),
-        lines: edit.lines,
+        lines: SizedLines::new(edit.lines),
     };
     Ok(Notice::Lines(shared_lines(alloc, event)?))
 }
@@ -186,7 +187,7 @@ pub fn first_shared(
                 tick,
                 first: 0,
                 last: -1,
-                lines,
+                lines: SizedLines::new(lines),
             };
             Ok(SharedMessage::Lines(shared_lines(alloc, event)?))
         }

@@ -4,6 +4,7 @@ ghost use Rattle.nv_model.specs.Editors.{ModelEditor};
 ghost use Rattle.nv_model.specs.Standing.{Stands};
 ghost use Rattle.nv_history.specs.Worlds.{World as ModelWorld, session_of};
 ghost use Rattle.nv_world.specs.Contents.{plain_cause, plain_effect, plain_event, plain_stop};
+ghost use Rattle.nv_world.specs.Sizes.{bytes_due};
 ghost use Rattle.nv_world.specs.Steps.{AreLastSplices};
 ghost use Rattle.nv_world.specs.Worlds.{AppliesErr, AppliesOk, GivesFewCells, GivesSendable, IsLightEvent, cause_of, is_any_due, model_of, outcome_of_event};
 ghost use Rattle.nv_world.specs.inside.Entering.{is_entry};
@@ -11,6 +12,7 @@ ghost use Rattle.nv_world.specs.inside.Entering.{is_entry};
 use crate::effect::{Cause, Effect, Stop};
 use crate::entry::{Entry, Event};
 use crate::history::History;
+use crate::session::bytes_due;
 use crate::showing::{is_any_due, is_scene_due};
 use crate::state::{Numbers, State, happen};
 use crate::step::BufferSplice;
@@ -211,6 +213,22 @@ impl World {
                 is_any_due(found, is_due)
             }
             None => false,
+        }
+    }
+
+    /// How many bytes what waits for a session takes, 0 where nothing does: 32 for each message,
+    /// value and line, and those of their strings. Nothing counts where the session is closed or
+    /// isn't there. Of a spent world nothing is promised.
+    pub fn bytes_due(&self, session: u64) -> u64
+        ensures { (w : ModelWorld) → self.now.spent ≡ false → model_of self.now ≡ Some w
+            → result ≡ bytes_due (session_of w session) }
+    {
+        match place_of(session, self.state.sessions.len()) {
+            Some(place) => {
+                let found = &self.state.sessions[place];
+                bytes_due(found)
+            }
+            None => 0,
         }
     }
 }

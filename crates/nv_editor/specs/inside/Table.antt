@@ -1,15 +1,11 @@
 -- inside: how the buffers of an editor are kept. Only private contracts cite this.
-use Rattle.std.specs.Prelude.{◌≡◌, ◌≢◌, ℕ, zero, suc, ℤ, Bool, true, false, List, [], ◌∷◌, map, Option, Some}
+use Rattle.std.specs.Prelude.{◌≡◌, ◌≢◌, ℤ, Bool, false, List, [], Some}
 use Rattle.std.specs.List.{list_any}
 use Rattle.std.specs.Ordering.{int_eq}
 use Rattle.nv_buffer.specs.Content.{Content}
 use Rattle.nv_model.specs.Editors.{at_handle, handles_of}
 use Rattle.nv_editor.specs.Sound.{content_of}
 use Rattle.nv_editor.specs.inside.Kept.{AreKeptEdits}
-
--- buffers under their handles
-abbrev pub entries_of : List Content → List (ℤ × Content)
-entries_of buffers = map (λ b. (b.handle, b)) buffers
 
 -- the buffer under one handle is another one, and nothing else is
 pub record IsEntryUpdated (before later : List (ℤ × Content)) (n : ℤ) (b c : Content) : Type 0 where
@@ -40,9 +36,3 @@ pub record IsKeptBuffer (edited : List ℤ) (n : ℤ) (b : Content) : Type 0 whe
 abbrev pub AreKeptBuffers : List ℤ → List (ℤ × Content) → Type 0
 AreKeptBuffers edited entries =
     (n : ℤ) (b : Content) → at_handle entries n ≡ Some b → IsKeptBuffer edited n b
-
--- the place of the buffer of a handle, the first one
-abbrev pub IsPlaceOf : List Content → ℤ → ℕ → Type 0
-IsPlaceOf [] n place = ⊥
-IsPlaceOf (b ∷ bs) n zero = int_eq b.handle n ≡ true
-IsPlaceOf (b ∷ bs) n (suc place) = (int_eq b.handle n ≡ false) × IsPlaceOf bs n place

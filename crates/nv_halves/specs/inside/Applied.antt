@@ -12,7 +12,9 @@ use Rattle.nv_world.specs.declared.effect.Stop.{Stop as WorldStop}
 use Rattle.nv_world.specs.declared.effect.Stop.TheVariants as stop
 use Rattle.nv_halves.specs.Passes.{start_of}
 use Rattle.nv_halves.specs.Applying.{ResultsIn}
+use Rattle.nv_halves.specs.inside.Insisting.{ComesToTried}
 use Rattle.nv_halves.specs.declared.ends.Refused.{Refused}
+use Rattle.nv_halves.specs.declared.insisting.Tried.{Tried}
 
 -- a world has gained the entry of an event, or none, and this is what it came to
 pub record AppliesIn (old new : WorldRecord) (number : ℕ) (event : WorldEvent)
@@ -21,6 +23,15 @@ pub record AppliesIn (old new : WorldRecord) (number : ℕ) (event : WorldEvent)
   pub limits : new.limits ≡ old.limits
   pub adds : AddsOneAtMost (λ (e : WorldEntry). e.caller) number old.history new.history
   pub comes : ResultsIn (Some (start_of old)) number event (plain_entries old.history) met
+      (plain_entries new.history)
+
+-- a world has gained the entry of an event that was tried once, or none
+pub record TriesIn (old new : WorldRecord) (number : ℕ) (event : WorldEvent) (met : Tried)
+    : Type 0 where
+  pub capacity : new.capacity ≡ old.capacity
+  pub limits : new.limits ≡ old.limits
+  pub adds : AddsOneAtMost (λ (e : WorldEntry). e.caller) number old.history new.history
+  pub comes : ComesToTried (Some (start_of old)) number event (plain_entries old.history) met
       (plain_entries new.history)
 
 -- an event is refused so in a world

@@ -6,7 +6,7 @@ use Rattle.nv_rpc.specs.Calls.{Call}
 use Rattle.nv_history.specs.Events.{Event, close_of, Entry, closed_at}
 use Rattle.nv_history.specs.Worlds.{World, step}
 use Rattle.nv_history.specs.Asking.{own}
-use Rattle.nv_world.specs.Contents.{plain_cause}
+use Rattle.nv_world.specs.Contents.{plain_cause, plain_event}
 use Rattle.nv_world.specs.Worlds.{GivesSendable}
 use Rattle.nv_world.specs.declared.entry.Event.{Event as WorldEvent}
 use Rattle.nv_world.specs.declared.effect.Effect.{Effect as WorldEffect}
@@ -56,6 +56,16 @@ AnswersWith start number event found answer.NoMemory after = after ≡ found
 abbrev pub AnswersOnce : WorldPass → WorldPass → Event → Answer → Type 0
 AnswersOnce p q event met =
     AppliesOnce p q (λ found. AnswersWith p.start p.number event found met q.seen)
+
+-- what came of an event that was tried once, in the history that was found
+abbrev pub ComesToTried : Option Start → ℕ → WorldEvent → List Entry → Tried → List Entry → Type 0
+ComesToTried start number event found (tried.Answered met) after =
+    AnswersWith start number (plain_event event) found met after
+ComesToTried start number event found (tried.Again back) after = (after ≡ found) × (back ≡ event)
+
+abbrev pub TriesOnce : WorldPass → WorldPass → WorldEvent → Tried → Type 0
+TriesOnce p q event met =
+    AppliesOnce p q (λ found. ComesToTried p.start p.number event found met q.seen)
 
 -- what an answer means to who asked
 abbrev pub what_was_asked : Answer → Asked

@@ -128,6 +128,13 @@ IsCutOff w.WriteFault = Unit {0}
 IsCutOff w.NoMemory = Unit {0}
 IsCutOff (w.Over cause) = ⊥
 
+-- a pass took for a session what nobody is sent, and may have closed it: of all that a writer took
+-- by then a front went out still
+pub record Drops (p q : WorldPass) (s : ℕ) : Type 0 where
+  pub same : IsSamePass p q
+  pub part : (first : WorldPass) (before now : Option (List ℕ)) → WritesPart first p s before now
+      → WritesPart first q s before now
+
 -- what one take of a writer did, whatever it did before
 abbrev pub WritesOnce : Written → WorldPass → WorldPass → ℕ → Told → Told → Option (List ℕ)
     → Option (List ℕ) → Type 0

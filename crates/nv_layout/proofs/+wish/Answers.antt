@@ -1,10 +1,9 @@
-use Rattle.std.proofs.Common.{rules, ◌≡◌, ℕ, ◌+◌, ◌-◌, ◌≤◌, ◌∙◌, ap, sym, refl, map, take, drop, length, get_or, set, arith, w64}
+use Rattle.std.proofs.Common.{rules, ◌∙◌, ap, sym, w64}
 use Rattle.std.proofs.lemmas.Int.{to_z-of_z}
 use Rattle.std.proofs.lemmas.List.{length-set}
 use mir.Val.{to_z, of_z}
 use Rattle.nv_layout.specs.Content.{shape_of, shapes_of}
 use Rattle.nv_layout.specs.Changes.{with_wish, with_wish_among}
-use Rattle.nv_layout.specs.declared.nodes.Tree.{Tree}
 use Rattle.nv_layout.proofs.Wishes.{wishes_more, wishes_all}
 use Rattle.nv_layout.proofs.+wish.Goals as goal
 

@@ -2,7 +2,9 @@
 use Rattle.std.specs.Prelude.{◌≡◌, ℕ, ◌+◌, List, [], ◌∷◌, ◌++◌, length, bytes_eq, Option, Some, None, Result, Ok, Err, if◌then◌else◌}
 use Rattle.nv_book.specs.Books.{Recorded, entries_of_records}
 use Rattle.nv_book.specs.Reading.{Replaying, IsReplaying, IsReplayed, IsStepOf, IsWhyUnread}
+use Rattle.nv_book.specs.Upcoming.{IsUpcoming}
 use Rattle.nv_book.specs.declared.faults.Unread.{Unread}
+use Rattle.nv_book.specs.declared.replay.Upcoming.{Upcoming}
 use Rattle.nv_world.specs.declared.step.Step.{Step}
 use Rattle.nv_watch.specs.Verdicts.{Sight, sight}
 use Rattle.nv_replay.specs.Comparing.{first_difference}
@@ -35,6 +37,13 @@ pub record IsGoingOver (bytes : List ℕ) (records played : List Recorded) (seen
   pub tally_is : IsTallyOf records played t
   pub sights : AreSights r.start [] played seen
 
+-- the same, and the next entry was read
+pub record IsComing (bytes : List ℕ) (records played : List Recorded) (seen : List Sight)
+    (u : Upcoming) (t : Tally) (r : Replaying) : Type 0 where
+  pub upcoming : IsUpcoming bytes records played u r
+  pub tally_is : IsTallyOf records played t
+  pub sights : AreSights r.start [] played seen
+
 -- one entry more
 pub record GoesOnOver (bytes : List ℕ) (records played : List Recorded) (seen : List Sight)
     (given_step : Step) (t : Tally) (r : Replaying) : Type 0 where
@@ -54,10 +63,9 @@ pub record IsGoneOver (bytes : List ℕ) (left : Option (List ℕ)) (seen : List
 
 -- what comes of the next entry
 abbrev pub GoesOver : List ℕ → Option (List ℕ) → List Recorded → List Recorded → List Sight
-    → Result (Option Step) Unread → Tally → Replaying → Type 0
-GoesOver bytes left records played seen (Ok (Some given_step)) t r =
+    → Result Step Unread → Tally → Replaying → Type 0
+GoesOver bytes left records played seen (Ok given_step) t r =
     GoesOnOver bytes records played seen given_step t r
-GoesOver bytes left records played seen (Ok None) t r = IsGoneOver bytes left seen t r
 GoesOver bytes left records played seen (Err fault) t r =
     IsWhyUnread r.start.limits bytes left fault
 

@@ -1,5 +1,5 @@
 -- inside: the marks that may show on some rows. Only private contracts cite this.
-use Rattle.std.specs.Prelude.{ℕ, Bool, false, nat_le, if◌then◌else◌, List, [], ◌∷◌, filter, Option, Some, IsPermutation, IsSorted}
+use Rattle.std.specs.Prelude.{ℕ, ◌<◌, ◌≤◌, ◌&&◌, Bool, false, nat_le, nat_lt, if◌then◌else◌, List, [], ◌∷◌, filter, Option, Some, IsPermutation, IsSorted}
 use Rattle.nv_marks.specs.Order.{starts_within}
 use Rattle.nv_marks.specs.declared.extmark.Far.{Far}
 use Rattle.nv_marks.specs.declared.extmark.Mark.{Mark}
@@ -26,6 +26,22 @@ showing_marks first behind marks =
 pub record AreLaid (first behind : ℕ) (marks laid : List Mark) : Type 0 where
   pub same_marks : IsPermutation (showing_marks first behind marks) laid
   pub rising : IsSorted paint_order laid
+
+-- marks of which those that show on a row, of the rows from one up to before another, are all that
+-- show on it, in the order in which they are laid over one another
+pub record ShowOnRows (first behind : ℕ) (marks laid : List Mark) : Type 0 where
+  pub same_marks :
+      (row len : ℕ) → first ≤ row → row < behind
+      → IsPermutation (filter (shows_on row len) marks) (filter (shows_on row len) laid)
+  pub rising : IsSorted paint_order laid
+
+-- whether a mark may show on the rows from one up to before another
+abbrev pub may_show_on : ℕ → ℕ → Mark → Bool
+may_show_on first behind k = nat_lt k.start.row behind && may_show first k
+
+-- the mark, if it may
+abbrev pub mark_if_on : ℕ → ℕ → Mark → List Mark
+mark_if_on first behind k = if may_show_on first behind k then k ∷ [] else []
 
 -- what one mark shows on a row
 abbrev pub spans_of_mark : List NamedGroup → ℕ → ℕ → Mark → List Span

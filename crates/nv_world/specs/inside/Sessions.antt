@@ -8,6 +8,7 @@ use Rattle.nv_subs.specs.Attachments.{Attachments, sessions_of, is_session_of}
 use Rattle.nv_history.specs.Sessions.{follows}
 use Rattle.nv_history.specs.Sessions as model
 use Rattle.nv_world.specs.Contents.{plain_cause, sent_of_shared}
+use Rattle.nv_world.specs.Sizes.{memory_of_waiting}
 use Rattle.nv_world.specs.declared.effect.Cause.{Cause}
 use Rattle.nv_world.specs.declared.shared.SharedMessage.{SharedMessage}
 use Rattle.nv_world.specs.declared.session.Session.{Session}
@@ -23,8 +24,8 @@ IsOutbox capacity (Some outbox) closed = outbox.capacity ≡ capacity
 IsOutbox capacity None None = ⊥
 IsOutbox capacity None (Some cause) = ⊤
 
--- a session as it is kept stands for one of the model: what waits can be told, and a closed one is
--- attached to nothing
+-- a session as it is kept stands for one of the model: what waits can be told, and its bytes are
+-- counted; a closed one is attached to nothing
 pub record IsSession (capacity : ℕ) (x : Session) (y : model.Session) : Type 0 where
   pub waiting : messages_waiting x.outbox ≡ y.waiting
   pub closed : option_map plain_cause x.closed ≡ y.closed
@@ -32,6 +33,7 @@ pub record IsSession (capacity : ℕ) (x : Session) (y : model.Session) : Type 0
   pub outbox : IsOutbox capacity x.outbox x.closed
   pub sendable : All IsSendable y.waiting
   pub quiet : IfSome y.closed (λ cause. y.following ≡ [])
+  pub counted : x.bytes ≡ memory_of_waiting 0 y.waiting
 
 -- whether the session of a number is attached to a buffer
 abbrev pub follows_at : ℤ → List model.Session → ℕ → Bool

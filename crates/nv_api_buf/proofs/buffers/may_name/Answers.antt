@@ -1,15 +1,12 @@
-use Rattle.std.proofs.Common.{◌≡◌, ◌==◌, ◌&&◌, ℕ, ℤ, Bool, true, false, not, List, length, sym, ◌∙◌, refl}
-use Rattle.nv_model.specs.Answers.{Answer}
-use Rattle.nv_model.specs.Seen.{Seen}
+use Rattle.std.proofs.Common.{◌≡◌, ◌==◌, ◌&&◌, ℕ, ℤ, Bool, true, false, not, List, length, sym, ◌∙◌, refl, cond}
+use Rattle.nv_model.specs.Answers.{Answer, refused}
+use Rattle.nv_model.specs.Seen.{Seen, is_name_of}
 use Rattle.nv_model.specs.Standing.{seen_now}
 use Rattle.nv_api_buf.proofs.Deciding.{refused_by}
-use Rattle.std.proofs.Common.{cond}
 use Rattle.std.specs.List.{list_any}
 use Rattle.nv_args.specs.Faults.{newline_inside, name_in_use}
 use Rattle.nv_args.specs.Texts.{has_newline}
-use Rattle.nv_model.specs.Answers.{refused}
 use Rattle.nv_model.specs.Deleting.{other_handles}
-use Rattle.nv_api_buf.specs.BufferRows.{is_name_of}
 use Rattle.nv_api_buf.proofs.Newlines.{search-of_line}
 use Rattle.nv_api_buf.proofs.buffers.may_name.Goals as goal
 

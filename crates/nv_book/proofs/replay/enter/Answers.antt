@@ -35,5 +35,14 @@ returns-clause-goes g c =
       gave_then _ _ _ _ _ _ p.0 o.0 p.1 o.1,
       λ start fed records played i.
           entered_at start fed p.0 o.0 records played c.args.place _ c.in_ok-session.session c.args.heading c.args.intake.now c.play_entry.new.intake c.read_output.new.intake c.args.player.now c.play_entry.new.player c.read_output.new.into.items c.in_ok-step.step i p.2.0 p.2.1 p.2.2 (o.2 fed)
-          (c.len-at.ensures.count ∙ ap (length {A = world.Entry}) c.history.ensures.history) c.in_ok-step.ensures,
+          (c.len-at.ensures.count ∙ ap (length {A = world.Entry}) c.history.ensures.history) c.in_ok-step.ensures.made,
     )
+
+pub returns-clause-enters : goal.returns-clause-enters
+returns-clause-enters g c = record {
+  world = c.in_ok-session.ensures.plays.2.2.world;
+  known = c.in_ok-session.ensures.known;
+  number = c.in_ok-step.ensures.made.at_is ∙ (c.len-at.ensures.count ∙ ap (length {A = world.Entry}) c.history.ensures.history);
+  splices = c.in_ok-step.ensures.made.splices_are;
+  runs = c.in_ok-step.ensures.runs;
+}

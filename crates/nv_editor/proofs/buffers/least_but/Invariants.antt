@@ -1,6 +1,7 @@
-use Rattle.std.proofs.Common.{◌≡◌, drop}
+use Rattle.std.proofs.Common.{◌≡◌}
+use Rattle.nv_model.specs.Editors.{handles_of}
 use Rattle.nv_editor.proofs.TakingOut.{least_of_others}
 use Rattle.nv_editor.proofs.buffers.least_but.Given as goal
 
-abbrev pub invariant-loop-buffer : goal.invariant-loop-buffer
-invariant-loop-buffer l = least_of_others l.handle (drop l.buffer-index l.buffers) ≡ least_of_others l.handle l.buffers
+abbrev pub invariant-loop-other : goal.invariant-loop-other
+invariant-loop-other l = least_of_others l.handle l.other-iterator ≡ least_of_others l.handle (handles_of l.buffers.entries)

@@ -9,7 +9,7 @@ returns-in-Ok-clause-writes g c =
 pub returns-in-Err-clause-writes : goal.returns-in-Err-clause-writes
 returns-in-Err-clause-writes g c =
     let t = rw c.in-Batch.is at c.take_due-pass.ensures in
-    ends_cut c.in-Err.end _ _ _ _ _ (g.V.Voice.told c.args.voice.now) _ _ c.in-Batch.batch c.shut-pass.result.1 t c.in-Err.ensures.err c.shut-pass.ensures
+    ends_cut c.in-Err.end _ _ _ _ _ (g.V.Voice.told c.args.voice.now) _ _ c.in-Batch.batch t c.in-Err.ensures.err c.drop_due-pass.ensures
 
 pub returns-in-Nothing-clause-writes : goal.returns-in-Nothing-clause-writes
 returns-in-Nothing-clause-writes g c =

@@ -2,7 +2,7 @@ use Rattle.std.proofs.Common.{◌≤◌, ap, sym, ◌∙◌, arith}
 use Rattle.nv_layout.specs.Content.{shapes_of}
 use Rattle.nv_layout.specs.Division.{counted_children_where}
 use Rattle.nv_layout.specs.Least.{child_list}
-use Rattle.nv_layout.proofs.Children.{child_within, least_of_child, least_within, needs_in_all, length-counted_children, length-shapes_of}
+use Rattle.nv_layout.proofs.Children.{child_within, least_of_child, least_there, least_within, needs_in_all, length-counted_children, length-shapes_of}
 use Rattle.nv_layout.proofs.Granting.{granting_start, granting_skip, need_granted, granting_step, granting_end}
 use Rattle.nv_layout.proofs.division.room_shared.Goals as goal
 use Rattle.nv_layout.proofs.division.room_shared.Goals.{then-wish-ne0, else-wish-ne0}
@@ -17,9 +17,13 @@ loop-place-init c =
     (ap (λ r. r.other_need) c.requires.start) (ap (λ r. r.wish_need) c.requires.start)
     (omega (arith, needs_in_all c.args.all_wish (child_list c.args.axis (shapes_of c.args.trees.now)), ap (λ r. r.wish_need) c.requires.start, ap (λ r. r.other_need) c.requires.start, c.requires.enough))
 
-pub least_along-least-requires : goal.least_along-least-requires
-least_along-least-requires c =
+pub least_at-least-requires-clause-small : goal.least_at-least-requires-clause-small
+least_at-least-requires-clause-small c =
     omega (arith, c.requires.enough, least_within c.args.axis c.args.trees.now c.args.all_wish c.loop-place.place c.index-trees-place.result c.loop-place-test.true c.index-trees-place.is)
+
+pub least_at-least-requires-clause-known : goal.least_at-least-requires-clause-known
+least_at-least-requires-clause-known c =
+    λ h. c.requires.known c.loop-place.place h ∙ least_there c.args.axis c.args.trees.now c.loop-place.place c.index-trees-place.result c.loop-place-test.true c.index-trees-place.is
 
 pub bounded-room-requires-clause-counted : goal.bounded-room-requires-clause-counted
 bounded-room-requires-clause-counted c =
@@ -27,8 +31,8 @@ bounded-room-requires-clause-counted c =
       arith,
       need_granted (counted_children_where c.args.all_wish (child_list c.args.axis (shapes_of c.args.trees.now))) c.args.rooms.now.wish_room c.loop-place.place c.loop-place.room c.loop-place.need
           (child_within c.args.axis c.args.trees.now c.args.all_wish c.loop-place.place c.index-trees-place.result c.loop-place-test.true c.index-trees-place.is)
-          c.loop-place.invariant c.least_along-least.result
-          (c.least_along-least.ensures ∙ least_of_child c.args.axis c.args.trees.now c.args.all_wish c.loop-place.place c.index-trees-place.result c.loop-place-test.true c.index-trees-place.is)
+          c.loop-place.invariant c.least_at-least.result
+          (c.least_at-least.ensures ∙ least_of_child c.args.axis c.args.trees.now c.args.all_wish c.loop-place.place c.index-trees-place.result c.loop-place-test.true c.index-trees-place.is)
           (omega (arith, c.counted_wish-wish.ensures)),
     )
 
@@ -38,20 +42,20 @@ overflow_sub-need c =
       arith,
       need_granted (counted_children_where c.args.all_wish (child_list c.args.axis (shapes_of c.args.trees.now))) c.args.rooms.now.wish_room c.loop-place.place c.loop-place.room c.loop-place.need
           (child_within c.args.axis c.args.trees.now c.args.all_wish c.loop-place.place c.index-trees-place.result c.loop-place-test.true c.index-trees-place.is)
-          c.loop-place.invariant c.least_along-least.result
-          (c.least_along-least.ensures ∙ least_of_child c.args.axis c.args.trees.now c.args.all_wish c.loop-place.place c.index-trees-place.result c.loop-place-test.true c.index-trees-place.is)
+          c.loop-place.invariant c.least_at-least.result
+          (c.least_at-least.ensures ∙ least_of_child c.args.axis c.args.trees.now c.args.all_wish c.loop-place.place c.index-trees-place.result c.loop-place-test.true c.index-trees-place.is)
           (omega (arith, c.counted_wish-wish.ensures)),
     )
 
 pub overflow_sub-room : goal.overflow_sub-room
 overflow_sub-room c =
-    let least_counted : c.least_along-least.result ≤ c.loop-place.need =
+    let least_counted : c.least_at-least.result ≤ c.loop-place.need =
     omega (
       arith,
       need_granted (counted_children_where c.args.all_wish (child_list c.args.axis (shapes_of c.args.trees.now))) c.args.rooms.now.wish_room c.loop-place.place c.loop-place.room c.loop-place.need
           (child_within c.args.axis c.args.trees.now c.args.all_wish c.loop-place.place c.index-trees-place.result c.loop-place-test.true c.index-trees-place.is)
-          c.loop-place.invariant c.least_along-least.result
-          (c.least_along-least.ensures ∙ least_of_child c.args.axis c.args.trees.now c.args.all_wish c.loop-place.place c.index-trees-place.result c.loop-place-test.true c.index-trees-place.is)
+          c.loop-place.invariant c.least_at-least.result
+          (c.least_at-least.ensures ∙ least_of_child c.args.axis c.args.trees.now c.args.all_wish c.loop-place.place c.index-trees-place.result c.loop-place-test.true c.index-trees-place.is)
           (omega (arith, c.counted_wish-wish.ensures)),
     ) in
     omega (arith, c.bounded-room.ensures, c.loop-place.invariant.enough)
@@ -64,8 +68,8 @@ loop-place-preserved c =
       | then-wish-ne0 w ↦
           rw (w.room-is, w.need-is)
           (granting_step all c.args.rooms.now.wish_room c.loop-place.place c.loop-place.room c.loop-place.need inside c.loop-place.invariant
-          w.least_along-least.result c.counted_wish-wish.result w.bounded-room.result
-          (w.least_along-least.ensures ∙ least_of_child c.args.axis c.args.trees.now c.args.all_wish c.loop-place.place c.index-trees-place.result c.loop-place-test.true c.index-trees-place.is)
+          w.least_at-least.result c.counted_wish-wish.result w.bounded-room.result
+          (w.least_at-least.ensures ∙ least_of_child c.args.axis c.args.trees.now c.args.all_wish c.loop-place.place c.index-trees-place.result c.loop-place-test.true c.index-trees-place.is)
           c.counted_wish-wish.ensures (omega arith) w.bounded-room.ensures)
       | else-wish-ne0 w ↦
           rw (w.room-is, w.need-is)

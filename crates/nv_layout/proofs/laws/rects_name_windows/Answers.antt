@@ -1,4 +1,4 @@
-use Rattle.nv_layout.proofs.Written.{rects_name_windows}
+use Rattle.nv_layout.proofs.Naming.{rects_name_windows}
 use Rattle.nv_layout.proofs.laws.rects_name_windows.Goals as goal
 
 pub returns : goal.returns

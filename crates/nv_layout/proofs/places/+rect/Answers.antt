@@ -1,15 +1,13 @@
 -- The rectangle of a window is looked for child by child.
-use Rattle.std.proofs.Common.{◌≡◌, ℤ, ◌+◌, ◌-◌, ◌∙◌, length, refl, ap, sym, subst, arith, w64}
+use Rattle.std.proofs.Common.{◌≡◌, ◌-◌, ◌∙◌, ap, sym, subst, arith, w64}
 use Rattle.std.proofs.lemmas.Int.{to_z-of_z}
-use Rattle.std.specs.Prelude.{Option, Some, None, is_some}
 use mir.Val.{to_z, of_z}
 use Rattle.nv_layout.specs.Division.{counted_children}
 use Rattle.nv_layout.specs.Content.{group, shape_of, shapes_of}
-use Rattle.nv_layout.specs.Least.{least, child_list, NoneEmpty}
+use Rattle.nv_layout.specs.Least.{child_list}
 use Rattle.nv_layout.specs.Places.{extent, part, rects, rect_among, IsRoomy, IsOnScreen}
 use Rattle.nv_layout.specs.Sizing.{rooms_of, next_size}
-use Rattle.nv_layout.specs.declared.nodes.Rect.{Rect}
-use Rattle.nv_layout.proofs.PlacingSteps.{room_enough, extent_small, next_least}
+use Rattle.nv_layout.proofs.PlacingSteps.{room_enough, extent_small}
 use Rattle.nv_layout.proofs.FindingSteps.{finding_start, next_found, found_here, finding_step, finding_end, none_is, some_is}
 use Rattle.nv_layout.proofs.Smaller.{no_larger}
 use Rattle.nv_layout.proofs.places.+rect.Goals as goal
@@ -22,6 +20,9 @@ rect_in_group-overflow_sub-room t c = omega (arith, room_enough c.args.axis (sha
 
 pub rect_in_group-new-rooms-requires-clause-enough : goal.rect_in_group-new-rooms-requires-clause-enough
 rect_in_group-new-rooms-requires-clause-enough t c = omega (arith, room_enough c.args.axis (shapes_of c.args.trees.now) c.args.area c.requires.roomy, c.gaps.ensures, c.extent.ensures)
+
+pub rect_in_group-new-rooms-requires-clause-known : goal.rect_in_group-new-rooms-requires-clause-known
+rect_in_group-new-rooms-requires-clause-known t c = λ i h. absurd (omega arith)
 
 pub rect_in_group-loop-place-init : goal.rect_in_group-loop-place-init
 rect_in_group-loop-place-init t c =

@@ -1,4 +1,4 @@
-use Rattle.std.proofs.Common.{◌≡◌, ◌+◌, ◌++◌, ◌∙◌, ap, sym, refl, drop, length, get_or, arith}
+use Rattle.std.proofs.Common.{◌++◌, arith}
 use Rattle.nv_layout.specs.Content.{shapes_of}
 use Rattle.nv_layout.specs.Least.{leaves_in}
 use Rattle.nv_layout.specs.Tiling.{windows}

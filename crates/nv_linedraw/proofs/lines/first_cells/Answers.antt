@@ -3,7 +3,7 @@ use Rattle.std.proofs.lemmas.Bool.Decides.{nat_tests}
 use Rattle.std.proofs.lemmas.List.{nil_from_length}
 use Rattle.nv_text.specs.Pieces.{pieces_of}
 use Rattle.nv_linedraw.specs.LineCells.{cells_of_line}
-use Rattle.nv_linedraw.proofs.FirstLemmas.{first_are}
+use Rattle.nv_linedraw.proofs.FirstLemmas.{first_laid}
 use Rattle.nv_linedraw.proofs.PlainLines.{cells_of_plain}
 use Rattle.nv_linedraw.proofs.lines.first_cells.Goals as goal
 
@@ -20,6 +20,4 @@ returns c =
     let ps = c.as_slice.result.now in
     let is : ps ≡ take c.args.most (pieces_of c.args.line.now) = search rules in
     c.truncate.ensures.items
-    ∙ first_are c.args.width c.args.tabstop c.args.line.now c.args.spans.now c.args.looks.now c.args.most
-    c.lay_pieces.new.flow.cells.items c.fill.new.flow.cells.items c.lay_pieces.new.flow.col ps is
-    (search rules) (search rules) (search rules) (search rules) (search rules) (search rules)
+    ∙ first_laid _ c.args.most _ c.fill.new.flow.cells.items _ ps is c.in_ok-lay_pieces.ensures.laid (search rules) (search rules) (search rules)

@@ -9,7 +9,7 @@ use Rattle.nv_replay.specs.inside.Endings.{Concludes, SaysNoFirst}
 use Rattle.nv_replay.specs.declared.checking.GoneOver.{GoneOver}
 use Rattle.nv_replay.specs.declared.ending.ReplayEnd.{ReplayEnd}
 use Rattle.nv_replay.proofs.Closings.{check_ends, check_unread, tallied}
-use Rattle.nv_replay.proofs.Watching.{said_by}
+use Rattle.nv_replay.proofs.Verdicts.{said_by}
 use Rattle.nv_replay.proofs.checking.check_replay.Goals as goal
 
 pub returns-in-Ok-clause-ends : goal.returns-in-Ok-clause-ends

@@ -1,11 +1,11 @@
--- The entries so far were played, counted and seen.
+-- The entries so far were played, counted and seen, but for what the watchers put off.
 use Rattle.std.proofs.Common.{◌≡◌, ◌≤◌, ◌++◌, ℕ, List, []}
 use Rattle.nv_io.specs.Streams.{Gave}
 use Rattle.nv_book.specs.Books.{Recorded}
 use Rattle.nv_book.specs.Reading.{IsReplaying}
 use Rattle.nv_watch.specs.Verdicts.{Sight}
 use Rattle.nv_replay.specs.inside.Tallies.{IsGoingOver}
-use Rattle.nv_replay.specs.inside.Watching.{AreWatching}
+use Rattle.nv_replay.specs.inside.Watching.{AreFollowing}
 use Rattle.nv_replay.proofs.checking.go_over.Given as goal
 
 abbrev pub invariant-loop-round : goal.invariant-loop-round
@@ -14,8 +14,8 @@ invariant-loop-round g l = record {
       × Gave (g.I.Source.taken l.initial.source) (g.I.Source.taken l.source) (g.I.Source.left l.initial.source) (g.I.Source.left l.source) bytes
       × (seen : List Sight)
       × ((fed : List ℕ) → IsReplaying fed [] [] l.initial.replay → (records : List Recorded) × (played : List Recorded) × IsGoingOver (fed ++ bytes) records played seen l.tally l.replay)
-      × AreWatching l.initial.watchers.items l.watchers.items seen (λ w s. g.W.Watcher.HasSeen w s)
-      (λ w. g.W.Watcher.Breaks w);
+      × AreFollowing l.initial.watchers.items l.watchers.items seen l.replay.world (λ w s. g.W.Watcher.HasSeen w s)
+      (λ w s. g.W.Watcher.IsBehind w s) (λ w. g.W.Watcher.Breaks w);
   same : l.replay.start ≡ l.initial.replay.start;
   later : g.I.Source.faults l.initial.source ≤ g.I.Source.faults l.source;
 }

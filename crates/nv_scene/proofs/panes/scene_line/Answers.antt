@@ -16,5 +16,5 @@ returns c =
       spans_are =
           subst (λ (n : ℕ). AreSpansOf c.args.groups.now c.args.buffer.now.marks.marks c.args.row n c.in_ok-spans.spans.items) (c.len.ensures.value ∙ ap (length {A = ℕ}) here)
           (spans_shown c.args.groups.now c.args.first c.args.behind c.args.row c.len.result c.args.buffer.now.marks.marks c.args.marks.now c.in_ok-spans.spans.items
-          c.requires.first c.requires.behind c.requires.laid c.in_ok-spans.ensures);
+          c.requires.first c.requires.behind c.requires.shown c.in_ok-spans.ensures);
     }

@@ -10,12 +10,12 @@ use Rattle.nv_scene.proofs.Parted.{area_on_screen, span_of, windows_of}
 use Rattle.nv_scene.proofs.SceneSound.{scene_sound}
 use Rattle.nv_scene.proofs.scenes.scene_of.Goals as goal
 
-pub placed_windows-requires-clause-filled : goal.placed_windows-requires-clause-filled
-placed_windows-requires-clause-filled c =
+pub placed-requires-clause-filled : goal.placed-requires-clause-filled
+placed-requires-clause-filled c =
     (page_sound c.args.editor.now.stage.workspace (page_of c.current_page.result.now) c.known.ensures.workspace c.current_page.ensures).filled
 
-pub placed_windows-requires-clause-roomy : goal.placed_windows-requires-clause-roomy
-placed_windows-requires-clause-roomy c =
+pub placed-requires-clause-roomy : goal.placed-requires-clause-roomy
+placed-requires-clause-roomy c =
     let ws : Workspace = c.args.editor.now.stage.workspace in
     let page : Page = page_of c.current_page.result.now in
     let area : c.windows_area.result ≡ windows_area ws = c.windows_area.ensures ∙ ap windows_area c.windows.ensures in

@@ -14,8 +14,8 @@ returns c =
     let narrow : IsNarrowText c.args.buffer.now.text = search rules in
     let are : All (IsMarkIn c.args.buffer.now.text) marks = subst (λ (k : Marks). All (IsMarkIn c.args.buffer.now.text) k.marks) c.marks-marks.ensures.value c.marks-marks.ensures.places in
     let all : filter (starts_within first_place last_place) marks ≡ marks = all_within _ marks narrow are in
-    let count : c.len.result ≡ length marks = search rules in
-    let ok : c.range.new.into.items ≡ c.new-found.result.items ++ take c.len.result (filter (starts_within first_place last_place) marks) = search rules in
-    ok ∙ ap (λ (l : List Mark). l ++ take c.len.result (filter (starts_within first_place last_place) marks)) c.new-found.ensures.items
-    ∙ ap (λ (l : List Mark). take c.len.result l) all
-    ∙ take_all c.len.result marks (omega (arith, count))
+    let count : c.len-count.result ≡ length marks = search rules in
+    let ok : c.range.new.into.items ≡ c.in_ok-found.found.items ++ take c.len-count.result (filter (starts_within first_place last_place) marks) = search rules in
+    ok ∙ ap (λ (l : List Mark). l ++ take c.len-count.result (filter (starts_within first_place last_place) marks)) c.in_ok-found.ensures.items
+    ∙ ap (λ (l : List Mark). take c.len-count.result l) all
+    ∙ take_all c.len-count.result marks (omega (arith, count))

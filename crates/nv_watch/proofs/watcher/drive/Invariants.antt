@@ -1,6 +1,6 @@
 -- The watchers before the place were shown the step, the others are as they were.
 use Rattle.nv_watch.specs.Verdicts.{sight}
-use Rattle.nv_watch.specs.inside.Shown.{HaveBecome, HasBeenShown}
+use Rattle.nv_watch.specs.inside.Became.{HaveBecome, HasBeenShown}
 use Rattle.nv_watch.proofs.watcher.drive.Given as goal
 
 abbrev pub invariant-loop-place : goal.invariant-loop-place

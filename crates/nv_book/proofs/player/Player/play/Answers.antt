@@ -1,4 +1,4 @@
-use Rattle.std.proofs.Common.{refl, sym, ◌∙◌, subst}
+use Rattle.std.proofs.Common.{refl, sym, ◌∙◌, subst, Result, Ok, Err, OnOk}
 use Rattle.nv_painter.specs.Spoken.{IsSoundIfThere}
 use Rattle.nv_history.specs.Worlds.{step}
 use Rattle.nv_world.specs.Contents.{plain_event}
@@ -25,3 +25,10 @@ returns-in-Ok-clause-plays c =
 
 pub returns-clause-begins : goal.returns-clause-begins
 returns-clause-begins c = refused_begins c.args.self.now.world c.apply.new.self c.in-Err.field-0.1 _ c.in-Err.ensures.err.1
+
+on_ok_so : {T E : Type 0} (r : Result T E) (P : Type 0) → P → OnOk r P
+on_ok_so (Ok x) P p = p
+on_ok_so (Err e) P p = tt
+
+pub returns-in-Ok-clause-known : goal.returns-in-Ok-clause-known
+returns-in-Ok-clause-known c = on_ok_so c.give.result _ c.in-Ok.ensures.ok.0

@@ -3,15 +3,20 @@ use Rattle.nv_undo.specs.Tree.{Undo}
 use Rattle.nv_buffer.specs.Changes.{leg_edits}
 use Rattle.nv_undo.specs.Ways.{IsNext}
 use Rattle.nv_buffer.specs.declared.edit.Edit.{Edit}
-use Rattle.nv_buffer.proofs.Going.{going_first, going_fits, going_tick, going_on, going_last, gone_text, gone_state}
+use Rattle.nv_buffer.proofs.Going.{going_first, going_along, going_fits, going_tick, going_on, going_last, gone_text, gone_state}
 use Rattle.nv_buffer.proofs.buffer.Buffer.go.Goals as goal
 
 pub loop-place-init : goal.loop-place-init
 loop-place-init c =
     going_first c.args.self.now c.args.events.now.items c.args.leg (c.known.ensures.buffer, c.requires.sealed) c.requires.next
 
-pub leg_edit-requires : goal.leg_edit-requires
-leg_edit-requires c =
+pub leg_edit-requires-clause-text : goal.leg_edit-requires-clause-text
+leg_edit-requires-clause-text c =
+    going_along c.args.self.now c.loop-place.self c.args.events.now.items c.loop-place.events.items c.args.leg c.loop-place.place
+    (c.known.ensures.buffer, c.requires.sealed) c.requires.next c.loop-place.invariant
+
+pub leg_edit-requires-clause-place : goal.leg_edit-requires-clause-place
+leg_edit-requires-clause-place c =
     let same = ap (λ (u : Undo (List Edit)). length (leg_edits u c.args.leg)) c.loop-place.invariant.undo in
     omega (arith, same, c.leg_len-place-end.ensures, c.loop-place-test.true)
 

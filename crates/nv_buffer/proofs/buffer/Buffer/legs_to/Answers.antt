@@ -1,12 +1,18 @@
-use Rattle.std.proofs.Common.{◌∙◌, List, ap, sym, subst}
-use Rattle.nv_undo.specs.Tree.{path}
+use Rattle.std.proofs.Common.{◌≤◌, ◌∙◌, List, ap, sym, subst, arith}
+use Rattle.nv_undo.specs.Tree.{last, path}
 use Rattle.nv_undo.specs.Ways.{Leads}
 use Rattle.nv_undo.specs.declared.legs.Leg.{Leg}
 use Rattle.nv_undo.proofs.WayLemmas.{path_leads}
 use Rattle.nv_buffer.specs.Content.{Content}
 use Rattle.nv_buffer.specs.Steps.{IsBuffer}
-use Rattle.nv_buffer.proofs.TreeAhead.{path-ahead}
+use Rattle.nv_buffer.proofs.TreeAhead.{last-ahead, path-ahead}
 use Rattle.nv_buffer.proofs.buffer.Buffer.legs_to.Goals as goal
+
+pub unreachable-requires : goal.unreachable-requires
+unreachable-requires c =
+    let found = rw c.in-None.is at c.in_ok-legs.ensures in
+    let within = subst (λ (b : Content). c.args.n ≤ last b.undo) (sym c.self.view_is) c.requires in
+    omega (arith, found, within, last-ahead c.self.inside.tree)
 
 pub returns-clause-path : goal.returns-clause-path
 returns-clause-path c =

@@ -1,12 +1,13 @@
-use Rattle.std.proofs.Common.{◌≡◌, ℕ, ℤ, List, pos, ◌+◌, ◌+ℤ◌, length, ap, sym, subst, ◌∙◌, rules, to_z, of_z, w64}
+use Rattle.std.proofs.Common.{◌≡◌, ℕ, ℤ, List, [], ◌∷◌, ◌++◌, pos, ◌+◌, ◌+ℤ◌, length, ap, sym, subst, ◌∙◌, rules, to_z, of_z, w64}
 use Rattle.std.specs.List.{splice}
 use Rattle.nv_buffer.specs.Splices.{IsBufferText}
 use Rattle.nv_buffer.specs.Changes.{Fits}
 use Rattle.nv_buffer.specs.Content.{Content, event_at}
-use Rattle.nv_buffer.specs.Steps.{edits_ahead, tree_ahead}
-use Rattle.nv_buffer.specs.declared.edit.Step.{Step}
+use Rattle.nv_buffer.specs.Steps.{kept_step, tree_ahead, edits_since}
+use Rattle.nv_buffer.specs.declared.step.Step.{Step}
 use Rattle.nv_buffer.proofs.Keeping.{text_of_buffer}
-use Rattle.nv_buffer.proofs.Making.{Takes, edit_stands, step_pushed, edits_pushed, edited_is}
+use Rattle.nv_buffer.proofs.Making.{edit_stands, step_pushed, edits_pushed, edited_is}
+use Rattle.nv_buffer.proofs.StepsAhead.{step_kept}
 use Rattle.nv_buffer.proofs.Placing.{small_after, ends_narrowly, marks_narrowly}
 use Rattle.nv_buffer.proofs.buffer.Buffer.put_edit.Goals as goal
 
@@ -15,24 +16,33 @@ replace-requires-clause-small c =
     small_after c.self.inside.text c.args.self.now.text c.in_ok-lines.lines c.args.edit (ap (λ (b : Content). b.text) c.self.view_is)
     c.in_ok-lines.ensures c.requires.fits
 
+pub of-requires-clause-text : goal.of-requires-clause-text
+of-requires-clause-text c =
+    let inside = c.self.inside in
+    text_of_buffer inside.text inside.tick (tree_ahead inside.tree) (edits_since inside.tree inside.unsealed.items) c.self.invariant.3
+
+pub of-requires-clause-fits : goal.of-requires-clause-fits
+of-requires-clause-fits c =
+    subst (λ (t : List (List ℕ)). Fits t c.args.edit) (sym (ap (λ (b : Content). b.text) c.self.view_is)) c.requires.fits
+
 pub move_marks-requires-clause-old_end : goal.move_marks-requires-clause-old_end
 move_marks-requires-clause-old_end c =
     let inside = c.self.inside in
-    let text = text_of_buffer inside.text inside.tick (tree_ahead inside.tree) (edits_ahead inside.unsealed.items) c.self.invariant.3 in
+    let text = text_of_buffer inside.text inside.tick (tree_ahead inside.tree) (edits_since inside.tree inside.unsealed.items) c.self.invariant.3 in
     let here = subst IsBufferText (ap (λ (b : Content). b.text) c.self.view_is) text in
     (ends_narrowly c.args.self.now.text c.args.edit here c.requires.fits).old
 
 pub move_marks-requires-clause-new_end : goal.move_marks-requires-clause-new_end
 move_marks-requires-clause-new_end c =
     let inside = c.self.inside in
-    let text = text_of_buffer inside.text inside.tick (tree_ahead inside.tree) (edits_ahead inside.unsealed.items) c.self.invariant.3 in
+    let text = text_of_buffer inside.text inside.tick (tree_ahead inside.tree) (edits_since inside.tree inside.unsealed.items) c.self.invariant.3 in
     let here = subst IsBufferText (ap (λ (b : Content). b.text) c.self.view_is) text in
     (ends_narrowly c.args.self.now.text c.args.edit here c.requires.fits).new
 
 pub move_marks-requires-clause-moved : goal.move_marks-requires-clause-moved
 move_marks-requires-clause-moved c =
     let inside = c.self.inside in
-    let text = text_of_buffer inside.text inside.tick (tree_ahead inside.tree) (edits_ahead inside.unsealed.items) c.self.invariant.3 in
+    let text = text_of_buffer inside.text inside.tick (tree_ahead inside.tree) (edits_since inside.tree inside.unsealed.items) c.self.invariant.3 in
     let same = ap (λ (b : Content). b.text) c.self.view_is in
     let fits = subst (λ (t : List (List ℕ)). Fits t c.args.edit) (sym same) c.requires.fits in
     marks_narrowly inside.text c.args.edit inside.marks text fits c.self.invariant.5
@@ -42,35 +52,34 @@ invariant_of-self-2 c =
     let inside = c.self.inside in
     let edit = c.args.edit in
     let same = ap (λ (b : Content). b.text) c.self.view_is in
-    let step : Step = record { ahead = edit; end = edit.first + c.len.result; taken = c.in_ok-taken.taken } in
-    let takes : Takes inside.text step = record {
-      end = ap (λ (n : ℕ). edit.first + n) (c.len.ensures.value ∙ ap length c.in_ok-lines.ensures);
-      taken = c.in_ok-taken.ensures.taken;
-    } in
+    let fits = subst (λ (t : List (List ℕ)). Fits t edit) (sym same) c.requires.fits in
+    let kept = step_kept inside.text edit c.in_ok-patch.patch c.in_ok-taken.taken c.in_ok-patch.ensures c.in_ok-taken.ensures.taken in
+    let step : Step = kept_step c.in_ok-patch.patch edit c.in_ok-taken.taken in
     let now = c.in_ok-taken.ensures.ok ∙ ap (λ (ls : List (List ℕ)). splice inside.text edit.first edit.last ls) c.in_ok-lines.ensures in
     let steps =
     step_pushed inside.unsealed.items c.make_room.new.steps.items c.push_reserved.new.self.items step c.in_ok-make_room.ensures.items
-    c.push_reserved.ensures.items in
+    (c.push_reserved.ensures.items ∙ ap (λ (s : Step). c.make_room.new.steps.items ++ s ∷ []) c.new.ensures) in
     let tick : to_z w64 (of_z w64 (to_z w64 (of_z w64 inside.tick) +ℤ pos 1)) ≡ inside.tick +ℤ pos 1 = search rules in
     let made =
-    edit_stands inside.text c.args.self.now.text c.replace.new.self inside.tick (to_z w64 (of_z w64 (to_z w64 (of_z w64 inside.tick) +ℤ pos 1)))
-    inside.tree inside.unsealed.items c.push_reserved.new.self.items inside.marks c.move_marks.new.marks step same c.self.invariant.3
-    c.self.invariant.4 c.self.invariant.5 c.requires.fits takes now tick steps c.move_marks.ensures in
+    edit_stands inside.text c.replace.new.self inside.tick (to_z w64 (of_z w64 (to_z w64 (of_z w64 inside.tick) +ℤ pos 1)))
+    inside.tree inside.unsealed.items c.push_reserved.new.self.items inside.marks c.move_marks.new.marks edit step c.self.invariant.3
+    c.self.invariant.4 c.self.invariant.5 fits kept.0 kept.1 now tick steps c.move_marks.ensures in
     (made.narrow, c.self.invariant.1, c.self.invariant.2, made.buffer, made.lead, made.places)
 
 pub returns-clause-ok : goal.returns-clause-ok
 returns-clause-ok c =
     let inside = c.self.inside in
     let edit = c.args.edit in
-    let step : Step = record { ahead = edit; end = edit.first + c.len.result; taken = c.in_ok-taken.taken } in
+    let kept = step_kept inside.text edit c.in_ok-patch.patch c.in_ok-taken.taken c.in_ok-patch.ensures c.in_ok-taken.ensures.taken in
+    let step : Step = kept_step c.in_ok-patch.patch edit c.in_ok-taken.taken in
     let now = c.in_ok-taken.ensures.ok ∙ ap (λ (ls : List (List ℕ)). splice inside.text edit.first edit.last ls) c.in_ok-lines.ensures in
     let steps =
     step_pushed inside.unsealed.items c.make_room.new.steps.items c.push_reserved.new.self.items step c.in_ok-make_room.ensures.items
-    c.push_reserved.ensures.items in
+    (c.push_reserved.ensures.items ∙ ap (λ (s : Step). c.make_room.new.steps.items ++ s ∷ []) c.new.ensures) in
     let tick : to_z w64 (of_z w64 (to_z w64 (of_z w64 inside.tick) +ℤ pos 1)) ≡ inside.tick +ℤ pos 1 = search rules in
     edited_is _ c.args.self.now edit c.replace.new.self (to_z w64 (of_z w64 (to_z w64 (of_z w64 inside.tick) +ℤ pos 1))) c.move_marks.new.marks
-    (edits_ahead c.push_reserved.new.self.items) c.self.view_is now tick c.move_marks.ensures
-    (edits_pushed c.push_reserved.new.self.items inside.unsealed.items step steps)
+    (edits_since inside.tree c.push_reserved.new.self.items) c.self.view_is now tick c.move_marks.ensures
+    (edits_pushed inside.text inside.tick inside.tree inside.unsealed.items c.push_reserved.new.self.items edit step c.self.invariant.3 kept.0 steps)
 
 pub returns-clause-told : goal.returns-clause-told
 returns-clause-told c =

@@ -1,38 +1,40 @@
-use Rattle.std.proofs.Common.{◌≡◌, ap, sym, rules, to_z, of_z, w64, ℕ, ℤ, List, ◌<◌, ◌≤◌, ◌+◌}
-use Rattle.nv_buffer.specs.Content.{Content}
-use Rattle.nv_editor.specs.inside.Table.{content_in}
-use Rattle.nv_editor.proofs.Slots.{IsAt, place_as, put_rises, put_updated, handle_at, done_in, needed}
-use Rattle.std.specs.Prelude.{◌<ℤ◌, ◌+ℤ◌, pos, [], IfOk, OnOk, OnErr, Option}
-use Rattle.nv_buffer.specs.Content.{after_edit, event_at, after_seal}
-use Rattle.nv_buffer.specs.Changes.{Fits, text_at}
-use Rattle.nv_buffer.specs.Marks.{IsMarkIn, IsMarked, IsUnmarked}
-use Rattle.nv_undo.specs.Tree.{tree_after_leg}
-use Rattle.nv_undo.specs.Ways.{IsNext}
-use Rattle.nv_marks.specs.Marks.{mark_at}
-use Rattle.nv_editor.proofs.Slots.{either, on_ok, on_err, seal_handle}
+use Rattle.std.proofs.Common.{◌≡◌, refl, ap, rules}
+use Rattle.nv_buffer.specs.Content.{Content, after_seal}
+use Rattle.nv_editor.proofs.NamesKept.{numbers_stay, seal_name}
+use Rattle.nv_editor.proofs.Putting.{IsPut, put_here, put_updated, done_in, not_there, either, on_ok, on_err}
+use Rattle.std.specs.Prelude.{[], OnOk, OnErr}
 use Rattle.nv_editor.proofs.buffers.Buffers.seal.Goals as goal
+
+pub unreachable-requires : goal.unreachable-requires
+unreachable-requires c =
+    not_there c.self.inside.items.entries c.args.self.now c.args.handle c.self.view_is (search rules) c.in_default.ensures.value c.requires.there
 
 pub invariant_of-self : goal.invariant_of-self
 invariant_of-self c =
-    let is : IsAt c.self.inside.items.items c.args.self.now c.args.handle c.place_in-place.result = record { view = c.self.view_is; rises = c.self.invariant; place = place_as c.as_slice.result.now _ _ _ c.place_in-place.result c.as_slice.ensures.value (search rules) c.place_in-place.ensures.place } in
-    put_rises _ _ _ _ c.seal.new.self is (handle_at _ _ _ _ c.index_mut-buffer.result.now c.seal.new.self is c.index_mut-buffer.ensures.value (either c.seal.result _ (on_ok c.seal.result _ _ (seal_handle _ _) c.seal.ensures.ok) (on_err c.seal.result _ _ (ap (λ (b : Content). b.handle)) c.seal.ensures.err)))
+    let is : IsPut c.self.inside.items.entries (c.get_mut.follows.lender c.seal.new.self).entries c.args.handle c.in-Some.buffer.now c.seal.new.self =
+    put_here _ _ _ c.args.handle _ _ refl (search rules) c.in-Some.ensures.value (c.get_mut.follows.holds c.seal.new.self).0 in
+    numbers_stay _ _ _ _ _ _ is (either c.seal.result _ (on_ok c.seal.result _ _ (seal_name c.in-Some.buffer.now c.seal.new.self) c.seal.ensures.ok) (on_err c.seal.result _ _ (ap (λ (b : Content). b.name)) c.seal.ensures.err)) c.self.invariant
 
 pub returns-clause-updated : goal.returns-clause-updated
 returns-clause-updated c =
-    let is : IsAt c.self.inside.items.items c.args.self.now c.args.handle c.place_in-place.result = record { view = c.self.view_is; rises = c.self.invariant; place = place_as c.as_slice.result.now _ _ _ c.place_in-place.result c.as_slice.ensures.value (search rules) c.place_in-place.ensures.place } in
-    put_updated _ _ _ _ c.seal.new.self is (handle_at _ _ _ _ c.index_mut-buffer.result.now c.seal.new.self is c.index_mut-buffer.ensures.value (either c.seal.result _ (on_ok c.seal.result _ _ (seal_handle _ _) c.seal.ensures.ok) (on_err c.seal.result _ _ (ap (λ (b : Content). b.handle)) c.seal.ensures.err)))
+    let is : IsPut c.args.self.now (c.get_mut.follows.lender c.seal.new.self).entries c.args.handle c.in-Some.buffer.now c.seal.new.self =
+    put_here _ _ _ c.args.handle _ _ c.self.view_is (search rules) c.in-Some.ensures.value (c.get_mut.follows.holds c.seal.new.self).0 in
+    put_updated _ _ _ _ _ is
 
 pub returns-clause-ok : goal.returns-clause-ok
 returns-clause-ok c =
-    let is : IsAt c.self.inside.items.items c.args.self.now c.args.handle c.place_in-place.result = record { view = c.self.view_is; rises = c.self.invariant; place = place_as c.as_slice.result.now _ _ _ c.place_in-place.result c.as_slice.ensures.value (search rules) c.place_in-place.ensures.place } in
-    done_in _ _ _ _ c.index_mut-buffer.result.now c.seal.new.self is c.index_mut-buffer.ensures.value (either c.seal.result _ (on_ok c.seal.result _ _ (seal_handle _ _) c.seal.ensures.ok) (on_err c.seal.result _ _ (ap (λ (b : Content). b.handle)) c.seal.ensures.err)) (λ (b d : Content). OnOk c.seal.result (d ≡ after_seal b)) c.seal.ensures.ok
+    let is : IsPut c.args.self.now (c.get_mut.follows.lender c.seal.new.self).entries c.args.handle c.in-Some.buffer.now c.seal.new.self =
+    put_here _ _ _ c.args.handle _ _ c.self.view_is (search rules) c.in-Some.ensures.value (c.get_mut.follows.holds c.seal.new.self).0 in
+    done_in _ _ _ _ _ is (λ (b d : Content). OnOk c.seal.result (d ≡ after_seal b)) c.seal.ensures.ok
 
 pub returns-clause-sealed : goal.returns-clause-sealed
 returns-clause-sealed c =
-    let is : IsAt c.self.inside.items.items c.args.self.now c.args.handle c.place_in-place.result = record { view = c.self.view_is; rises = c.self.invariant; place = place_as c.as_slice.result.now _ _ _ c.place_in-place.result c.as_slice.ensures.value (search rules) c.place_in-place.ensures.place } in
-    done_in _ _ _ _ c.index_mut-buffer.result.now c.seal.new.self is c.index_mut-buffer.ensures.value (either c.seal.result _ (on_ok c.seal.result _ _ (seal_handle _ _) c.seal.ensures.ok) (on_err c.seal.result _ _ (ap (λ (b : Content). b.handle)) c.seal.ensures.err)) (λ (b d : Content). OnOk c.seal.result (d.unsealed ≡ [])) c.seal.ensures.sealed
+    let is : IsPut c.args.self.now (c.get_mut.follows.lender c.seal.new.self).entries c.args.handle c.in-Some.buffer.now c.seal.new.self =
+    put_here _ _ _ c.args.handle _ _ c.self.view_is (search rules) c.in-Some.ensures.value (c.get_mut.follows.holds c.seal.new.self).0 in
+    done_in _ _ _ _ _ is (λ (b d : Content). OnOk c.seal.result (d.unsealed ≡ [])) c.seal.ensures.sealed
 
 pub returns-clause-err : goal.returns-clause-err
 returns-clause-err c =
-    let is : IsAt c.self.inside.items.items c.args.self.now c.args.handle c.place_in-place.result = record { view = c.self.view_is; rises = c.self.invariant; place = place_as c.as_slice.result.now _ _ _ c.place_in-place.result c.as_slice.ensures.value (search rules) c.place_in-place.ensures.place } in
-    done_in _ _ _ _ c.index_mut-buffer.result.now c.seal.new.self is c.index_mut-buffer.ensures.value (either c.seal.result _ (on_ok c.seal.result _ _ (seal_handle _ _) c.seal.ensures.ok) (on_err c.seal.result _ _ (ap (λ (b : Content). b.handle)) c.seal.ensures.err)) (λ (b d : Content). OnErr c.seal.result (d ≡ b)) c.seal.ensures.err
+    let is : IsPut c.args.self.now (c.get_mut.follows.lender c.seal.new.self).entries c.args.handle c.in-Some.buffer.now c.seal.new.self =
+    put_here _ _ _ c.args.handle _ _ c.self.view_is (search rules) c.in-Some.ensures.value (c.get_mut.follows.holds c.seal.new.self).0 in
+    done_in _ _ _ _ _ is (λ (b d : Content). OnErr c.seal.result (d ≡ b)) c.seal.ensures.err

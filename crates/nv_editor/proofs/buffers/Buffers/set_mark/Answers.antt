@@ -1,43 +1,46 @@
-use Rattle.std.proofs.Common.{◌≡◌, ap, sym, rules, to_z, of_z, w64, ℕ, ℤ, List, ◌<◌, ◌≤◌, ◌+◌}
+use Rattle.std.proofs.Common.{◌≡◌, refl, ap, rules}
 use Rattle.nv_buffer.specs.Content.{Content}
-use Rattle.nv_editor.specs.inside.Table.{content_in}
-use Rattle.nv_editor.proofs.Slots.{IsAt, place_as, put_rises, put_updated, handle_at, done_in, needed}
-use Rattle.std.specs.Prelude.{◌<ℤ◌, ◌+ℤ◌, pos, [], IfOk, OnOk, OnErr, Option}
-use Rattle.nv_buffer.specs.Content.{after_edit, event_at, after_seal}
-use Rattle.nv_buffer.specs.Changes.{Fits, text_at}
-use Rattle.nv_buffer.specs.Marks.{IsMarkIn, IsMarked, IsUnmarked}
-use Rattle.nv_undo.specs.Tree.{tree_after_leg}
-use Rattle.nv_undo.specs.Ways.{IsNext}
-use Rattle.nv_marks.specs.Marks.{mark_at}
-use Rattle.nv_editor.proofs.Slots.{either, on_ok, on_err, seal_handle}
+use Rattle.nv_editor.proofs.NamesKept.{numbers_stay}
+use Rattle.nv_editor.proofs.Putting.{IsPut, put_here, put_updated, done_in, needed, looked_up_by, not_there}
+use Rattle.std.specs.Prelude.{OnOk, OnErr}
+use Rattle.nv_buffer.specs.Marks.{IsMarkIn, IsMarked}
 use Rattle.nv_editor.proofs.buffers.Buffers.set_mark.Goals as goal
+
+pub unreachable-requires : goal.unreachable-requires
+unreachable-requires c =
+    not_there c.self.inside.items.entries c.args.self.now c.args.handle c.self.view_is (search rules) c.in_default.ensures.value c.requires.there
 
 pub set_mark-requires : goal.set_mark-requires
 set_mark-requires c =
-    let is : IsAt c.self.inside.items.items c.args.self.now c.args.handle c.place_in-place.result = record { view = c.self.view_is; rises = c.self.invariant; place = place_as c.as_slice.result.now _ _ _ c.place_in-place.result c.as_slice.ensures.value (search rules) c.place_in-place.ensures.place } in
-    record { places = needed _ _ _ _ c.index_mut-buffer.result.now is c.index_mut-buffer.ensures.value (λ (b : Content). IsMarkIn b.text c.args.mark) c.requires.places }
+    let was = looked_up_by _ _ c.args.handle _ c.self.view_is (search rules) c.in-Some.ensures.value in
+    record { places = needed c.args.self.now c.args.handle _ was (λ (b : Content). IsMarkIn b.text c.args.mark) c.requires.places }
 
 pub invariant_of-self : goal.invariant_of-self
 invariant_of-self c =
-    let is : IsAt c.self.inside.items.items c.args.self.now c.args.handle c.place_in-place.result = record { view = c.self.view_is; rises = c.self.invariant; place = place_as c.as_slice.result.now _ _ _ c.place_in-place.result c.as_slice.ensures.value (search rules) c.place_in-place.ensures.place } in
-    put_rises _ _ _ _ c.set_mark.new.self is (handle_at _ _ _ _ c.index_mut-buffer.result.now c.set_mark.new.self is c.index_mut-buffer.ensures.value (ap (λ (b : Content). b.handle) c.set_mark.ensures.rest))
+    let is : IsPut c.self.inside.items.entries (c.get_mut.follows.lender c.set_mark.new.self).entries c.args.handle c.in-Some.buffer.now c.set_mark.new.self =
+    put_here _ _ _ c.args.handle _ _ refl (search rules) c.in-Some.ensures.value (c.get_mut.follows.holds c.set_mark.new.self).0 in
+    numbers_stay _ _ _ _ _ _ is (ap (λ (b : Content). b.name) c.set_mark.ensures.rest) c.self.invariant
 
 pub returns-clause-updated : goal.returns-clause-updated
 returns-clause-updated c =
-    let is : IsAt c.self.inside.items.items c.args.self.now c.args.handle c.place_in-place.result = record { view = c.self.view_is; rises = c.self.invariant; place = place_as c.as_slice.result.now _ _ _ c.place_in-place.result c.as_slice.ensures.value (search rules) c.place_in-place.ensures.place } in
-    put_updated _ _ _ _ c.set_mark.new.self is (handle_at _ _ _ _ c.index_mut-buffer.result.now c.set_mark.new.self is c.index_mut-buffer.ensures.value (ap (λ (b : Content). b.handle) c.set_mark.ensures.rest))
+    let is : IsPut c.args.self.now (c.get_mut.follows.lender c.set_mark.new.self).entries c.args.handle c.in-Some.buffer.now c.set_mark.new.self =
+    put_here _ _ _ c.args.handle _ _ c.self.view_is (search rules) c.in-Some.ensures.value (c.get_mut.follows.holds c.set_mark.new.self).0 in
+    put_updated _ _ _ _ _ is
 
 pub returns-clause-marks : goal.returns-clause-marks
 returns-clause-marks c =
-    let is : IsAt c.self.inside.items.items c.args.self.now c.args.handle c.place_in-place.result = record { view = c.self.view_is; rises = c.self.invariant; place = place_as c.as_slice.result.now _ _ _ c.place_in-place.result c.as_slice.ensures.value (search rules) c.place_in-place.ensures.place } in
-    done_in _ _ _ _ c.index_mut-buffer.result.now c.set_mark.new.self is c.index_mut-buffer.ensures.value (ap (λ (b : Content). b.handle) c.set_mark.ensures.rest) (λ (b d : Content). OnOk c.set_mark.result (IsMarked b.marks d.marks c.args.mark)) c.set_mark.ensures.marks
+    let is : IsPut c.args.self.now (c.get_mut.follows.lender c.set_mark.new.self).entries c.args.handle c.in-Some.buffer.now c.set_mark.new.self =
+    put_here _ _ _ c.args.handle _ _ c.self.view_is (search rules) c.in-Some.ensures.value (c.get_mut.follows.holds c.set_mark.new.self).0 in
+    done_in _ _ _ _ _ is (λ (b d : Content). OnOk c.set_mark.result (IsMarked b.marks d.marks c.args.mark)) c.set_mark.ensures.marks
 
 pub returns-clause-rest : goal.returns-clause-rest
 returns-clause-rest c =
-    let is : IsAt c.self.inside.items.items c.args.self.now c.args.handle c.place_in-place.result = record { view = c.self.view_is; rises = c.self.invariant; place = place_as c.as_slice.result.now _ _ _ c.place_in-place.result c.as_slice.ensures.value (search rules) c.place_in-place.ensures.place } in
-    done_in _ _ _ _ c.index_mut-buffer.result.now c.set_mark.new.self is c.index_mut-buffer.ensures.value (ap (λ (b : Content). b.handle) c.set_mark.ensures.rest) (λ (b d : Content). d ≡ record b { marks = d.marks }) c.set_mark.ensures.rest
+    let is : IsPut c.args.self.now (c.get_mut.follows.lender c.set_mark.new.self).entries c.args.handle c.in-Some.buffer.now c.set_mark.new.self =
+    put_here _ _ _ c.args.handle _ _ c.self.view_is (search rules) c.in-Some.ensures.value (c.get_mut.follows.holds c.set_mark.new.self).0 in
+    done_in _ _ _ _ _ is (λ (b d : Content). d ≡ record b { marks = d.marks }) c.set_mark.ensures.rest
 
 pub returns-clause-err : goal.returns-clause-err
 returns-clause-err c =
-    let is : IsAt c.self.inside.items.items c.args.self.now c.args.handle c.place_in-place.result = record { view = c.self.view_is; rises = c.self.invariant; place = place_as c.as_slice.result.now _ _ _ c.place_in-place.result c.as_slice.ensures.value (search rules) c.place_in-place.ensures.place } in
-    done_in _ _ _ _ c.index_mut-buffer.result.now c.set_mark.new.self is c.index_mut-buffer.ensures.value (ap (λ (b : Content). b.handle) c.set_mark.ensures.rest) (λ (b d : Content). OnErr c.set_mark.result (d ≡ b)) c.set_mark.ensures.err
+    let is : IsPut c.args.self.now (c.get_mut.follows.lender c.set_mark.new.self).entries c.args.handle c.in-Some.buffer.now c.set_mark.new.self =
+    put_here _ _ _ c.args.handle _ _ c.self.view_is (search rules) c.in-Some.ensures.value (c.get_mut.follows.holds c.set_mark.new.self).0 in
+    done_in _ _ _ _ _ is (λ (b d : Content). OnErr c.set_mark.result (d ≡ b)) c.set_mark.ensures.err

@@ -1,17 +1,62 @@
-use Rattle.std.proofs.Common.{◌≡◌, ℕ, ℤ, List, ◌≤◌, length, sym, subst, rules, to_z, of_z, w64}
-use Rattle.nv_buffer.specs.Splices.{IsInLine}
-use Rattle.nv_model.specs.Buffers.{rows_splice, text_splice}
-use Rattle.nv_editor.specs.inside.Table.{content_in}
+use Rattle.std.proofs.Common.{◌≡◌, refl, rules, ℤ, ◌<◌, ◌≤◌, ◌+◌}
+use Rattle.nv_buffer.specs.Content.{Content}
+use Rattle.nv_model.specs.Buffers.{rows_splice}
 use Rattle.nv_editor.specs.inside.Splicing.{IsMadeOrLeft}
-use Rattle.nv_editor.proofs.MadeSplices.{rows_made, text_made}
+use Rattle.nv_editor.proofs.MadeSplices.{rows_made_ok}
+use Rattle.nv_editor.proofs.NamesKept.{edit_name, numbers_stay}
+use Rattle.nv_editor.proofs.Putting.{IsPut, put_here, put_updated, done_in, needed, looked_up_by, not_there}
+use Rattle.std.specs.Prelude.{◌^◌, ◌<ℤ◌, length, [], Option, IfOk, OnErr, pos}
+use Rattle.nv_places.specs.Flat.{flat}
+use Rattle.nv_buffer.specs.declared.buffer.Spliced.{Spliced}
 use Rattle.nv_editor.proofs.buffers.Buffers.splice_lines.Goals as goal
+
+pub unreachable-requires : goal.unreachable-requires
+unreachable-requires c =
+    not_there c.self.inside.items.entries c.args.self.now c.args.handle c.self.view_is (search rules) c.in_default.ensures.value c.requires.there
+
+pub put_lines-made-requires-clause-within : goal.put_lines-made-requires-clause-within
+put_lines-made-requires-clause-within c =
+    let was = looked_up_by _ _ c.args.handle _ c.self.view_is (search rules) c.in-Some.ensures.value in
+    needed c.args.self.now c.args.handle _ was (λ (b : Content). c.args.to ≤ length b.text) c.requires.within
+
+pub put_lines-made-requires-clause-left : goal.put_lines-made-requires-clause-left
+put_lines-made-requires-clause-left c =
+    let was = looked_up_by _ _ c.args.handle _ c.self.view_is (search rules) c.in-Some.ensures.value in
+    needed c.args.self.now c.args.handle _ was (λ (b : Content). c.args.to < c.args.from + length c.args.new + length b.text) c.requires.left
+
+pub put_lines-made-requires-clause-count : goal.put_lines-made-requires-clause-count
+put_lines-made-requires-clause-count c =
+    let was = looked_up_by _ _ c.args.handle _ c.self.view_is (search rules) c.in-Some.ensures.value in
+    needed c.args.self.now c.args.handle _ was (λ (b : Content). c.args.from + length c.args.new + length b.text < c.args.to + 2 ^ 32) c.requires.count
+
+pub put_lines-made-requires-clause-tick : goal.put_lines-made-requires-clause-tick
+put_lines-made-requires-clause-tick c =
+    let was = looked_up_by _ _ c.args.handle _ c.self.view_is (search rules) c.in-Some.ensures.value in
+    needed c.args.self.now c.args.handle _ was (λ (b : Content). ¬ ((c.args.from ≡ c.args.to) × (c.args.new ≡ [])) → b.tick <ℤ pos 9223372036854775807) c.requires.tick
+
+pub invariant_of-self : goal.invariant_of-self
+invariant_of-self c =
+    let is : IsPut c.self.inside.items.entries (c.get_mut.follows.lender c.put_lines-made.new.self).entries c.args.handle c.in-Some.buffer.now c.put_lines-made.new.self =
+    put_here _ _ _ c.args.handle _ _ refl (search rules) c.in-Some.ensures.value (c.get_mut.follows.holds c.put_lines-made.new.self).0 in
+    numbers_stay _ _ _ _ _ _ is (edit_name (flat c.args.new) c.put_lines-made.result c.in-Some.buffer.now c.put_lines-made.new.self c.put_lines-made.ensures.none c.put_lines-made.ensures.edit c.put_lines-made.ensures.err) c.self.invariant
+
+pub returns-clause-updated : goal.returns-clause-updated
+returns-clause-updated c =
+    let is : IsPut c.args.self.now (c.get_mut.follows.lender c.put_lines-made.new.self).entries c.args.handle c.in-Some.buffer.now c.put_lines-made.new.self =
+    put_here _ _ _ c.args.handle _ _ c.self.view_is (search rules) c.in-Some.ensures.value (c.get_mut.follows.holds c.put_lines-made.new.self).0 in
+    put_updated _ _ _ _ _ is
 
 pub returns-clause-made : goal.returns-clause-made
 returns-clause-made c =
-    let n : ℤ = to_z w64 (of_z w64 c.args.handle) in
-    let e : n ≡ c.args.handle = search rules in
-    let done = c.in_ok-made.ensures in
-    subst (λ (k : ℤ). IsMadeOrLeft c.in_ok-made.made (content_in c.args.self.now k) (content_in c.put_lines.new.self k) (rows_splice (content_in c.args.self.now k).text c.args.from c.args.to c.args.new)) e
-    (rows_made c.in_ok-made.made (content_in c.args.self.now n) (content_in c.put_lines.new.self n) c.args.from c.args.to c.args.new c.requires.order
-    (subst (λ (k : ℤ). c.args.to ≤ length (content_in c.args.self.now k).text) (sym e) c.requires.within)
-    c.known.ensures.buffer c.known.ensures.text c.known-2.ensures.text done.some done.none done.told done.edit)
+    let is : IsPut c.args.self.now (c.get_mut.follows.lender c.put_lines-made.new.self).entries c.args.handle c.in-Some.buffer.now c.put_lines-made.new.self =
+    put_here _ _ _ c.args.handle _ _ c.self.view_is (search rules) c.in-Some.ensures.value (c.get_mut.follows.holds c.put_lines-made.new.self).0 in
+    done_in _ _ _ _ _ is (λ (b d : Content). IfOk c.put_lines-made.result (λ (s : Option Spliced). IsMadeOrLeft s b d (rows_splice b.text c.args.from c.args.to c.args.new)))
+    (rows_made_ok c.put_lines-made.result c.in-Some.buffer.now c.put_lines-made.new.self c.args.from c.args.to c.args.new c.requires.order
+    (needed c.args.self.now c.args.handle _ is.was (λ (b : Content). c.args.to ≤ length b.text) c.requires.within)
+    c.known.ensures.buffer c.known.ensures.text c.known-2.ensures.text c.put_lines-made.ensures.some c.put_lines-made.ensures.none c.put_lines-made.ensures.told c.put_lines-made.ensures.edit)
+
+pub returns-clause-err : goal.returns-clause-err
+returns-clause-err c =
+    let is : IsPut c.args.self.now (c.get_mut.follows.lender c.put_lines-made.new.self).entries c.args.handle c.in-Some.buffer.now c.put_lines-made.new.self =
+    put_here _ _ _ c.args.handle _ _ c.self.view_is (search rules) c.in-Some.ensures.value (c.get_mut.follows.holds c.put_lines-made.new.self).0 in
+    done_in _ _ _ _ _ is (λ (b d : Content). OnErr c.put_lines-made.result (d ≡ b)) c.put_lines-made.ensures.err

@@ -1,23 +1,29 @@
-use Rattle.std.proofs.Common.{◌≡◌, ℤ, List, pos, sym, ap, subst, ◌∙◌, rules, to_z, of_z, w64}
+use Rattle.std.proofs.Common.{◌≡◌, ℕ, ℤ, List, Some, refl, sym, subst, rules}
 use Rattle.nv_buffer.specs.Content.{Content}
-use Rattle.nv_editor.specs.inside.Replacing.{IsTakenOut}
-use Rattle.nv_editor.specs.inside.Table.{IsPlaceOf, entries_of}
-use Rattle.nv_editor.proofs.Rising.{Rises}
-use Rattle.nv_editor.proofs.Slots.{place_as}
-use Rattle.nv_editor.proofs.TakingOut.{but_rises, taken_out, removed_is}
+use Rattle.nv_editor.specs.inside.Named.{AreNameCounts, number_named, with_one_of}
+use Rattle.nv_editor.proofs.NamesKept.{numbers_before}
+use Rattle.nv_editor.proofs.Putting.{looked_up_by}
+use Rattle.nv_editor.proofs.TakingOut.{but_at, removed_here, taken_out}
 use Rattle.nv_editor.proofs.buffers.Buffers.take_out.Goals as goal
 
 pub invariant_of-self : goal.invariant_of-self
 invariant_of-self c =
-    let e : to_z w64 (of_z w64 c.args.handle) ≡ c.args.handle = search rules in
-    let place = place_as c.as_slice.result.now c.self.inside.items.items (to_z w64 (of_z w64 c.args.handle)) c.args.handle c.place_in-place.result c.as_slice.ensures.value e c.place_in-place.ensures.place in
-    let is = removed_is c.self.inside.items.items c.remove.new.self.items c.place_in-place.result c.remove.ensures.by_index.2 in
-    subst (λ (l : List Content). Rises (pos 1) l) (sym is) (but_rises (pos 1) c.self.inside.items.items c.args.handle c.place_in-place.result c.self.invariant place)
+    let es = c.self.inside.items.entries in
+    let was = looked_up_by es es c.args.handle (Some c.in-Some.buffer) refl (search rules) c.in-Some.ensures.value in
+    let left = removed_here es es c.remove.new.self.entries c.args.handle refl (search rules) c.remove.ensures.entries in
+    let others = number_named (but_at c.args.handle es) in
+    let named : c.as_slice.result.now ≡ c.in-Some.buffer.name = search rules in
+    subst (λ (l : List (ℤ × Content)). AreNameCounts c.take.new.self.counts (number_named l)) (sym left)
+    (c.take.ensures others
+    (subst (λ (l : List ℕ). AreNameCounts c.self.inside.names.counts (with_one_of l others)) (sym named)
+    (numbers_before _ es c.args.handle c.in-Some.buffer was c.self.invariant)))
 
-pub returns : goal.returns
-returns c =
-    let e : to_z w64 (of_z w64 c.args.handle) ≡ c.args.handle = search rules in
-    let place = place_as c.as_slice.result.now c.self.inside.items.items (to_z w64 (of_z w64 c.args.handle)) c.args.handle c.place_in-place.result c.as_slice.ensures.value e c.place_in-place.ensures.place in
-    let is = removed_is c.self.inside.items.items c.remove.new.self.items c.place_in-place.result c.remove.ensures.by_index.2 in
-    subst (λ (l : List Content). IsTakenOut c.args.self.now (entries_of l) c.args.handle) (sym is)
-    (taken_out c.self.inside.items.items c.args.self.now c.args.handle c.place_in-place.result c.self.view_is c.self.invariant place)
+pub returns-in-Some : goal.returns-in-Some
+returns-in-Some c =
+    taken_out c.self.inside.items.entries c.args.self.now c.remove.new.self.entries c.args.handle c.self.view_is (search rules)
+    c.remove.ensures.updates.1 c.remove.ensures.entries
+
+pub returns-in_default : goal.returns-in_default
+returns-in_default c =
+    taken_out c.self.inside.items.entries c.args.self.now c.remove.new.self.entries c.args.handle c.self.view_is (search rules)
+    c.remove.ensures.updates.1 c.remove.ensures.entries

@@ -5,7 +5,7 @@ use Rattle.nv_buffer.specs.Changes.{leg_edits}
 use Rattle.nv_buffer.specs.declared.edit.Edit.{Edit}
 use Rattle.nv_editor.specs.Sound.{content_at, is_live_buffer}
 use Rattle.nv_editor.specs.inside.Walks.{IsLegMade}
-use Rattle.nv_editor.proofs.Going.{making_first, making_fits, making_edit, making_on, made_next, made_text, made_leg, made_facts}
+use Rattle.nv_editor.proofs.Going.{making_first, making_along, making_fits, making_edit, making_on, made_next, made_text, made_leg, made_facts}
 use Rattle.nv_editor.proofs.editor.Editor.go.Goals as goal
 
 pub loop-place-init : goal.loop-place-init
@@ -17,6 +17,16 @@ loop-place-init c =
     subst (λ (k : ℤ). IsNext (content_at c.args.self.now k).undo c.args.leg) (sym e) c.requires.next in
     let live = subst (λ (k : ℤ). is_live_buffer c.args.self.now k ≡ true) (sym e) c.requires.live in
     making_first n c.args.leg c.args.self.now c.args.happened.now live (c.known_buffer.ensures.buffer, closed) c.known_buffer.ensures.edits next
+
+pub leg_edit-requires-clause-text : goal.leg_edit-requires-clause-text
+leg_edit-requires-clause-text c =
+    let e : to_z w64 (of_z w64 c.args.buffer) ≡ c.args.buffer = search rules in
+    let n : ℤ = to_z w64 (of_z w64 c.args.buffer) in
+    let closed : (content_at c.args.self.now n).unsealed ≡ [] = subst (λ (k : ℤ). (content_at c.args.self.now k).unsealed ≡ []) (sym e) c.requires.closed in
+    let next : IsNext (content_at c.args.self.now n).undo c.args.leg =
+    subst (λ (k : ℤ). IsNext (content_at c.args.self.now k).undo c.args.leg) (sym e) c.requires.next in
+    making_along n c.args.leg c.args.self.now c.loop-place.self c.args.happened.now c.loop-place.happened c.loop-place.place c.loop-place.invariant
+    (c.known_buffer.ensures.buffer, closed) next
 
 pub make_edit-requires-clause-fits : goal.make_edit-requires-clause-fits
 make_edit-requires-clause-fits c =

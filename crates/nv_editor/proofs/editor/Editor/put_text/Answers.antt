@@ -1,9 +1,7 @@
-use Rattle.std.proofs.Common.{◌≡◌, ℤ, List, [], ◌∷◌, ◌++◌, Option, sym, ap, subst, ◌∙◌, rules, to_z, of_z, w64, All}
-use Rattle.std.specs.Prelude.{OnOk}
+use Rattle.std.proofs.Common.{◌≡◌, ℤ, List, [], ◌∷◌, ◌++◌, Option, sym, subst, rules, to_z, of_z, w64, All}
 use Rattle.nv_value.specs.Content.{nil}
 use Rattle.nv_buffer.specs.declared.buffer.Spliced.{Spliced}
 use Rattle.nv_model.specs.Answering.{splice_answer}
-use Rattle.nv_model.specs.Answers.{Fact}
 use Rattle.nv_model.specs.Buffers.{text_splice}
 use Rattle.nv_model.specs.Stage.{Stage}
 use Rattle.nv_model.specs.Standing.{PresentEditor, seen_buffer_now}
@@ -13,9 +11,9 @@ use Rattle.nv_editor.specs.Sound.{IsSoundEditor, content_at}
 use Rattle.nv_editor.specs.inside.Splicing.{IsMade, IsLeft, IsMadeOrLeft}
 use Rattle.nv_editor.specs.inside.Table.{content_in, AreKeptBuffers}
 use Rattle.nv_editor.proofs.Carrying.{IsEdited, made_is_edited, narrowly, moves_narrowly, edited_sound}
-use Rattle.nv_editor.proofs.Slots.{on_ok}
+use Rattle.nv_editor.proofs.Putting.{on_ok}
 use Rattle.nv_editor.proofs.StageKept.{editor_of}
-use Rattle.nv_editor.proofs.TextDone.{more_kept, left_sound, left_kept, left_replies, made_kept, made_replies}
+use Rattle.nv_editor.proofs.TextDone.{left_sound, left_kept, left_replies, made_kept, made_replies}
 use Rattle.nv_editor.proofs.editor.Editor.put_text.Goals as goal
 
 pub invariant_of-self : goal.invariant_of-self

@@ -6,7 +6,9 @@ use Rattle.nv_watch.proofs.Checked.{checked_more}
 use Rattle.nv_watch.proofs.mark_check.MarkCheckWatcher.see.Goals as goal
 
 pub returns-clause-seen : goal.returns-clause-seen
-returns-clause-seen c = λ seen old.
-    subst (λ (v : Verdict). HasCheckedIn (option_map (λ v'. v'.items) c.renew.new.ends) v (seen ++ sight c.args.world.now c.args.step.now ∷ []))
-    (sym c.with-self.ensures)
-    (checked_more _ _ _ seen (sight c.args.world.now c.args.step.now) _ c.in_ok-broken.ensures c.in_ok-renew.ensures old)
+returns-clause-seen c = λ seen old. (
+  old.0,
+  subst (λ (v : Verdict). HasCheckedIn (option_map (λ v'. v'.items) c.renew.new.ends) v (seen ++ sight c.args.world.now c.args.step.now ∷ []))
+      (sym c.with-self.ensures)
+      (checked_more _ _ _ seen (sight c.args.world.now c.args.step.now) _ c.in_ok-broken.ensures c.in_ok-renew.ensures old.1),
+)

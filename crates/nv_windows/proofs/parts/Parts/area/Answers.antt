@@ -28,7 +28,7 @@ rect_of-requires-clause-roomy c =
     let h : c.in_ok-home.home < length (workspace_of c.args.self.now).tabpages = omega (arith, c.in_ok-home.ensures.within, ap length c.deref.ensures.value, length-map c.args.self.now.tabpages.items page_of) in
     let is = page_is (workspace_of c.args.self.now) c.args.self.now.tabpages.items c.in_ok-home.home c.index.result.now refl (omega (arith, c.in_ok-home.ensures.within, ap length c.deref.ensures.value)) c.index.ensures in
     let page : IsSoundPage c.args.self.now.width c.args.self.now.height (page_of c.index.result.now) = subst (IsSoundPage c.args.self.now.width c.args.self.now.height) is (sound_at (workspace_of c.args.self.now) c.in_ok-home.home c.requires h) in
-    subst (λ n. IsRoomy (shape_of c.index.result.now.tree) (record { row = 0; col = 0; width = c.args.self.now.width; height = n })) (sym c.saturating_sub.ensures) page.roomy
+    subst (IsRoomy (shape_of c.index.result.now.tree)) (sym c.windows_area-screen.ensures) page.roomy
 
 pub returns-in_err-rect : goal.returns-in_err-rect
 returns-in_err-rect c =
@@ -46,7 +46,7 @@ returns c =
     let is = page_is (workspace_of c.args.self.now) c.args.self.now.tabpages.items c.in_ok-home.home c.index.result.now refl (omega (arith, c.in_ok-home.ensures.within, ap length c.deref.ensures.value)) c.index.ensures in
     let page : IsSoundPage c.args.self.now.width c.args.self.now.height (page_of c.index.result.now) = subst (IsSoundPage c.args.self.now.width c.args.self.now.height) is (sound_at (workspace_of c.args.self.now) c.in_ok-home.home c.requires h) in
     let found : Some c.in_ok-rect.rect ≡ rect_among c.args.window (rects (shape_of c.index.result.now.tree) (windows_area (workspace_of c.args.self.now))) = search rules in
-    ap (λ n. Some (record c.in_ok-rect.rect { height = n })) c.saturating_sub-2.ensures
+    ap Some c.without_status.ensures
     ∙ sym (area_there (workspace_of c.args.self.now) c.args.window c.in_ok-home.home (page_of c.index.result.now) (Some c.in_ok-rect.rect)
     (home_found (workspace_of c.args.self.now) c.args.window c.in_ok-home.home
     (home_is c.deref.result.now c.args.self.now.tabpages.items c.args.window (to_z w64 (of_z w64 c.args.window)) (Some c.in_ok-home.home) c.deref.ensures.value (to_z-of_z w64 c.args.window c.ranges.window) (sym c.in_ok-home.was ∙ c.home_of.ensures.place)) ∙ ap Some is) found)

@@ -8,8 +8,11 @@ use Rattle.nv_windows.specs.Sound.{IsSoundWorkspace}
 use Rattle.nv_windows.proofs.Soundness.{wish_sound}
 use Rattle.nv_windows.proofs.windows.Windows.put_width.Goals as goal
 
+pub renew-requires : goal.renew-requires
+renew-requires c = subst IsSoundWorkspace (sym c.put_wish.ensures) (wish_sound (workspace_of c.self.inside.parts) (to_z w64 (of_z w64 c.args.window)) Across c.args.n c.self.invariant.sound)
+
 pub invariant_of-self : goal.invariant_of-self
-invariant_of-self c = subst IsSoundWorkspace (sym c.put_wish.ensures) (wish_sound (workspace_of c.self.inside.parts) (to_z w64 (of_z w64 c.args.window)) Across c.args.n c.self.invariant)
+invariant_of-self c = record { sound = subst IsSoundWorkspace (sym c.put_wish.ensures) (wish_sound (workspace_of c.self.inside.parts) (to_z w64 (of_z w64 c.args.window)) Across c.args.n c.self.invariant.sound); seats = c.renew.ensures }
 
 pub returns : goal.returns
 returns c =

@@ -4,5 +4,8 @@ use Rattle.nv_windows.specs.Sound.{IsSoundWorkspace}
 use Rattle.nv_windows.proofs.SoundLaws.{tab_close_sound}
 use Rattle.nv_windows.proofs.windows.Windows.tab_close.Goals as goal
 
+pub renew-requires : goal.renew-requires
+renew-requires c = subst IsSoundWorkspace (sym c.tab_close-closed.ensures.after) (tab_close_sound (workspace_of c.self.inside.parts) c.self.invariant.sound)
+
 pub invariant_of-self : goal.invariant_of-self
-invariant_of-self c = subst IsSoundWorkspace (sym c.tab_close.ensures.after) (tab_close_sound (workspace_of c.self.inside.parts) c.self.invariant)
+invariant_of-self c = record { sound = subst IsSoundWorkspace (sym c.tab_close-closed.ensures.after) (tab_close_sound (workspace_of c.self.inside.parts) c.self.invariant.sound); seats = c.renew.ensures }

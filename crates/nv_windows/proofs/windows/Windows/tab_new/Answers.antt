@@ -4,5 +4,8 @@ use Rattle.nv_windows.specs.Kept.{workspace_of}
 use Rattle.nv_windows.proofs.SoundLaws.{tab_new_sound, either_sound}
 use Rattle.nv_windows.proofs.windows.Windows.tab_new.Goals as goal
 
+pub renew-requires : goal.renew-requires
+renew-requires c = either_sound c.tab_new-tabpage.result (workspace_of c.tab_new-tabpage.new.self) (workspace_of c.self.inside.parts) _ c.tab_new-tabpage.ensures.after c.tab_new-tabpage.ensures.err c.self.invariant.sound (tab_new_sound (workspace_of c.self.inside.parts) (to_z w64 (of_z w64 c.args.buffer)) c.self.invariant.sound)
+
 pub invariant_of-self : goal.invariant_of-self
-invariant_of-self c = either_sound c.tab_new.result (workspace_of c.tab_new.new.self) (workspace_of c.self.inside.parts) _ c.tab_new.ensures.after c.tab_new.ensures.err c.self.invariant (tab_new_sound (workspace_of c.self.inside.parts) (to_z w64 (of_z w64 c.args.buffer)) c.self.invariant)
+invariant_of-self c = record { sound = either_sound c.tab_new-tabpage.result (workspace_of c.tab_new-tabpage.new.self) (workspace_of c.self.inside.parts) _ c.tab_new-tabpage.ensures.after c.tab_new-tabpage.ensures.err c.self.invariant.sound (tab_new_sound (workspace_of c.self.inside.parts) (to_z w64 (of_z w64 c.args.buffer)) c.self.invariant.sound); seats = c.renew.ensures }

@@ -1,0 +1,3 @@
+-- inside: what private contracts alone cite.
+pub mod Measured
+pub mod Paths

@@ -1,0 +1,4 @@
+use Rattle.nv_watch.proofs.counter.CounterWatcher.catch_up.Goals as goal
+
+pub returns-clause-seen : goal.returns-clause-seen
+returns-clause-seen c = λ seen old here. old

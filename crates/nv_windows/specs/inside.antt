@@ -1,0 +1,2 @@
+-- inside: what private contracts alone cite.
+pub mod Seats
