@@ -1,12 +1,12 @@
 #!/usr/bin/python3
 """Clients of `nvimd serve` that ask for much and read nothing: what each costs the server, and that it is given back once the client is gone.
 
-A text of 60,000 lines stands there, and each client asks for it 500 times, in 14 kB of calls. One closes its connection then, one
-is killed, and others are killed one after another, again and again. One attaches 500 times, which tells it all lines each time. Two
-attach the greatest UI: that may cost what it takes, and is given back as well. An honest client beside them is answered all the
-time, and one that waits for its client doesn't keep a processor busy.
+A text of 60,000 lines stands there, and each client asks for it 500 times, in 14 kB of calls. One closes its connection then, one is
+killed, and others are killed one after another, again and again. One makes these calls in one, which have one reply. One attaches 500
+times, which tells it all lines each time. Two attach the greatest UI: that may cost what it takes, and is given back as well. An honest
+client beside them is answered all the time, and one that waits for its client doesn't keep a processor busy.
 
-What counts as rest is what the server holds once honest clients, one in each lane, have read the text.
+What counts as rest is what the server holds once honest clients, one in each lane, have read the text and were told all of it.
 
 Usage: clients/greedy.py [--program PROGRAM]       from anywhere; the launcher `nvimd` without PROGRAM
 Wants Debian's python3-msgpack.
@@ -28,7 +28,7 @@ LINES = 60_000
 TIMES = 500  # that a client asks for the text
 ROUNDS = 24  # clients that are killed, one after another
 LANES = 4
-READS = 4  # that an honest client reads the text before the server is at rest
+READS = 4  # that an honest client reads the text, and is told it, before the server is at rest
 SCREEN = 2_000, 1_000  # the greatest
 MOST = 64  # MB that a client may cost
 KEPT = 0.1  # of what a client cost, or may cost, at most so much is left of it
@@ -84,7 +84,8 @@ class Watched(Serve):
         others = [self.client() for _ in range(LANES - 1)]
         for client in [self.honest, *others]:
             for _ in range(READS):
-                client.call("nvim_buf_get_lines", 1, 0, -1, True)
+                for method, params in [GETS, *ATTACHES]:
+                    client.call(method, *params)
         for client in others:
             client.close()
         self.still()
@@ -149,9 +150,11 @@ def main():
     findings = Findings()
     server = Watched(program)
     gets, attaches = calls(*[GETS] * TIMES), calls(*ATTACHES * TIMES)
+    one = calls(["nvim_call_atomic", [[GETS] * TIMES]])
     attempt(findings, server, f"{len(gets) / 1000:.0f} kB of calls, and it closes", Closing, gets)
     attempt(findings, server, "the same, and it is killed", Dying, gets)
     attempt(findings, server, f"{ROUNDS} that are killed one after another", Dying, gets, rounds=ROUNDS)
+    attempt(findings, server, "the same calls in one, and it closes", Closing, one)
     attempt(findings, server, f"all lines told {TIMES} times", Closing, attaches)
     attempt(findings, server, f"a UI of {SCREEN[0]:,} by {SCREEN[1]:,}, and it closes", Closing, calls(UI), most=None)
     attempt(findings, server, "the same, and it is killed", Dying, calls(UI), most=None)

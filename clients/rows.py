@@ -413,8 +413,7 @@ ROWS = {
          'error [1, "Line number outside range"]'),
         ('nvim_buf_set_lines(0, 0, -1, true, ["abc"]); nvim_create_namespace("a"); nvim_buf_set_extmark(0, 1, 0, 2, {}); nvim_buf_set_text(0, 0, 1, 0, 3, [""]); nvim_buf_set_text(0, 0, 1, 0, 1, ["z"]); nvim_command("undo"); nvim_buf_get_extmarks(0, 1, 0, -1, {})',
          '[[1, 0, 1]]'),
-        ('Undo puts no mark back where it stood', 'nvim_buf_set_lines(0, 0, -1, true, ["abc"]); nvim_create_namespace("a"); nvim_buf_set_extmark(0, 1, 0, 2, {}); nvim_buf_set_text(0, 0, 1, 0, 3, [""]); nvim_command("undo"); nvim_buf_get_extmarks(0, 1, 0, -1, {})',
-         '[[1, 0, 3]]',
+        ('nvim_buf_set_lines(0, 0, -1, true, ["abc"]); nvim_create_namespace("a"); nvim_buf_set_extmark(0, 1, 0, 2, {}); nvim_buf_set_text(0, 0, 1, 0, 3, [""]); nvim_command("undo"); nvim_buf_get_extmarks(0, 1, 0, -1, {})',
          '[[1, 0, 2]]'),
     ],
     'Highlight groups': [

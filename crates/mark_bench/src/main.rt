@@ -74,6 +74,10 @@ impl Plan {
             stop: if self.ends { Some(end) } else { None },
             paint: None,
             priority: 4096,
+            restore: true,
+            invalidate: false,
+            hidden: false,
+            set: 0,
         }
     }
 }

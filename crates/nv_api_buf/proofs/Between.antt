@@ -1,18 +1,21 @@
 -- Lemmas on text between two places, line by line.
-use Rattle.std.proofs.Common.{◌≡◌, ◌≢◌, ℕ, zero, suc, ◌+◌, ◌-◌, ◌==◌, ◌<◌, ◌≤◌, Bool, true, false, cond, List, [], ◌∷◌, ◌++◌, length, take, drop, get_or, refl, sym, ap, ◌∙◌, arith, All, append-nil, append_assoc}
+use Rattle.std.proofs.Common.{◌≡◌, ◌≢◌, ℕ, zero, suc, ◌+◌, ◌-◌, ◌==◌, ◌<◌, ◌≤◌, Bool, true, false, cond, List, [], ◌∷◌, ◌++◌, length, take, drop, get_or, refl, sym, ap, subst, ◌∙◌, arith, All, Some, slice_get, append-nil, append_assoc}
 use Rattle.std.proofs.lemmas.Bool.Decides.{nat_tests}
-use Rattle.std.proofs.lemmas.List.{length-take, length-drop, get_or-take, get_or-drop, take_more, drop-take}
+use Rattle.std.proofs.lemmas.List.{length-take, length-drop, get_or-take, get_or-drop, take_all, take_more, drop-take}
+use Rattle.std.proofs.lemmas.Option.{get_or_from_slice_get}
 use Rattle.std.proofs.lemmas.List.Elements.{All-cons, All-nil, All-head, All-tail, All-take, All-drop}
 use Rattle.std.specs.Prelude.{if◌then◌else◌}
 use Rattle.std.specs.List.{slice_range}
 use Rattle.nv_value.specs.Content.{list}
 use Rattle.nv_msgpack.specs.Shortest.{HasSpelling}
-use Rattle.nv_places.specs.Flat.{line_at}
+use Rattle.nv_lines.proofs.Ranges.{slice_range-more}
+use Rattle.nv_places.specs.Flat.{line_at, IsLine}
 use Rattle.nv_places.specs.declared.place.Pos.{Pos}
-use Rattle.nv_buffer.specs.Splices.{IsNarrowLine, IsNarrowText, with_front, with_back}
+use Rattle.nv_buffer.specs.Splices.{IsInLine, IsNarrowLine, IsNarrowText, with_front, with_back}
 use Rattle.nv_args.specs.Texts.{first_from, last_before, strings, text_between}
 use Rattle.nv_api_buf.specs.inside.Parts.{part_of, joined_line}
 use Rattle.nv_api_buf.proofs.Spelled.{list-spelled}
+use Rattle.nv_api_buf.proofs.TextLemmas.{range_none}
 
 -- the first line joins what stands before it, and no other does
 front-first : (front : List ℕ) (lines : List (List ℕ)) (k : ℕ) → k ≡ 0 → 0 < length lines → get_or (with_front front lines) k [] ≡ front ++ get_or lines k []
@@ -163,6 +166,83 @@ between-more lines start stop row low high within =
     ap (λ n. take n text) step
     ∙ take_more text (row - start.row) [] (omega (arith, length-text lines start stop (omega arith) within))
     ∙ ap (λ (l : List ℕ). take (row - start.row) text ++ l ∷ []) (part-at lines start stop row low high within)
+
+-- a line that lies between two places whole is all of its part
+whole-part : (line : List ℕ) (row : ℕ) (start stop : Pos) → start.row < row → row < stop.row → part_of line row start stop ≡ line
+whole-part line row start stop low high = go (row == start.row) (row == stop.row) refl refl
+  where
+    go : (a b : Bool) → (row == start.row) ≡ a → (row == stop.row) ≡ b → drop (cond a start.col 0) (cond b (take stop.col line) line) ≡ line
+    go false false p q = refl
+    go true b p q = absurd (grind (arith, nat_tests))
+    go false true p q = absurd (grind (arith, nat_tests))
+
+-- a place is in the line that is got from its row
+pub part-place : (lines : List (List ℕ)) (row : ℕ) (line : List ℕ) (place : Pos) → IsInLine lines place → Some line ≡ slice_get lines row
+    → row ≡ place.row → place.col ≤ length line
+part-place lines row line place h there same =
+    let e : line_at lines place.row ≡ line = ap (line_at lines) (sym same) ∙ get_or_from_slice_get lines row line [] (sym there) in
+    subst (λ (l : List ℕ). place.col ≤ length l) e h.col
+
+-- a part of a line is one
+pub part-line : (line : List ℕ) (row : ℕ) (start stop : Pos) → IsLine line → IsLine (part_of line row start stop)
+part-line line row start stop h = go (row == start.row) (row == stop.row)
+  where
+    go : (a b : Bool) → IsLine (drop (cond a start.col 0) (cond b (take stop.col line) line))
+    go a true = All-drop (λ n. n ≢ 10) (cond a start.col 0) (take stop.col line) (All-take (λ n. n ≢ 10) stop.col line h)
+    go a false = All-drop (λ n. n ≢ 10) (cond a start.col 0) line h
+
+-- the part of the line that is got from a row
+pub part-got : (lines : List (List ℕ)) (row : ℕ) (line : List ℕ) (start stop : Pos) → Some line ≡ slice_get lines row
+    → part_of line row start stop ≡ part_of (line_at lines row) row start stop
+part-got lines row line start stop there =
+    ap (λ (l : List ℕ). part_of l row start stop) (sym (get_or_from_slice_get lines row line [] (sym there)))
+
+-- the first line of the text between two places, and those behind it up to a row
+pub between-rows : (lines : List (List ℕ)) (start stop : Pos) (n : ℕ) → start.row + 1 + n ≤ stop.row → stop.row < length lines
+    → take (start.row + 1 + n - start.row) (text_between lines start stop)
+    ≡ part_of (line_at lines start.row) start.row start stop ∷ slice_range lines (start.row + 1) (start.row + 1 + n)
+between-rows lines start stop zero high within =
+    let text = text_between lines start stop in
+    let first : List ℕ = part_of (line_at lines start.row) start.row start stop in
+    ap (λ n. take n text) (let same : start.row + 1 + zero - start.row ≡ start.row + 1 - start.row = omega arith in same)
+    ∙ between-more lines start stop start.row (omega arith) (omega arith) within
+    ∙ ap (λ n. take n text ++ first ∷ []) (let none : start.row - start.row ≡ 0 = omega arith in none)
+    ∙ ap (λ l. first ∷ l) (sym (range_none lines (start.row + 1) (start.row + 1 + zero) (omega arith)))
+between-rows lines start stop (suc n) high within =
+    let text = text_between lines start stop in
+    let first : List ℕ = part_of (line_at lines start.row) start.row start stop in
+    let row = start.row + 1 + n in
+    let next : start.row + 1 + suc n ≡ row + 1 = omega arith in
+    ap (λ m. take (m - start.row) text) next
+    ∙ between-more lines start stop row (omega arith) (omega arith) within
+    ∙ ap (λ (l : List ℕ). take (row - start.row) text ++ l ∷ []) (whole-part (line_at lines row) row start stop (omega arith) (omega arith))
+    ∙ ap (λ l. l ++ line_at lines row ∷ []) (between-rows lines start stop n (omega arith) within)
+    ∙ ap (λ l. first ∷ l) (sym (slice_range-more lines (start.row + 1) row [] (omega arith) (omega arith)))
+    ∙ ap (λ m. first ∷ slice_range lines (start.row + 1) m) (sym next)
+
+-- the text between two places of one row
+pub between-one : (lines : List (List ℕ)) (start stop : Pos) → start.row ≡ stop.row → stop.row < length lines
+    → text_between lines start stop ≡ part_of (line_at lines start.row) start.row start stop ∷ []
+between-one lines start stop same within =
+    let text = text_between lines start stop in
+    sym (take_all (start.row + 1 - start.row) text (omega (arith, length-text lines start stop (omega arith) within)))
+    ∙ between-more lines start stop start.row (omega arith) (omega arith) within
+    ∙ ap (λ n. take n text ++ part_of (line_at lines start.row) start.row start stop ∷ []) (let none : start.row - start.row ≡ 0 = omega arith in none)
+
+-- and of several
+pub between-several : (lines : List (List ℕ)) (start stop : Pos) → start.row < stop.row → stop.row < length lines
+    → text_between lines start stop
+    ≡ (part_of (line_at lines start.row) start.row start stop ∷ slice_range lines (start.row + 1) stop.row) ++ part_of (line_at lines stop.row) stop.row start stop ∷ []
+between-several lines start stop order within =
+    let text = text_between lines start stop in
+    let last : List ℕ = part_of (line_at lines stop.row) stop.row start stop in
+    let n = stop.row - (start.row + 1) in
+    let place : start.row + 1 + n ≡ stop.row = omega arith in
+    sym (take_all (stop.row + 1 - start.row) text (omega (arith, length-text lines start stop (omega arith) within)))
+    ∙ between-more lines start stop stop.row (omega arith) (omega arith) within
+    ∙ ap (λ m. take (m - start.row) text ++ last ∷ []) (sym place)
+    ∙ ap (λ l. l ++ last ∷ []) (between-rows lines start stop n (omega arith) within)
+    ∙ ap (λ m. (part_of (line_at lines start.row) start.row start stop ∷ slice_range lines (start.row + 1) m) ++ last ∷ []) place
 
 -- lines that are narrow stay so where less of the first and of the last is taken
 first-narrow : (col : ℕ) (lines : List (List ℕ)) → All IsNarrowLine lines → All IsNarrowLine (first_from col lines)

@@ -1,5 +1,5 @@
 -- Steps of a call that decide what it answers.
-use Rattle.std.proofs.Common.{◌≡◌, Bool, true, false, not, ◌&&◌, cond, List, length, refl, sym, ap, subst, ◌∙◌, Ok, Err, Result, Option, None, append-nil, []}
+use Rattle.std.proofs.Common.{◌≡◌, ℕ, Bool, true, false, not, ◌&&◌, cond, List, length, refl, sym, ap, subst, ◌∙◌, Ok, Err, Result, Option, None, append-nil, []}
 use Rattle.nv_places.specs.Flat.{flat, lines_of}
 use Rattle.nv_args.specs.Faults.{not_modifiable, limit_reached}
 use Rattle.nv_args.specs.Refusals.{Finds, Refuses}
@@ -18,6 +18,7 @@ use Rattle.nv_model.specs.Answers.{Answer, Fact, refused, replied}
 use Rattle.nv_model.specs.Standing.{PresentEditor}
 use Rattle.nv_editor.specs.Doing.{Does, GivesAnswer, ReadsAnswer, Replies}
 use Rattle.nv_model.specs.declared.parts.Limits.{Limits}
+use Rattle.nv_api_buf.specs.Excerpts.{ReadsLines}
 use Rattle.nv_api_buf.specs.Texts.{event_passes}
 use Rattle.nv_api_buf.specs.inside.Deciding.{IsRefused, unless_barred}
 
@@ -61,6 +62,19 @@ reads_refused answer between NoMemory is refuses = tt
 
 pub reads_on : (answer between : Answer) (result : Result Value Fail) → answer ≡ between → ReadsAnswer between result → ReadsAnswer answer result
 reads_on answer between result is reads = subst (λ (a : Answer). ReadsAnswer a result) (sym is) reads
+
+-- the same of a call that reads lines
+pub lines_refused : (answer between : Answer) (fail : Fail) → answer ≡ between → IsRefused between fail → ReadsLines answer (Err fail)
+lines_refused answer between (Api fault) is refuses = (is ∙ refuses.0, refuses.1)
+lines_refused answer between NoMemory is refuses = tt
+
+pub lines_on : (answer between : Answer) (result : Result (List (List ℕ)) Fail) → answer ≡ between → ReadsLines between result → ReadsLines answer result
+lines_on answer between result is reads = subst (λ (a : Answer). ReadsLines a result) (sym is) reads
+
+-- lines that were read, as a value
+pub lines_as_value : (answer : Answer) (fail : Fail) → ReadsLines answer (Err fail) → ReadsAnswer answer (Err fail)
+lines_as_value answer (Api fault) reads = reads
+lines_as_value answer NoMemory reads = tt
 
 -- and of one that changes the editor
 pub gives_refused : (answer between : Answer) (fail : Fail) (e : PresentEditor) (told : List Fact) → answer ≡ between → IsRefused between fail

@@ -15,8 +15,9 @@ use Rattle.nv_buffer.specs.Splices.{IsInLine, with_front, with_back, lines_betwe
 use Rattle.nv_buffer.proofs.Between.{flat-text_splice}
 use Rattle.nv_buffer.proofs.Measures.{row_start-mono, row_start-next, not_before_row}
 use Rattle.nv_args.specs.Texts.{left_with}
+use Rattle.nv_buffer.specs.declared.edit.ChangePart.{ChangePart}
 use Rattle.nv_model.specs.Buffers.{Splice, rows_splice, text_splice, text_after, is_empty_splice, row_behind, lines_in_place}
-use Rattle.nv_model.proofs.Splicing.{lines_put}
+use Rattle.nv_model.proofs.BytesPut.{lines_put}
 
 -- how many lines there are after a splice
 pub length-splice : (lines new : List (List ℕ)) (from to : ℕ) → from ≤ to → to ≤ length lines
@@ -58,9 +59,9 @@ row-place lines row are low =
     ∙ ap (λ (q : Pos). q.row) (place-offset lines p are (record { row = low; col = omega arith })).1
 
 -- lines put in place of rows
-pub rows_put : (text new : List (List ℕ)) (from to : ℕ) → from ≤ to → to ≤ length text → All IsLine text → All IsLine new
-    → PutsLines text (rows_splice text from to new) from to new
-rows_put text new from to order within are put =
+pub rows_put : (part : ChangePart) (text new : List (List ℕ)) (from to : ℕ) → from ≤ to → to ≤ length text → All IsLine text → All IsLine new
+    → PutsLines text (rows_splice part text from to new) from to new
+rows_put part text new from to order within are put =
     let end : (place_of (flat text) (row_start text to)).row + 0 ≡ to = omega (arith, row-place text to are within) in
     record {
       order = order;
@@ -73,10 +74,10 @@ rows_put text new from to order within are put =
     }
 
 -- lines put between two places
-pub text_put : (text new joined : List (List ℕ)) (start stop : Pos) → IsInLine text start → IsInLine text stop → is_before stop start ≡ false
+pub text_put : (part : ChangePart) (text new joined : List (List ℕ)) (start stop : Pos) → IsInLine text start → IsInLine text stop → is_before stop start ≡ false
     → 0 < length new → All IsLine text → joined ≡ lines_between text start stop new → All IsLine joined
-    → PutsLines text (text_splice text start stop new) start.row (stop.row + 1) joined
-text_put text new joined start stop start_in stop_in order some are same put =
+    → PutsLines text (text_splice part text start stop new) start.row (stop.row + 1) joined
+text_put part text new joined start stop start_in stop_in order some are same put =
     let rows : start.row ≤ stop.row = not_before_row start stop order in
     let from = place-offset text start are (record { row = omega (arith, start_in.row); col = start_in.col }) in
     let until = place-offset text stop are (record { row = omega (arith, stop_in.row); col = stop_in.col }) in
@@ -107,16 +108,16 @@ some-of [] some = absurd (some refl)
 some-of (line ∷ lines) some = omega arith
 
 -- no rows and no lines are nothing
-pub nothing-rows : (text : List (List ℕ)) (from to : ℕ) (put : List (List ℕ)) → from ≡ to → put ≡ [] → is_empty_splice (rows_splice text from to put) ≡ true
-nothing-rows text from to put same none =
+pub nothing-rows : (part : ChangePart) (text : List (List ℕ)) (from to : ℕ) (put : List (List ℕ)) → from ≡ to → put ≡ [] → is_empty_splice (rows_splice part text from to put) ≡ true
+nothing-rows part text from to put same none =
     let there : row_start text from ≡ row_start text to = ap (row_start text) same in
     let added : length (flat put) ≡ 0 = ap (λ ls. length (flat ls)) none in
     grind (arith, nat_tests)
 
 -- and rows or lines are something
-pub something-rows : (text : List (List ℕ)) (from to : ℕ) (put : List (List ℕ)) → from ≤ to → to ≤ length text → ¬ ((from ≡ to) × (put ≡ []))
-    → is_empty_splice (rows_splice text from to put) ≡ false
-something-rows text from to put order within some = elim (eq-or-lt_of_le order) [
+pub something-rows : (part : ChangePart) (text : List (List ℕ)) (from to : ℕ) (put : List (List ℕ)) → from ≤ to → to ≤ length text → ¬ ((from ≡ to) × (put ≡ []))
+    → is_empty_splice (rows_splice part text from to put) ≡ false
+something-rows part text from to put order within some = elim (eq-or-lt_of_le order) [
   | inl same ↦ (let added : 0 < length (flat put) = flat-some put (some-of put (λ none. some (same, none))) in grind (arith, nat_tests))
   | inr less ↦ (let removed : row_start text from < row_start text to = row_start-lt text from to less within in grind (arith, nat_tests))
 ]
@@ -149,16 +150,16 @@ place-cases lines p q is order = elim (eq-or-lt_of_le (not_before_row p q order)
     cols e = grind (arith, nat_tests)
 
 -- one place and one empty line are nothing
-pub nothing-text : (text : List (List ℕ)) (start stop : Pos) (new : List (List ℕ)) → start ≡ stop → new ≡ [] ∷ [] → is_empty_splice (text_splice text start stop new) ≡ true
-nothing-text text start stop new same none =
+pub nothing-text : (part : ChangePart) (text : List (List ℕ)) (start stop : Pos) (new : List (List ℕ)) → start ≡ stop → new ≡ [] ∷ [] → is_empty_splice (text_splice part text start stop new) ≡ true
+nothing-text part text start stop new same none =
     let there : offset_of text start ≡ offset_of text stop = ap (offset_of text) same in
     let added : length (join_with_byte 10 new) ≡ 0 = ap (λ ls. length (join_with_byte 10 ls)) none in
     grind (arith, nat_tests)
 
 -- text or another place is something
-pub something-text : (text : List (List ℕ)) (start stop : Pos) (new : List (List ℕ)) → IsInLine text start → is_before stop start ≡ false → 0 < length new
-    → ¬ ((start ≡ stop) × (new ≡ [] ∷ [])) → is_empty_splice (text_splice text start stop new) ≡ false
-something-text text start stop new is order some other = elim (place-cases text start stop is order) [
+pub something-text : (part : ChangePart) (text : List (List ℕ)) (start stop : Pos) (new : List (List ℕ)) → IsInLine text start → is_before stop start ≡ false → 0 < length new
+    → ¬ ((start ≡ stop) × (new ≡ [] ∷ [])) → is_empty_splice (text_splice part text start stop new) ≡ false
+something-text part text start stop new is order some other = elim (place-cases text start stop is order) [
   | inl same ↦ (let added : 0 < length (join_with_byte 10 new) = joined-some new some (λ one. other (same, one)) in grind (arith, nat_tests))
   | inr less ↦ grind (arith, nat_tests)
 ]

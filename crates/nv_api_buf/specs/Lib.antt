@@ -1,3 +1,4 @@
+pub mod Excerpts
 pub mod Texts
 pub mod TextRows
 pub mod BufferRows

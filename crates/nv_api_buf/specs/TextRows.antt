@@ -69,7 +69,7 @@ rows_answer s args n b from to =
     ∷ (nat_lt to from, start_after_end)
     ∷ [])
     (put_answer s n b (lines_at args 4)
-    (rows_splice b.lines from to (lines_put from to (lines_at args 4) b.lines)))
+    (rows_splice b.next b.lines from to (lines_put from to (lines_at args 4) b.lines)))
 
 abbrev pub nvim_buf_set_lines : Seen → ℕ → List Arg → Answer
 nvim_buf_set_lines s session args = on_buffer s (number_at args 0) (λ n b.
@@ -97,4 +97,4 @@ nvim_buf_get_text s session args = on_buffer s (number_at args 0) (λ n b.
 abbrev pub nvim_buf_set_text : Seen → ℕ → List Arg → Answer
 nvim_buf_set_text s session args = on_buffer s (number_at args 0) (λ n b.
     on_places b args (λ start stop. put_answer s n b (lines_at args 5)
-    (text_splice b.lines start stop (or_empty (lines_at args 5)))))
+    (text_splice b.next b.lines start stop (or_empty (lines_at args 5)))))

@@ -17,7 +17,7 @@ use crate::commands::nvim_command;
 use crate::counts::{nvim_buf_get_changedtick, nvim_buf_get_offset, nvim_buf_line_count};
 use crate::following::{nvim_buf_attach, nvim_buf_detach};
 use crate::information::{nvim_get_api_info, nvim_set_client_info};
-use crate::lines::{nvim_buf_get_lines, nvim_buf_set_lines};
+use crate::lines::{nvim_buf_get_lines, nvim_buf_set_lines, value_of_lines};
 use crate::options::{nvim_get_option_value, nvim_set_option_value};
 use crate::text::{nvim_buf_get_text, nvim_buf_set_text};
 use nv_args::{Args, Fail, Method};
@@ -45,10 +45,13 @@ pub fn call_method(
         Method::BufDelete => Some(nvim_buf_delete(editor, args, happened)),
         Method::BufDetach => Some(nvim_buf_detach(editor, args, happened)),
         Method::BufGetChangedtick => Some(nvim_buf_get_changedtick(editor, args)),
-        Method::BufGetLines => Some(nvim_buf_get_lines(editor, args)),
+        Method::BufGetLines => Some(value_of_lines(
+            editor.alloc(),
+            nvim_buf_get_lines(editor, args),
+        )),
         Method::BufGetName => Some(nvim_buf_get_name(editor, args)),
         Method::BufGetOffset => Some(nvim_buf_get_offset(editor, args)),
-        Method::BufGetText => Some(nvim_buf_get_text(editor, args)),
+        Method::BufGetText => Some(value_of_lines(editor.alloc(), nvim_buf_get_text(editor, args))),
         Method::BufIsValid => Some(nvim_buf_is_valid(editor, args)),
         Method::BufLineCount => Some(nvim_buf_line_count(editor, args)),
         Method::BufSetLines => Some(nvim_buf_set_lines(editor, args, happened)),

@@ -4,6 +4,7 @@ ghost use Rattle.std.specs.Prelude.{◌≡◌, ◌≤◌, ◌<◌, ◌^◌, ◌+
 ghost use Rattle.std.specs.List.{list_any};
 ghost use Rattle.nv_places.specs.Flat.{flat, line_at, lines_of};
 ghost use Rattle.nv_places.specs.Places.{is_before};
+ghost use Rattle.nv_buffer.specs.Content.{next_part};
 ghost use Rattle.nv_buffer.specs.Splices.{IsInLine, IsNarrowLine, with_front, with_back, lines_between};
 ghost use Rattle.nv_model.specs.Answers.{Answer};
 ghost use Rattle.nv_model.specs.Answering.{event_of_splice};
@@ -108,9 +109,9 @@ fn passes(limits: Limits, buffer: &Buffer, start: Pos, stop: Pos, lines: &LineLi
     requires some { 0 < length lines.now }
     ensures row { result ≡ event_passes limits
         (length (lines_of (text_after (flat buffer.now.text)
-        (text_splice buffer.now.text start stop lines.now))))
+        (text_splice (next_part buffer.now) buffer.now.text start stop lines.now))))
         (event_of_splice (seen_buffer_now buffer.now)
-        (text_splice buffer.now.text start stop lines.now)) }
+        (text_splice (next_part buffer.now) buffer.now.text start stop lines.now)) }
     ensures count { result ≡ false → start.row + length lines.now + length buffer.now.text
         < stop.row + 1 + 2 ^ 32 }
     ensures columns { result ≡ false
@@ -155,7 +156,8 @@ pub fn may_put_text(
     requires order { is_before stop start ≡ false }
     requires some { 0 < length lines.now }
     ensures row { (answer : Answer) → Leaves (unless_barred limits (seen_buffer_now buffer.now)
-        (text_splice buffer.now.text start stop lines.now) answer) (λ _. answer) result }
+        (text_splice (next_part buffer.now) buffer.now.text start stop lines.now) answer)
+        (λ _. answer) result }
     ensures count { IfOk result (λ _. start.row + length lines.now + length buffer.now.text
         < stop.row + 1 + 2 ^ 32) }
     ensures columns { IfOk result

@@ -1,8 +1,9 @@
 //! The methods on whole lines.
 ghost use Rattle.std.specs.Prelude.{◌≡◌, ◌≤◌, ℕ, true, length, slice_range, IfOk};
 ghost use Rattle.nv_value.specs.Content.{list};
-ghost use Rattle.nv_value.specs.View.{content, contents};
+ghost use Rattle.nv_value.specs.View.{content};
 ghost use Rattle.nv_msgpack.specs.Shortest.{HasSpelling};
+ghost use Rattle.nv_buffer.specs.Content.{next_part};
 ghost use Rattle.nv_buffer.specs.Splices.{IsNarrowText};
 ghost use Rattle.nv_args.specs.Args.{typed_arguments};
 ghost use Rattle.nv_args.specs.Texts.{lines_put, strings};
@@ -12,6 +13,7 @@ ghost use Rattle.nv_model.specs.Buffers.{rows_splice};
 ghost use Rattle.nv_model.specs.Standing.{seen_now, seen_buffer_now};
 ghost use Rattle.nv_editor.specs.Doing.{GivesAnswer, ReadsAnswer};
 ghost use Rattle.nv_editor.specs.Sound.{content_at, is_live_buffer};
+ghost use Rattle.nv_api_buf.specs.Excerpts.{ReadsLines};
 ghost use Rattle.nv_api_buf.specs.TextRows.{nvim_buf_get_lines, nvim_buf_set_lines};
 ghost use Rattle.nv_api_buf.specs.inside.Deciding.{Leaves, unless_barred, unless_outside, lines_answer};
 ghost use Rattle.nv_api_buf.specs.inside.Ranges.{range_rows, ordered_rows};
@@ -22,7 +24,9 @@ use crate::replacement::{left_with, may_put_rows, new_lines};
 use nv_args::{Args, Fail, leaves_text, out_of_bounds, row_of_index, start_after_end};
 use nv_buffer::{Buffer, LineList, Lines};
 use nv_editor::{Editor, Happened};
-use nv_value::{Items, Value};
+use nv_lines::Excerpt;
+use nv_rpc::CallResult;
+use nv_value::Value;
 use std::alloc::{AllocError, Global};
 
 // Rows of a text: from the first to before the second.
@@ -51,53 +55,52 @@ fn rows_of(alloc: Global, buffer: &Buffer, args: &Args) -> Result<Rows, Fail>
     })
 }
 
-// Lines as strings. They are moved, and no bytes are copied.
-fn strings_from(alloc: Global, lines: LineList) -> Result<Items, AllocError>
-    ensures { IfOk result (λ items. contents items.items ≡ strings lines) }
-{
-    let lines = lines.into_vec()?;
-    let mut items = Vec::with_capacity(alloc, lines.len())?;
-    for line in lines {
-        items.push(Value::Text(line.into_bytes()))?;
-    }
-    Ok(items)
-}
-
-// The lines from the row `from` to before the row `to`, as strings.
-fn strings_of(alloc: Global, text: &Lines, from: usize, to: usize) -> Result<Items, AllocError>
+// The lines from the row `from` to before the row `to`.
+fn excerpt_of(alloc: Global, text: &Lines, from: usize, to: usize) -> Result<Excerpt, AllocError>
     requires within { to ≤ length text.now }
     requires narrow { IsNarrowText text.now }
-    ensures strings { IfOk result
-        (λ items. contents items.items ≡ strings (slice_range text.now from to)) }
-    ensures spelled { IfOk result (λ items. HasSpelling (list (contents items.items))) }
+    ensures lines { IfOk result (λ lines. lines ≡ slice_range text.now from to) }
+    ensures spelled { IfOk result (λ lines. HasSpelling (list (strings lines))) }
 {
     if to <= from {
-        return Ok(Vec::new(alloc));
+        return Ok(Excerpt::new(alloc));
     }
-    let lines = text.share_rows(from, to)?;
-    let items = strings_from(alloc, lines)?;
-    Ok(items)
+    let lines = text.excerpt(from, to)?;
+    Ok(lines)
 }
 
 // The lines of a range of a buffer.
-fn lines_answer(alloc: Global, buffer: &Buffer, args: &Args) -> Result<Value, Fail>
-    ensures row { ReadsAnswer (lines_answer (seen_buffer_now buffer.now) (typed_arguments args.now))
+fn lines_answer(alloc: Global, buffer: &Buffer, args: &Args) -> Result<Excerpt, Fail>
+    ensures row { ReadsLines (lines_answer (seen_buffer_now buffer.now) (typed_arguments args.now))
         result }
-    ensures spelled { IfOk result (λ value. HasSpelling (content value)) }
+    ensures spelled { IfOk result (λ lines. HasSpelling (list (strings lines))) }
 {
     let rows = rows_of(alloc, buffer, args)?;
-    let items = strings_of(alloc, buffer.text(), rows.from, rows.to)?;
-    Ok(Value::List(items))
+    let lines = excerpt_of(alloc, buffer.text(), rows.from, rows.to)?;
+    Ok(lines)
 }
 
-/// `nvim_buf_get_lines`: the lines of a range, and none where its start isn't before its end.
-pub fn nvim_buf_get_lines(editor: &Editor, args: &Args) -> Result<Value, Fail>
-    ensures row { (session : ℕ) → ReadsAnswer (nvim_buf_get_lines (seen_now editor.now) session
+/// `nvim_buf_get_lines`: the lines of a range, and none where its start isn't before its end. They
+/// share the tables of the text.
+pub fn nvim_buf_get_lines(editor: &Editor, args: &Args) -> Result<Excerpt, Fail>
+    ensures row { (session : ℕ) → ReadsLines (nvim_buf_get_lines (seen_now editor.now) session
         (typed_arguments args.now)) result }
-    ensures spelled { IfOk result (λ value. HasSpelling (content value)) }
+    ensures spelled { IfOk result (λ lines. HasSpelling (list (strings lines))) }
 {
     let live = live_given(editor, args)?;
     lines_answer(editor.alloc(), buffer_at(editor, live), args)
+}
+
+/// Lines that were read, as the value that they are.
+pub(crate) fn value_of_lines(alloc: Global, given: Result<Excerpt, Fail>) -> Result<Value, Fail>
+    requires { IfOk given (λ lines. HasSpelling (list (strings lines))) }
+    ensures read { (answer : Answer) → ReadsLines answer given → ReadsAnswer answer result }
+    ensures spelled { IfOk result (λ value. HasSpelling (content value)) }
+{
+    match given {
+        Ok(lines) => Ok(CallResult::Lines(lines).into_value(alloc)?),
+        Err(fail) => Err(fail),
+    }
 }
 
 // Puts lines in place of rows, where that is allowed.
@@ -113,7 +116,7 @@ fn put_rows(
     requires within { rows.to ≤ length (content_at editor.old live.handle).text }
     ensures row { let b = content_at editor.old live.handle in
         let put = lines_put rows.from rows.to new b.text in
-        let splice = rows_splice b.text rows.from rows.to put in
+        let splice = rows_splice (next_part b) b.text rows.from rows.to put in
         GivesAnswer (unless_barred editor.old.stage.limits (seen_buffer_now b) splice
         (splice_answer live.handle (seen_buffer_now b) splice)) result editor.old editor.new
         happened.old happened.new }

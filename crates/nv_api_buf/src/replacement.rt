@@ -3,6 +3,7 @@ ghost use Rattle.std.specs.Prelude.{◌≡◌, ◌≤◌, ◌<◌, ◌^◌, ◌+
 ghost use Rattle.std.specs.List.{list_any};
 ghost use Rattle.nv_value.specs.View.{content};
 ghost use Rattle.nv_places.specs.Flat.{flat, lines_of};
+ghost use Rattle.nv_buffer.specs.Content.{next_part};
 ghost use Rattle.nv_buffer.specs.Splices.{IsNarrowLine};
 ghost use Rattle.nv_args.specs.Texts.{has_newline, lines_put};
 ghost use Rattle.nv_model.specs.Answers.{Answer};
@@ -113,9 +114,9 @@ fn passes(limits: Limits, buffer: &Buffer, from: usize, to: usize, lines: &LineL
     requires within { to ≤ length buffer.now.text }
     ensures row { result ≡ event_passes limits
         (length (lines_of (text_after (flat buffer.now.text)
-        (rows_splice buffer.now.text from to lines.now))))
+        (rows_splice (next_part buffer.now) buffer.now.text from to lines.now))))
         (event_of_splice (seen_buffer_now buffer.now)
-        (rows_splice buffer.now.text from to lines.now)) }
+        (rows_splice (next_part buffer.now) buffer.now.text from to lines.now)) }
     ensures count { result ≡ false → from + length lines.now + length buffer.now.text
         < to + 2 ^ 32 }
     ensures columns { result ≡ false → All IsNarrowLine lines.now }
@@ -151,7 +152,8 @@ pub fn may_put_rows(
     requires order { from ≤ to }
     requires within { to ≤ length buffer.now.text }
     ensures row { (answer : Answer) → Leaves (unless_barred limits (seen_buffer_now buffer.now)
-        (rows_splice buffer.now.text from to lines.now) answer) (λ _. answer) result }
+        (rows_splice (next_part buffer.now) buffer.now.text from to lines.now) answer)
+        (λ _. answer) result }
     ensures count { IfOk result (λ _. from + length lines.now + length buffer.now.text
         < to + 2 ^ 32) }
     ensures columns { IfOk result (λ _. All IsNarrowLine lines.now) }

@@ -1,10 +1,12 @@
 //! The methods on text between two places.
-ghost use Rattle.std.specs.Prelude.{◌≡◌, ◌≤◌, ◌<◌, ℕ, Some, true, false, length, option_map, IfOk, IfSome};
+ghost use Rattle.std.specs.Prelude.{◌≡◌, ◌≤◌, ◌<◌, ◌∷◌, [], ℕ, Some, true, false, length, option_map, IfOk, IfSome};
 ghost use Rattle.nv_value.specs.Content.{list};
-ghost use Rattle.nv_value.specs.View.{content, contents};
+ghost use Rattle.nv_value.specs.View.{content};
 ghost use Rattle.nv_msgpack.specs.Shortest.{HasSpelling};
+ghost use Rattle.nv_places.specs.Flat.{line_at};
 ghost use Rattle.nv_places.specs.Places.{is_before};
 ghost use Rattle.nv_places.specs.declared.place.Pos.{Pos};
+ghost use Rattle.nv_buffer.specs.Content.{next_part};
 ghost use Rattle.nv_buffer.specs.Splices.{IsInLine, IsNarrowText};
 ghost use Rattle.nv_args.specs.Args.{typed_arguments};
 ghost use Rattle.nv_args.specs.Arguments.{text_row};
@@ -14,8 +16,9 @@ ghost use Rattle.nv_model.specs.Answers.{Answer};
 ghost use Rattle.nv_model.specs.Answering.{splice_answer};
 ghost use Rattle.nv_model.specs.Buffers.{text_splice};
 ghost use Rattle.nv_model.specs.Standing.{seen_now, seen_buffer_now};
-ghost use Rattle.nv_editor.specs.Doing.{GivesAnswer, ReadsAnswer};
+ghost use Rattle.nv_editor.specs.Doing.{GivesAnswer};
 ghost use Rattle.nv_editor.specs.Sound.{content_at, is_live_buffer};
+ghost use Rattle.nv_api_buf.specs.Excerpts.{ReadsLines};
 ghost use Rattle.nv_api_buf.specs.Texts.{place_in_row};
 ghost use Rattle.nv_api_buf.specs.TextRows.{nvim_buf_get_text, nvim_buf_set_text, on_places};
 ghost use Rattle.nv_api_buf.specs.inside.Deciding.{Leaves, unless_barred, text_answer};
@@ -27,7 +30,8 @@ use crate::replacement::new_lines;
 use nv_args::{Args, Fail, map_fault, out_of_bounds, start_after_end, text_col, text_row};
 use nv_buffer::{Buffer, Line, LineList, Lines, Pos};
 use nv_editor::{Editor, Happened};
-use nv_value::{Bytes, Items, Value};
+use nv_lines::Excerpt;
+use nv_value::{Bytes, Value};
 use std::alloc::{AllocError, Global};
 
 // Two places of a text, the first not behind the second.
@@ -139,43 +143,52 @@ fn part(line: &[u8], row: usize, start: Pos, stop: Pos) -> &[u8]
     if from > to { &[] } else { &line[from..to] }
 }
 
-// What of a line stands between two places, by its row, as a string. A line that lies between them
-// whole is moved.
-fn part_string(
+// What of a row of a text stands between two places, as a list of one line.
+fn part_line(
     alloc: Global,
-    line: Line,
+    text: &Lines,
     row: usize,
     start: Pos,
     stop: Pos,
-) -> Result<Bytes, AllocError>
-    requires start { row ≡ start.row → start.col ≤ length line }
-    requires stop { row ≡ stop.row → stop.col ≤ length line }
-    ensures { IfOk result (λ bytes. bytes ≡ part_of line row start stop) }
+) -> Result<LineList, AllocError>
+    requires within { row < length text.now }
+    requires start { IsInLine text.now start }
+    requires stop { IsInLine text.now stop }
+    ensures { IfOk result (λ list. list ≡ part_of (line_at text.now row) row start stop ∷ []) }
 {
-    if row == start.row as usize || row == stop.row as usize {
-        return Bytes::from_slice(alloc, part(line.as_slice(), row, start, stop));
-    }
-    Ok(line.into_bytes())
+    let Some(line) = text.get(row) else {
+        unreachable!();
+    };
+    let bytes = Bytes::from_slice(alloc, part(line, row, start, stop))?;
+    Ok(LineList::one(alloc, Line::from_bytes(bytes)))
 }
 
-// The text between two places, as strings.
-fn strings_between(alloc: Global, text: &Lines, start: Pos, stop: Pos) -> Result<Items, AllocError>
+// The text between two places. The lines that lie between them whole share the tables of the text.
+fn excerpt_between(
+    alloc: Global,
+    text: &Lines,
+    start: Pos,
+    stop: Pos,
+) -> Result<Excerpt, AllocError>
     requires start_in { IsInLine text.now start }
     requires stop_in { IsInLine text.now stop }
     requires order { is_before stop start ≡ false }
     requires narrow { IsNarrowText text.now }
-    ensures strings { IfOk result
-        (λ items. contents items.items ≡ strings (text_between text.now start stop)) }
-    ensures spelled { IfOk result (λ items. HasSpelling (list (contents items.items))) }
+    ensures lines { IfOk result (λ lines. lines ≡ text_between text.now start stop) }
+    ensures spelled { IfOk result (λ lines. HasSpelling (list (strings lines))) }
 {
-    let lines = text.share_rows(start.row as usize, stop.row as usize + 1)?;
-    let mut items = Vec::with_capacity(alloc, lines.len())?;
-    let mut row = start.row as usize;
-    for line in lines.into_vec()? {
-        items.push(Value::Text(part_string(alloc, line, row, start, stop)?))?;
-        row += 1;
+    let first = start.row as usize;
+    let last = stop.row as usize;
+    let mut lines = Excerpt::with_room(alloc, (last - first) / 48 + 2)?;
+    let front = part_line(alloc, text, first, start, stop)?;
+    lines.push(front)?;
+    if first == last {
+        return Ok(lines);
     }
-    Ok(items)
+    text.add_rows(&mut lines, first + 1, last)?;
+    let back = part_line(alloc, text, last, start, stop)?;
+    lines.push(back)?;
+    Ok(lines)
 }
 
 // One empty line where there is none.
@@ -190,21 +203,21 @@ fn or_empty(alloc: Global, lines: LineList) -> Result<LineList, AllocError>
 }
 
 // The text of a buffer between the places that the arguments name.
-fn text_answer(alloc: Global, buffer: &Buffer, args: &Args) -> Result<Value, Fail>
-    ensures row { ReadsAnswer (text_answer (seen_buffer_now buffer.now) (typed_arguments args.now))
+fn text_answer(alloc: Global, buffer: &Buffer, args: &Args) -> Result<Excerpt, Fail>
+    ensures row { ReadsLines (text_answer (seen_buffer_now buffer.now) (typed_arguments args.now))
         result }
-    ensures spelled { IfOk result (λ value. HasSpelling (content value)) }
+    ensures spelled { IfOk result (λ lines. HasSpelling (list (strings lines))) }
 {
     let span = span_of(alloc, buffer, args)?;
-    let items = strings_between(alloc, buffer.text(), span.start, span.stop)?;
-    Ok(Value::List(items))
+    let lines = excerpt_between(alloc, buffer.text(), span.start, span.stop)?;
+    Ok(lines)
 }
 
 /// `nvim_buf_get_text`: the lines between two places, the end column exclusive. It takes no keys.
-pub fn nvim_buf_get_text(editor: &Editor, args: &Args) -> Result<Value, Fail>
-    ensures row { (session : ℕ) → ReadsAnswer (nvim_buf_get_text (seen_now editor.now) session
+pub fn nvim_buf_get_text(editor: &Editor, args: &Args) -> Result<Excerpt, Fail>
+    ensures row { (session : ℕ) → ReadsLines (nvim_buf_get_text (seen_now editor.now) session
         (typed_arguments args.now)) result }
-    ensures spelled { IfOk result (λ value. HasSpelling (content value)) }
+    ensures spelled { IfOk result (λ lines. HasSpelling (list (strings lines))) }
 {
     let live = live_given(editor, args)?;
     map_fault(editor.alloc(), &[], args.pairs(5))?;
@@ -224,7 +237,7 @@ fn put_between(
     requires stop { IsInLine (content_at editor.old live.handle).text span.stop }
     requires order { is_before span.stop span.start ≡ false }
     ensures row { let b = content_at editor.old live.handle in
-        let splice = text_splice b.text span.start span.stop (or_empty new) in
+        let splice = text_splice (next_part b) b.text span.start span.stop (or_empty new) in
         GivesAnswer (unless_barred editor.old.stage.limits (seen_buffer_now b) splice
         (splice_answer live.handle (seen_buffer_now b) splice)) result editor.old editor.new
         happened.old happened.new }

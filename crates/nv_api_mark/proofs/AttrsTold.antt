@@ -25,11 +25,11 @@ eleven {X} a b c d e f g h i j k rest =
     ∙ ap (λ (l : List X). i ++ l) (append_assoc j k rest)))))))))
 
 -- entries that can be spelled, at most so many
-record Spells (most : ℕ) (entries : List (Tree × Tree)) : Type 0 where
-  few : length entries ≤ most
-  each : HaveSpellings (in_turn entries)
+pub record Spells (most : ℕ) (entries : List (Tree × Tree)) : Type 0 where
+  pub few : length entries ≤ most
+  pub each : HaveSpellings (in_turn entries)
 
-behind : (m n : ℕ) (a b : List (Tree × Tree)) → Spells m a → Spells n b → Spells (m + n) (a ++ b)
+pub behind : (m n : ℕ) (a b : List (Tree × Tree)) → Spells m a → Spells n b → Spells (m + n) (a ++ b)
 behind m n a b first second = record {
   few = omega (arith, length-append a b, first.few, second.few);
   each = turns-append a b first.each second.each;

@@ -1,4 +1,5 @@
 pub mod AttrsTold
+pub mod DetailsTold
 pub mod Drafts
 pub mod GroupsNamed
 pub mod MarkLookups

@@ -1,20 +1,22 @@
--- Marks that are picked among those that are looked at.
-use Rattle.std.proofs.Common.{◌≡◌, ◌∙◌, refl, sym, ap, subst, ℕ, suc, ◌<◌, ◌≤◌, ◌^◌, Bool, true, false, cond, List, [], ◌∷◌, length, take, drop, reverse, arith, Option, Some, None, ◌⊎◌, inl, inr}
+-- Marks that are picked, and those that are removed.
+use Rattle.std.proofs.Common.{◌≡◌, ◌∙◌, refl, sym, ap, subst, ℕ, suc, ◌-◌, ◌^◌, ◌<◌, ◌≤◌, min, eqb, Bool, true, false, cond, List, [], ◌∷◌, ◌++◌, length, take, reverse, arith, Option, Some, None, Result, Ok, Err, IfOk}
 use Rattle.std.specs.Option.{option_map_or}
-use Rattle.std.specs.Prelude.{⊤, not, ◌&&◌, ◌||◌, nat_lt, nat_le, filter, All, unwrap_or}
-use Rattle.std.proofs.lemmas.Bool.{both_ways, cases_lt, false≢true}
+use Rattle.std.specs.Prelude.{not, ◌&&◌, ◌||◌, nat_le, nat_lt, filter, All}
 use Rattle.std.proofs.lemmas.Bool.Decides.{nat_tests}
-use Rattle.std.proofs.lemmas.List.{get_or_past, length-take, take_all, take-append-drop, take-append-le}
-use Rattle.std.proofs.lemmas.List.Elements.{All-filter, All-head, All-tail, All-take, filter-append}
+use Rattle.std.proofs.lemmas.List.{take_all}
+use Rattle.std.proofs.lemmas.List.Elements.{All-filter, All-head, All-tail, All-take, All-weaker}
 use Rattle.std.proofs.lemmas.List.Sorted.{All-permutation, IsPermutation-reverse}
-use Rattle.nv_places.specs.Flat.{line_at}
-use Rattle.nv_places.specs.Places.{IsPlaceIn, is_before}
+use Rattle.nv_places.specs.Places.{IsNarrow, is_before}
 use Rattle.nv_places.specs.declared.place.Pos.{Pos}
 use Rattle.nv_buffer.specs.Marks.{IsMarkIn}
-use Rattle.nv_marks.specs.Order.{is_within, starts_within}
+use Rattle.nv_buffer.specs.Splices.{IsNarrowText}
+use Rattle.nv_buffer.proofs.Placing.{narrow_place}
+use Rattle.nv_marks.specs.Queries.{is_cleared, is_meant, is_selected, stops_from}
+use Rattle.nv_marks.specs.declared.extmark.Far.{Far}
 use Rattle.nv_marks.specs.declared.extmark.Mark.{Mark}
-use Rattle.nv_api_mark.specs.Listing.{first_marks, is_meant, lies_in, marks_between, marks_from, reaches}
-use Rattle.nv_api_mark.specs.inside.Picking.{is_cleared, is_looked_at, is_picked, row_place}
+use Rattle.nv_marks.specs.declared.query.Query.{Query}
+use Rattle.nv_api_mark.specs.Listing.{first_marks, lies_in, marks_between, marks_from}
+use Rattle.nv_api_mark.specs.inside.Picking.{CoversRows, EndsRows, is_in_rows, is_picked}
 use Rattle.nv_api_mark.specs.declared.clearing.Rows.{Rows}
 use Rattle.nv_api_mark.specs.declared.listing.Picks.{Picks}
 
@@ -27,157 +29,165 @@ filter_few {X} p (x ∷ xs) = by_case (filter_few p xs) (p x)
     by_case few true = omega (arith, few)
     by_case few false = omega (arith, few)
 
--- what passes one test is among what passes another, where that passes all of it
-pub kept_twice : {X : Type 0} (P : X → Type 0) (p q : X → Bool) → ((x : X) → P x → p x ≡ true → q x ≡ true) → (xs : List X) → All P xs
-    → filter p (filter q xs) ≡ filter p xs
-kept_twice P p q so [] all = refl
-kept_twice {X} P p q so (x ∷ xs) all = by_case (kept_twice P p q so xs (All-tail P x xs all)) (so x (All-head P x xs all)) (p x) refl (q x) refl
+-- two tests that are the same of what is there
+filter_alike : {X : Type 0} (P : X → Type 0) (p q : X → Bool) → ((x : X) → P x → p x ≡ q x) → (xs : List X) → All P xs → filter p xs ≡ filter q xs
+filter_alike P p q same [] all = refl
+filter_alike {X} P p q same (x ∷ xs) all =
+    ap (λ (b : Bool). cond b (x ∷ filter p xs) (filter p xs)) (same x (All-head P x xs all))
+    ∙ ap (λ (l : List X). cond (q x) (x ∷ l) l) (filter_alike P p q same xs (All-tail P x xs all))
+
+alike_all : {X : Type 0} (p q : X → Bool) → ((x : X) → p x ≡ q x) → (xs : List X) → filter p xs ≡ filter q xs
+alike_all p q same [] = refl
+alike_all {X} p q same (x ∷ xs) =
+    ap (λ (b : Bool). cond b (x ∷ filter p xs) (filter p xs)) (same x)
+    ∙ ap (λ (l : List X). cond (q x) (x ∷ l) l) (alike_all p q same xs)
+
+-- ---- picked
+-- the query that picks ask for
+abbrev pub query_of : Picks → Query
+query_of picks = record { ns = picks.meant; from = picks.low; to = picks.high; reaching = picks.overlap }
+
+-- a start before the first place isn't behind the last
+before_both : (low high p : Pos) → is_before high low ≡ false → is_before p low ≡ true → is_before high p ≡ false
+before_both low high p order e = grind (arith, nat_tests)
+
+stops_as : (p : Pos) (stop : Option Far) → stops_from p stop ≡ option_map_or (λ far. not (is_before far.pos p)) stop false
+stops_as p None = refl
+stops_as p (Some far) = refl
+
+selected_as : (a b o t : Bool) → (a ≡ true → b ≡ false) → (not b && (not a || (o && t))) ≡ ((not a && not b) || (o && (a && t)))
+selected_as true true o t order = absurd (let no : true ≡ false = order refl in cc)
+selected_as true false o t order = refl
+selected_as false true true t order = refl
+selected_as false true false t order = refl
+selected_as false false o t order = refl
+
+picked_selected : (picks : Picks) → is_before picks.high picks.low ≡ false → (m : Mark) → is_selected (query_of picks) m ≡ is_picked picks m
+picked_selected picks order m =
+    ap (λ (t : Bool). is_meant picks.meant m.ns && (not (is_before picks.high m.start) && (not (is_before m.start picks.low) || (picks.overlap && t))))
+    (stops_as picks.low m.stop)
+    ∙ ap (λ (t : Bool). is_meant picks.meant m.ns && t)
+    (selected_as (is_before m.start picks.low) (is_before picks.high m.start) picks.overlap
+    (option_map_or (λ far. not (is_before far.pos picks.low)) m.stop false) (before_both picks.low picks.high m.start order))
+
+pub picked_are : (picks : Picks) (wanted : ℕ) (ms had found : List Mark) → is_before picks.high picks.low ≡ false → had ≡ []
+    → found ≡ had ++ take wanted (filter (is_selected (query_of picks)) ms) → found ≡ take wanted (filter (is_picked picks) ms)
+picked_are picks wanted ms had found order none is =
+    is ∙ ap (λ (l : List Mark). l ++ take wanted (filter (is_selected (query_of picks)) ms)) none
+    ∙ ap (take wanted) (alike_all (is_selected (query_of picks)) (is_picked picks) (picked_selected picks order) ms)
+
+-- as many as there are marks are all
+pub all_taken : {V E : Type 0} (items : V → List Mark) (r : Result V E) (p : Mark → Bool) (n : ℕ) (ms : List Mark) → n ≡ length ms
+    → IfOk r (λ found. items found ≡ take n (filter p ms)) → IfOk r (λ found. items found ≡ filter p ms)
+all_taken items (Ok found) p n ms count is = is ∙ take_all n (filter p ms) (omega (arith, filter_few p ms, count))
+all_taken items (Err e) p n ms count is = is
+
+-- ---- removed
+rows_cleared : (rows : Rows) (places : Pos × Pos) → CoversRows rows (Some places) → (m : Mark) → IsNarrow m.start
+    → is_in_rows rows m ≡ is_cleared rows.meant places.0 places.1 m
+rows_cleared rows places covers m narrow = ap (λ (b : Bool). is_meant rows.meant m.ns && b) (covers m narrow)
+
+pub cleared_are : (rows : Rows) (found : Option (Pos × Pos)) (places : Pos × Pos) (ms : List Mark) → found ≡ Some places → CoversRows rows found
+    → All (λ (m : Mark). IsNarrow m.start) ms → filter (is_in_rows rows) ms ≡ filter (is_cleared rows.meant places.0 places.1) ms
+cleared_are rows found places ms is covers narrow =
+    filter_alike (λ (m : Mark). IsNarrow m.start) (is_in_rows rows) (is_cleared rows.meant places.0 places.1)
+    (λ m here. rows_cleared rows places (subst (λ (o : Option (Pos × Pos)). CoversRows rows o) is covers) m here) ms narrow
+
+none_cleared : (rows : Rows) → CoversRows rows None → (m : Mark) → IsNarrow m.start → is_in_rows rows m ≡ false
+none_cleared rows covers m narrow = ap (λ (b : Bool). is_meant rows.meant m.ns && b) (covers m narrow) ∙ never (is_meant rows.meant m.ns)
   where
-    by_case : filter p (filter q xs) ≡ filter p xs → (p x ≡ true → q x ≡ true) → (a : Bool) → p x ≡ a → (b : Bool) → q x ≡ b
-        → filter p (cond b (x ∷ filter q xs) (filter q xs)) ≡ cond a (x ∷ filter p xs) (filter p xs)
-    by_case rest through true passes true kept = ap (λ (t : Bool). cond t (x ∷ filter p (filter q xs)) (filter p (filter q xs))) passes ∙ ap (λ (ys : List X). x ∷ ys) rest
-    by_case rest through true passes false kept = absurd (both_ways (q x) kept (through passes))
-    by_case rest through false passes true kept = ap (λ (t : Bool). cond t (x ∷ filter p (filter q xs)) (filter p (filter q xs))) passes ∙ rest
-    by_case rest through false passes false kept = rest
+    never : (b : Bool) → (b && false) ≡ false
+    never true = refl
+    never false = refl
 
--- the same where all that passes the other test was looked up
-pub kept_looked_up : {X : Type 0} (P : X → Type 0) (p q : X → Bool) → ((x : X) → P x → p x ≡ true → q x ≡ true) → (xs : List X) → All P xs
-    → filter p (take (length xs) (filter q xs)) ≡ filter p xs
-kept_looked_up {X} P p q so xs all =
-    ap (λ (ys : List X). filter p ys) (take_all (length xs) (filter q xs) (filter_few q xs)) ∙ kept_twice P p q so xs all
+pub none_are : (rows : Rows) (found : Option (Pos × Pos)) (ms : List Mark) → found ≡ None → CoversRows rows found
+    → All (λ (m : Mark). IsNarrow m.start) ms → filter (is_in_rows rows) ms ≡ []
+none_are rows found [] is covers narrow = refl
+none_are rows found (m ∷ ms) is covers narrow =
+    ap (λ (b : Bool). cond b (m ∷ filter (is_in_rows rows) ms) (filter (is_in_rows rows) ms))
+    (none_cleared rows (subst (λ (o : Option (Pos × Pos)). CoversRows rows o) is covers) m (All-head (λ (x : Mark). IsNarrow x.start) m ms narrow))
+    ∙ none_are rows found ms is covers (All-tail (λ (x : Mark). IsNarrow x.start) m ms narrow)
 
--- enough was found among the first that were looked up
-pub found_enough : {X : Type 0} (p : X → Bool) (wanted n : ℕ) (xs : List X) → wanted ≤ length (filter p (take n xs)) → take wanted (filter p (take n xs)) ≡ take wanted (filter p xs)
-found_enough {X} p wanted n xs enough =
-    sym (ap (λ (ys : List X). take wanted (filter p ys)) (sym (take-append-drop n xs))
-    ∙ ap (take wanted) (filter-append p (take n xs) (drop n xs))
-    ∙ take-append-le wanted (filter p (take n xs)) (filter p (drop n xs)) enough)
+-- ---- the places of rows
+before_last : (row col last to : ℕ) → row < 2 ^ 32 → col < 2 ^ 32 → 0 < last → to ≡ min (last - 1) 4294967295
+    → (nat_le 0 row && nat_lt row last) ≡ not (nat_lt to row || (eqb to row && nat_lt 4294967295 col))
+before_last row col last to narrow below some is = grind (arith, nat_tests)
 
--- ... and where fewer were looked up than might have been, these are all
-pub found_all : {X : Type 0} (p : X → Bool) (n : ℕ) (xs : List X) → length (take n xs) < n → filter p (take n xs) ≡ filter p xs
-found_all {X} p n xs few =
-    let short : length xs ≤ n = omega (arith, length-take n xs, few) in
-    ap (λ (ys : List X). filter p ys) (take_all n xs short)
+up_to_greatest : (row col : ℕ) → row < 2 ^ 32 → col < 2 ^ 32
+    → nat_le 0 row ≡ not (nat_lt 4294967295 row || (eqb 4294967295 row && nat_lt 4294967295 col))
+up_to_greatest row col narrow below = grind (arith, nat_tests)
 
--- ---- which marks of a text are picked
+before_first : (row : ℕ) → (nat_le 0 row && nat_lt row 0) ≡ false
+before_first row = grind (arith, nat_tests)
 
-both_hold : (a b : Bool) → (a && b) ≡ true → (a ≡ true) × (b ≡ true)
-both_hold true true e = (refl, refl)
-both_hold true false e = absurd (false≢true e)
-both_hold false b e = absurd (false≢true e)
+from_first : (first row col : ℕ) → nat_le first row ≡ (not (nat_lt row first || (eqb row first && nat_lt col 0)) && nat_le 0 row)
+from_first first row col = grind (arith, nat_tests)
 
-one_holds : (a b : Bool) → (a || b) ≡ true → (a ≡ true) ⊎ (b ≡ true)
-one_holds true b e = inl refl
-one_holds false true e = inr refl
-one_holds false false e = absurd (false≢true e)
+past_greatest : (first row : ℕ) → row < 2 ^ 32 → 4294967295 < first → nat_le first row ≡ false
+past_greatest first row narrow above = grind (arith, nat_tests)
 
-abbrev first_of_all : Pos
-first_of_all = record { row = 0; col = 0 }
+-- where the last of the rows is
+abbrev pub end_of_row : ℕ → Pos
+end_of_row row = record { row = row; col = 4294967295 }
 
-reaching_within : (low high p : Pos) → is_before high low ≡ false → is_before p low ≡ true → is_within first_of_all high p ≡ true
-reaching_within low high p order before = grind (arith, nat_tests, order, before)
+pub ends_all : (last : Option ℕ) (to : Pos) → last ≡ None → to ≡ end_of_row 4294967295 → EndsRows last (Some to)
+ends_all last to is to_is m narrow =
+    subst (λ (o : Option ℕ). lies_in 0 o m ≡ not (is_before to m.start)) (sym is)
+    (subst (λ (p : Pos). lies_in 0 None m ≡ not (is_before p m.start)) (sym to_is) (up_to_greatest m.start.row m.start.col narrow.0 narrow.1))
 
-within_from : (low high p : Pos) → is_within low high p ≡ true → is_within first_of_all high p ≡ true
-within_from low high p within = grind (arith, nat_tests, within)
+pub ends_none : (last : Option ℕ) (n : ℕ) → last ≡ Some n → n ≡ 0 → EndsRows last None
+ends_none last n is zero m =
+    subst (λ (o : Option ℕ). lies_in 0 o m ≡ false) (sym is)
+    (subst (λ (k : ℕ). lies_in 0 (Some k) m ≡ false) (sym zero) (before_first m.start.row))
 
--- a mark that is picked is looked at
-pub picked_looked_at : (picks : Picks) → is_before picks.high picks.low ≡ false → (m : Mark) → is_picked picks m ≡ true → is_looked_at picks m ≡ true
-picked_looked_at picks order m picked =
-    by_case picks.overlap (one_holds (starts_within picks.low picks.high m) (picks.overlap && reaches picks.low m) (both_hold (is_meant picks.meant m) (starts_within picks.low picks.high m || (picks.overlap && reaches picks.low m)) picked).1)
+pub ends_before : (last : Option ℕ) (n row : ℕ) (to : Pos) → last ≡ Some n → 0 < n → row ≡ min (n - 1) 4294967295 → to ≡ end_of_row row
+    → EndsRows last (Some to)
+ends_before last n row to is some row_is to_is m narrow =
+    subst (λ (o : Option ℕ). lies_in 0 o m ≡ not (is_before to m.start)) (sym is)
+    (subst (λ (p : Pos). lies_in 0 (Some n) m ≡ not (is_before p m.start)) (sym to_is)
+    (before_last m.start.row m.start.col n row narrow.0 narrow.1 some row_is))
+
+-- those from a first row on are those of all rows that don't lie before it
+from_row : (first : ℕ) (last : Option ℕ) (m : Mark)
+    → lies_in first last m ≡ (not (is_before m.start (record { row = first; col = 0 })) && lies_in 0 last m)
+from_row first None m = from_first first m.start.row m.start.col
+from_row first (Some last) m =
+    ap (λ (t : Bool). t && nat_lt m.start.row last) (from_first first m.start.row m.start.col)
+    ∙ grouped (not (is_before m.start (record { row = first; col = 0 }))) (nat_le 0 m.start.row) (nat_lt m.start.row last)
   where
-    by_case : (overlap : Bool) → (starts_within picks.low picks.high m ≡ true) ⊎ ((overlap && reaches picks.low m) ≡ true)
-        → is_within (cond overlap first_of_all picks.low) picks.high m.start ≡ true
-    by_case false (inl within) = within
-    by_case false (inr reaching) = absurd (false≢true reaching)
-    by_case true (inl within) = within_from picks.low picks.high m.start within
-    by_case true (inr reaching) = reaching_within picks.low picks.high m.start order (both_hold (is_before m.start picks.low) (option_map_or (λ far. not (is_before far.pos picks.low)) m.stop false) reaching).0
+    grouped : (a b c : Bool) → ((a && b) && c) ≡ (a && (b && c))
+    grouped true b c = refl
+    grouped false b c = refl
 
--- all marks that are picked are among those that are looked at
-pub all_looked_at : (picks : Picks) → is_before picks.high picks.low ≡ false → (ms : List Mark)
-    → filter (is_picked picks) (filter (is_looked_at picks) ms) ≡ filter (is_picked picks) ms
-all_looked_at picks order ms = kept_twice (λ _. ⊤) (is_picked picks) (is_looked_at picks) (λ m _ picked. picked_looked_at picks order m picked) ms (λ k d within. tt)
+and_false : (b : Bool) → (b && false) ≡ false
+and_false true = refl
+and_false false = refl
 
--- all marks that are picked, where as many are looked at as there are
-pub picked_of_all : (picks : Picks) → is_before picks.high picks.low ≡ false → (ms : List Mark)
-    → filter (is_picked picks) (take (length ms) (filter (is_looked_at picks) ms)) ≡ filter (is_picked picks) ms
-picked_of_all picks order ms = kept_looked_up (λ _. ⊤) (is_picked picks) (is_looked_at picks) (λ m _ picked. picked_looked_at picks order m picked) ms (λ k d within. tt)
+pub covers_none : (rows : Rows) (found : Option Pos) → found ≡ None → EndsRows rows.last found → CoversRows rows None
+covers_none rows found is ends m narrow =
+    from_row rows.first rows.last m
+    ∙ ap (λ (t : Bool). not (is_before m.start (record { row = rows.first; col = 0 })) && t)
+    (subst (λ (o : Option Pos). EndsRows rows.last o) is ends m)
+    ∙ and_false (not (is_before m.start (record { row = rows.first; col = 0 })))
 
--- the first marks that are picked: enough of them are among the first that are looked at, or these are all that are looked at
-pub first_of_enough : (picks : Picks) → is_before picks.high picks.low ≡ false → (wanted looks : ℕ) (ms held : List Mark)
-    → held ≡ take looks (filter (is_looked_at picks) ms) → wanted ≤ length (filter (is_picked picks) held)
-    → take wanted (filter (is_picked picks) held) ≡ take wanted (filter (is_picked picks) ms)
-first_of_enough picks order wanted looks ms held is enough =
-    ap (λ (l : List Mark). take wanted (filter (is_picked picks) l)) is
-    ∙ found_enough (is_picked picks) wanted looks (filter (is_looked_at picks) ms) (subst (λ (l : List Mark). wanted ≤ length (filter (is_picked picks) l)) is enough)
-    ∙ ap (take wanted) (all_looked_at picks order ms)
-
-pub first_of_few : (picks : Picks) → is_before picks.high picks.low ≡ false → (wanted looks : ℕ) (ms held : List Mark)
-    → held ≡ take looks (filter (is_looked_at picks) ms) → length held < looks
-    → take wanted (filter (is_picked picks) held) ≡ take wanted (filter (is_picked picks) ms)
-first_of_few picks order wanted looks ms held is few =
-    ap (λ (l : List Mark). take wanted (filter (is_picked picks) l)) is
-    ∙ ap (take wanted) (found_all (is_picked picks) looks (filter (is_looked_at picks) ms) (subst (λ (l : List Mark). length l < looks) is few)
-    ∙ all_looked_at picks order ms)
-
-pub all_of_few : (picks : Picks) → is_before picks.high picks.low ≡ false → (wanted looks : ℕ) (ms held : List Mark)
-    → held ≡ take looks (filter (is_looked_at picks) ms) → length held < looks → length (filter (is_picked picks) held) ≤ wanted
-    → filter (is_picked picks) held ≡ take wanted (filter (is_picked picks) ms)
-all_of_few picks order wanted looks ms held is few short =
-    sym (take_all wanted (filter (is_picked picks) held) short) ∙ first_of_few picks order wanted looks ms held is few
-
--- where as many are looked at as was asked for, there are as many
-pub looks_few : (picks : Picks) (looks : ℕ) (ms held : List Mark) → held ≡ take looks (filter (is_looked_at picks) ms) → looks ≤ length held → looks ≤ length ms
-looks_few picks looks ms held is all =
-    let some : looks ≤ length (take looks (filter (is_looked_at picks) ms)) = subst (λ (l : List Mark). looks ≤ length l) is all in
-    omega (arith, some, length-take looks (filter (is_looked_at picks) ms), filter_few (is_looked_at picks) ms)
-
--- ---- which marks of rows are cleared
-
--- a place of a text whose row lies in rows
-in_rows : (count first last row col : ℕ) → first ≤ row → row < last → row < count
-    → is_within (row_place count first) (row_place count last) (record { row = row; col = col }) ≡ true
-in_rows count first last row col from to within = grind (arith, nat_tests, from, to, within)
-
--- the last place of a text
-in_last_row : (count first last : ℕ) → first ≤ count → count < last
-    → is_within (row_place count first) (row_place count last) (record { row = count; col = 0 }) ≡ true
-in_last_row count first last from to = grind (arith, nat_tests, from, to)
-
-place_in_rows : (text : List (List ℕ)) (first last : ℕ) (p : Pos) → IsPlaceIn text p → first ≤ p.row → p.row < last
-    → is_within (row_place (length text) first) (row_place (length text) last) p ≡ true
-place_in_rows text first last p within from to = by_case (cases_lt p.row (length text))
+pub covers_past : (rows : Rows) → 4294967295 < rows.first → CoversRows rows None
+covers_past rows above m narrow = by_case rows.last
   where
-    by_case : (p.row < length text) ⊎ (length text ≤ p.row) → is_within (row_place (length text) first) (row_place (length text) last) p ≡ true
-    by_case (inl inside) = in_rows (length text) first last p.row p.col from to inside
-    by_case (inr behind) =
-        let row : p.row ≡ length text = omega (arith, within.row, behind) in
-        let none : line_at text p.row ≡ [] = get_or_past text p.row [] behind in
-        let col : p.col ≡ 0 = omega (arith, within.col, ap length none) in
-        let low : first ≤ length text = omega (arith, from, row) in
-        let high : length text < last = omega (arith, to, row) in
-        subst (λ (q : Pos). is_within (row_place (length text) first) (row_place (length text) last) q ≡ true) (λ i. record { row = sym row i; col = sym col i })
-        (in_last_row (length text) first last low high)
+    by_case : (last : Option ℕ) → lies_in rows.first last m ≡ false
+    by_case None = past_greatest rows.first m.start.row narrow.0 above
+    by_case (Some last) = ap (λ (t : Bool). t && nat_lt m.start.row last) (past_greatest rows.first m.start.row narrow.0 above)
 
--- a mark that is cleared lies between the places of the rows
-cleared_between : (text : List (List ℕ)) → length text < 2 ^ 32 → (meant : Option ℕ) (first : ℕ) (last : Option ℕ) (m : Mark) → IsMarkIn text m
-    → (is_meant meant m && lies_in first last m) ≡ true
-    → starts_within (row_place (length text) first) (row_place (length text) (unwrap_or last 18446744073709551615)) m ≡ true
-cleared_between text few meant first None m within cleared =
-    let from : first ≤ m.start.row = grind (arith, nat_tests, (both_hold (is_meant meant m) (lies_in first None m) cleared).1) in
-    place_in_rows text first 18446744073709551615 m.start within.start from (omega (arith, few, within.start.row))
-cleared_between text few meant first (Some last) m within cleared =
-    let both = both_hold (nat_le first m.start.row) (nat_lt m.start.row last) (both_hold (is_meant meant m) (lies_in first (Some last) m) cleared).1 in
-    let from : first ≤ m.start.row = grind (arith, nat_tests, both.0) in
-    let to : m.start.row < last = grind (arith, nat_tests, both.1) in
-    place_in_rows text first last m.start within.start from to
+pub covers_between : (rows : Rows) (found : Option Pos) (to : Pos) → found ≡ Some to → EndsRows rows.last found
+    → CoversRows rows (Some (record { row = rows.first; col = 0 }, to))
+covers_between rows found to is ends m narrow =
+    from_row rows.first rows.last m
+    ∙ ap (λ (t : Bool). not (is_before m.start (record { row = rows.first; col = 0 })) && t)
+    (subst (λ (o : Option Pos). EndsRows rows.last o) is ends m narrow)
 
--- all marks that are cleared are among those between the places
-pub all_between : (text : List (List ℕ)) → length text < 2 ^ 32 → (rows : Rows) (ms : List Mark) → All (IsMarkIn text) ms
-    → filter (is_cleared rows) (take (length ms) (filter (starts_within (row_place (length text) rows.first) (row_place (length text) (unwrap_or rows.last 18446744073709551615))) ms))
-    ≡ filter (is_cleared rows) ms
-all_between text few rows ms within =
-    kept_looked_up (IsMarkIn text) (is_cleared rows) (starts_within (row_place (length text) rows.first) (row_place (length text) (unwrap_or rows.last 18446744073709551615)))
-    (λ m in' cleared. cleared_between text few rows.meant rows.first rows.last m in' cleared) ms within
+-- the starts of the marks of a text are narrow
+pub starts_narrow : (text : List (List ℕ)) (ms : List Mark) → IsNarrowText text → All (IsMarkIn text) ms → All (λ (m : Mark). IsNarrow m.start) ms
+starts_narrow text ms narrow are =
+    All-weaker (IsMarkIn text) (λ (m : Mark). IsNarrow m.start) (λ m here. narrow_place text m.start narrow here.start) ms are
 
 -- ---- what holds of all holds of those that are listed
 

@@ -17,7 +17,8 @@ use Rattle.nv_model.proofs.AnswersTell.{tells_none, tells_answers, tells_unless,
 use Rattle.nv_api_mark.specs.Namespaces.{namespace_answer, nvim_create_namespace, nvim_get_namespaces}
 use Rattle.nv_api_mark.specs.Groups.{group_operations, groups_with}
 use Rattle.nv_api_mark.specs.MarkRows.{wanted_group_operations, removal_answer, nvim_buf_set_extmark, nvim_buf_del_extmark, nvim_buf_get_extmark_by_id}
-use Rattle.nv_api_mark.specs.Listing.{removal_operations, nvim_buf_get_extmarks, nvim_buf_clear_namespace}
+use Rattle.nv_model.specs.Answering.{removal_operations}
+use Rattle.nv_api_mark.specs.Listing.{nvim_buf_get_extmarks, nvim_buf_clear_namespace}
 use Rattle.nv_api_mark.specs.GroupRows.{link_operations, groups_operations as all_made, nvim_set_hl, nvim_get_hl, nvim_get_hl_id_by_name}
 use Rattle.nv_api_mark.specs.Laws.{MarkRowsTell}
 

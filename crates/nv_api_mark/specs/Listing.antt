@@ -1,5 +1,5 @@
 -- The methods on many marks (help: nvim_buf_get_extmarks(), nvim_buf_clear_namespace()).
-use Rattle.std.specs.Prelude.{ℕ, ℤ, pos, negsuc, ◌==◌, Bool, true, false, not, ◌&&◌, ◌||◌, nat_le, nat_lt, List, [], ◌∷◌, length, take, map, filter, reverse, codes, Option, Some, None, option_map, option_and_then, unwrap_or, if◌then◌else◌}
+use Rattle.std.specs.Prelude.{ℕ, ℤ, pos, negsuc, ◌==◌, Bool, false, not, ◌&&◌, ◌||◌, nat_le, nat_lt, List, [], ◌∷◌, length, take, map, filter, reverse, codes, Option, Some, None, option_map, option_and_then, unwrap_or, if◌then◌else◌}
 use Rattle.std.specs.Option.{option_map_or}
 use Rattle.std.specs.Ordering.{int_eq}
 use Rattle.nv_value.specs.Content.{Tree, nil, list}
@@ -15,12 +15,12 @@ use Rattle.nv_args.specs.KeyValues.{integer_from, takes_integer_from}
 use Rattle.nv_args.specs.Maps.{Key, map_fault, value_of}
 use Rattle.nv_hl.specs.Groups.{NamedGroup}
 use Rattle.nv_marks.specs.Order.{starts_within}
+use Rattle.nv_marks.specs.Queries.{is_meant}
 use Rattle.nv_marks.specs.declared.extmark.Mark.{Mark}
 use Rattle.nv_model.specs.Stage.{Stage}
 use Rattle.nv_model.specs.Seen.{Seen, SeenBuffer}
-use Rattle.nv_model.specs.Operations.{Operation, mark_removed}
 use Rattle.nv_model.specs.Answers.{Answer, replied, or_refused, on_buffer}
-use Rattle.nv_model.specs.Answering.{reply_of, fault_or, array_of, natural}
+use Rattle.nv_model.specs.Answering.{reply_of, fault_or, array_of, natural, removal_operations}
 use Rattle.nv_api_mark.specs.Namespaces.{namespace_of_id}
 use Rattle.nv_api_mark.specs.Setting.{col_by_number}
 use Rattle.nv_api_mark.specs.MarkRows.{mark_numbered, place_values}
@@ -29,10 +29,6 @@ use Rattle.nv_api_mark.specs.MarkRows.{mark_numbered, place_values}
 abbrev pub meant_namespace : Stage → ℤ → Option (Option ℕ)
 meant_namespace stage (negsuc n) = if n == 0 then Some None else None
 meant_namespace stage (pos ns) = option_map Some (namespace_of_id stage (pos ns))
-
-abbrev pub is_meant : Option ℕ → Mark → Bool
-is_meant None m = true
-is_meant (Some ns) m = m.ns == ns
 
 -- the first place, and the last one: the row after the last line
 abbrev pub first_place : Pos
@@ -95,7 +91,8 @@ reaches p m = is_before m.start p && option_map_or (λ far. not (is_before far.p
 -- to the first
 abbrev pub marks_between : Option ℕ → Bool → Pos → Pos → List Mark → List Mark
 marks_between meant overlap low high marks =
-    filter (λ m. is_meant meant m && (starts_within low high m || (overlap && reaches low m))) marks
+    filter
+    (λ m. is_meant meant m.ns && (starts_within low high m || (overlap && reaches low m))) marks
 
 -- from one place to another, in reverse order where that lies before it
 abbrev pub marks_from : Option ℕ → Bool → Pos → Pos → List Mark → List Mark
@@ -149,9 +146,6 @@ abbrev pub first_row : ℤ → Option ℕ
 first_row (pos n) = Some n
 first_row (negsuc n) = None
 
-abbrev pub removal_operations : ℤ → List Mark → List Operation
-removal_operations n marks = map (λ m. mark_removed n m.ns m.id) marks
-
 -- nvim_buf_clear_namespace(buffer, ns_id, line_start, line_end): the marks of these rows are
 -- removed, the second exclusive
 abbrev pub nvim_buf_clear_namespace : Seen → ℕ → List Arg → Answer
@@ -161,4 +155,4 @@ nvim_buf_clear_namespace s session args =
     or_refused (first_row (number_at args 2)) out_of_bounds (λ first.
     or_refused (last_row (number_at args 3)) out_of_bounds (λ last.
     replied nil (removal_operations n
-    (filter (λ m. is_meant meant m && lies_in first last m) b.marks)) []))))
+    (filter (λ m. is_meant meant m.ns && lies_in first last m) b.marks)) []))))

@@ -17,6 +17,7 @@ use Rattle.nv_marks.specs.declared.extmark.Paint.{Paint}
 use Rattle.nv_model.specs.Stage.{Stage}
 use Rattle.nv_model.specs.Seen.{Seen, SeenBuffer}
 use Rattle.nv_model.specs.Operations.{Operation, mark_set, mark_removed}
+use Rattle.nv_model.specs.Keeping.{most_settings}
 use Rattle.nv_model.specs.Answers.{Answer, replied, unless, or_refused, on_buffer}
 use Rattle.nv_model.specs.Answering.{reply_of, fault_or, array_of, natural, key_value, dict_of}
 use Rattle.nv_args.specs.Dicts.{flag_key, flag_or}
@@ -31,10 +32,13 @@ abbrev pub next_mark_id : SeenBuffer → ℕ → Option ℕ → ℕ
 next_mark_id b ns (Some id) = id
 next_mark_id b ns None = suc (b.greatest ns)
 
--- whether no id is left for a mark without one
+-- whether no id is left for a mark without one, or no number for a setting more
+abbrev pub no_id_for : SeenBuffer → ℕ → Option ℕ → Bool
+no_id_for b ns (Some id) = false
+no_id_for b ns None = nat_le greatest_mark_id (b.greatest ns)
+
 abbrev pub no_mark_left : SeenBuffer → ℕ → Option ℕ → Bool
-no_mark_left b ns (Some id) = false
-no_mark_left b ns None = nat_le greatest_mark_id (b.greatest ns)
+no_mark_left b ns given = nat_le most_settings b.settings || no_id_for b ns given
 
 -- whether a number is no group's
 abbrev pub is_no_group : List NamedGroup → Option ℤ → Bool
@@ -68,6 +72,10 @@ mark_with groups ns id start stop pairs = record {
   stop = stop;
   paint = paint_of groups pairs;
   priority = unwrap_or (option_and_then priority_in (value_of (codes "priority") pairs)) 4096;
+  restore = flag_or true (codes "undo_restore") pairs;
+  invalidate = flag_or false (codes "invalidate") pairs;
+  hidden = false;
+  set = 0;
 }
 
 -- the id that pairs that count give
@@ -144,6 +152,14 @@ paint_details groups None = []
 paint_details groups (Some paint) = key_value "hl_group" (text (name_at groups paint.group))
     ∷ key_value "hl_eol" (truth paint.eol) ∷ []
 
+-- what is told of a mark if undo doesn't put it back, if it is struck where all of it is removed,
+-- and if it is hidden
+abbrev pub undo_details : Mark → List (Tree × Tree)
+undo_details m =
+    (if not m.restore then key_value "undo_restore" (truth false) ∷ [] else [])
+    ++ (if m.invalidate then key_value "invalidate" (truth true) ∷ [] else [])
+    ++ (if m.hidden then key_value "invalid" (truth true) ∷ [] else [])
+
 -- the details of a mark
 abbrev pub details_of : List NamedGroup → Mark → Tree
 details_of groups m =
@@ -151,7 +167,7 @@ details_of groups m =
     key_value "ns_id" (natural m.ns)
     ∷ key_value "right_gravity" (truth m.right)
     ∷ key_value "priority" (natural m.priority)
-    ∷ end_details m.stop ++ paint_details groups m.paint)
+    ∷ end_details m.stop ++ (paint_details groups m.paint ++ undo_details m))
 
 -- the place of a mark, and its details where they are wanted
 abbrev pub place_values : List NamedGroup → Bool → Mark → List Tree

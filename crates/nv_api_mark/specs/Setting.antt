@@ -41,6 +41,8 @@ mark_keys pairs =
     ∷ optional_key (codes "right_gravity") takes_flag
     ∷ optional_key (codes "end_right_gravity") (λ t. has_end pairs && takes_flag t)
     ∷ optional_key (codes "strict") takes_flag
+    ∷ optional_key (codes "undo_restore") takes_flag
+    ∷ optional_key (codes "invalidate") takes_flag
     ∷ []
 
 -- the keys that name a group

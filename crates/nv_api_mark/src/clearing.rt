@@ -1,23 +1,24 @@
 //! Removing the marks of rows (help: nvim_buf_clear_namespace()).
-ghost use Rattle.std.specs.Prelude.{◌≡◌, ◌<◌, ◌^◌, ℕ, List, filter, true, IfOk};
+ghost use Rattle.std.specs.Prelude.{◌≡◌, ℕ, All, List, filter, true, IfOk, OnOk};
+ghost use Rattle.nv_places.specs.Places.{IsNarrow};
 ghost use Rattle.nv_value.specs.View.{content};
 ghost use Rattle.nv_msgpack.specs.Shortest.{HasSpelling};
 ghost use Rattle.nv_args.specs.Args.{typed_arguments};
 ghost use Rattle.nv_model.specs.Answers.{Answer, Fact};
 ghost use Rattle.nv_model.specs.Standing.{seen_now};
 ghost use Rattle.nv_editor.specs.Doing.{Does, GivesAnswer};
-ghost use Rattle.nv_editor.specs.Sound.{is_live_buffer};
-ghost use Rattle.nv_api_mark.specs.Listing.{first_row, last_row, lies_in, nvim_buf_clear_namespace, removal_operations};
+ghost use Rattle.nv_editor.specs.Sound.{content_at, is_live_buffer};
+ghost use Rattle.nv_model.specs.Answering.{removal_operations};
+ghost use Rattle.nv_api_mark.specs.Listing.{first_row, last_row, nvim_buf_clear_namespace};
 ghost use Rattle.nv_api_mark.specs.inside.Steps.{Decides};
-ghost use Rattle.nv_api_mark.specs.inside.Picking.{is_cleared, row_place, clearing_answer};
+ghost use Rattle.nv_api_mark.specs.inside.Picking.{CoversRows, EndsRows, clearing_answer, is_in_rows};
 
-use crate::listing::is_meant;
 use crate::naming::meant_namespace;
 use nv_args::{Args, Fail, no_buffer, out_of_bounds};
-use nv_buffer::{Buffer, Mark, Pos};
+use nv_buffer::{Buffer, Pos};
 use nv_editor::Editor;
 use nv_value::Value;
-use std::alloc::{AllocError, Global};
+use std::alloc::AllocError;
 
 /// Rows from a first one on, and before a last one where there is one, and the namespaces that are
 /// meant: one, or all.
@@ -70,80 +71,65 @@ fn rows_given(editor: &Editor, args: &Args) -> Result<Rows, Fail>
     Ok(Rows { meant, first, last })
 }
 
-// Whether a mark starts in rows.
-fn lies_in(rows: Rows, mark: Mark) -> bool
-    ensures { result ≡ lies_in rows.first rows.last mark }
+// The greatest row, or column, of a place.
+const GREATEST: u64 = 4_294_967_295;
+
+// The last place of a row.
+fn row_end(row: u32) -> Pos
+    ensures { result ≡ record { row = row; col = 4294967295 } }
 {
-    let row = u64::from(mark.start.row);
-    match rows.last {
-        Some(last) => rows.first <= row && row < last,
-        None => rows.first <= row,
-    }
+    Pos { row, col: u32::MAX }
 }
 
-// Whether a mark is removed.
-fn is_cleared(rows: Rows, mark: Mark) -> bool
-    ensures { result ≡ is_cleared rows mark }
+// The last of the places that marks in rows may start at; none where there is no such row.
+fn last_place(last: Option<u64>) -> Option<Pos>
+    ensures { EndsRows last result }
 {
-    is_meant(rows.meant, mark) && lies_in(rows, mark)
-}
-
-// Those of some marks that are removed.
-fn cleared_among(alloc: Global, marks: &[Mark], rows: Rows) -> Result<Vec<Mark>, AllocError>
-    ensures { IfOk result (λ found. found.items ≡ filter (is_cleared rows) marks.now) }
-{
-    let mut found = Vec::new(alloc);
-    for mark in marks {
-        if is_cleared(rows, *mark) {
-            found.push(*mark)?;
-        }
-    }
-    Ok(found)
-}
-
-// The place at the start of a row, and the last place of a text for a row behind it.
-fn row_place(count: usize, row: u64) -> Pos
-    requires { count < 2 ^ 32 }
-    ensures { result ≡ row_place count row }
-{
-    let row = if row < count as u64 {
-        row as u32
-    } else {
-        count as u32
+    let Some(last) = last else {
+        return Some(row_end(u32::MAX));
     };
-    Pos { row, col: 0 }
+    if last == 0 {
+        return None;
+    }
+    let row = (last - 1).min(GREATEST);
+    Some(row_end(row as u32))
 }
 
-// The marks between the places of rows, among them all that are removed.
-fn marks_between(alloc: Global, buffer: &Buffer, rows: Rows) -> Result<Vec<Mark>, AllocError>
-    ensures { IfOk result (λ held. filter (is_cleared rows) held.items
-        ≡ filter (is_cleared rows) buffer.now.marks.marks) }
+// The places that marks in rows lie between, both included; none where there is none such.
+fn places_of(rows: Rows) -> Option<(Pos, Pos)>
+    ensures { CoversRows rows result }
 {
-    let marks = buffer.marks();
-    let count = buffer.text().count();
-    let from = row_place(count, rows.first);
-    let to = row_place(count, rows.last.unwrap_or(u64::MAX));
-    let mut held = Vec::new(alloc);
-    marks.range(from, to, marks.len(), &mut held)?;
-    Ok(held)
+    let to = last_place(rows.last)?;
+    let first = rows.first;
+    if first > GREATEST {
+        return None;
+    }
+    let from = Pos {
+        row: first as u32,
+        col: 0,
+    };
+    Some((from, to))
 }
 
-// The marks of rows.
-fn marks_in(alloc: Global, buffer: &Buffer, rows: Rows) -> Result<Vec<Mark>, AllocError>
-    ensures { IfOk result
-        (λ found. found.items ≡ filter (is_cleared rows) buffer.now.marks.marks) }
+// What is known of the marks of each buffer. It does nothing.
+fn known_places(buffer: &Buffer)
+    ensures { All (λ m. IsNarrow m.start) buffer.now.marks.marks }
 {
-    let held = marks_between(alloc, buffer, rows)?;
-    cleared_among(alloc, held.as_slice(), rows)
+    buffer.known();
+    let _ = buffer.marks();
 }
 
-// Removes marks of a live buffer.
-fn remove_marks(editor: &mut Editor, handle: i64, marks: &[Mark])
+// Removes the marks of rows of a live buffer.
+fn clear_rows(editor: &mut Editor, handle: i64, rows: Rows) -> Result<(), AllocError>
     requires live { is_live_buffer editor.old handle ≡ true }
-    ensures { Does (removal_operations handle marks.now) editor.old editor.new }
+    requires narrow { All (λ m. IsNarrow m.start) (content_at editor.old handle).marks.marks }
+    ensures { OnOk result (Does (removal_operations handle
+        (filter (is_in_rows rows) (content_at editor.old handle).marks.marks))
+        editor.old editor.new) }
 {
-    for mark in marks {
-        let _ = editor.remove_mark(handle, mark.ns, mark.id);
+    match places_of(rows) {
+        Some((from, to)) => editor.clear_marks(handle, rows.meant, from, to),
+        None => Ok(()),
     }
 }
 
@@ -159,8 +145,8 @@ pub fn nvim_buf_clear_namespace(editor: &mut Editor, args: &Args) -> Result<Valu
     let Some(buffer) = editor.buffer(handle) else {
         return Err(no_buffer(editor.alloc(), given));
     };
+    known_places(buffer);
     let rows = rows_given(editor, args)?;
-    let marks = marks_in(editor.alloc(), buffer, rows)?;
-    remove_marks(editor, handle, marks.as_slice());
+    clear_rows(editor, handle, rows)?;
     Ok(Value::Nil)
 }

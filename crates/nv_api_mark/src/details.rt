@@ -1,13 +1,13 @@
 //! What is told of a mark.
-ghost use Rattle.std.specs.Prelude.{◌≡◌, ◌++◌, List, map, true, IfOk, IfSome, OnOk};
-ghost use Rattle.nv_value.specs.Content.{Tree};
+ghost use Rattle.std.specs.Prelude.{◌≡◌, ◌++◌, ◌∷◌, [], List, if◌then◌else◌, map, true, IfOk, IfSome, OnOk};
+ghost use Rattle.nv_value.specs.Content.{Tree, text, truth};
 ghost use Rattle.nv_value.specs.View.{content, pair_content};
 ghost use Rattle.nv_msgpack.specs.Shortest.{HasSpelling};
 ghost use Rattle.nv_hl.specs.Groups.{HasGroup};
 ghost use Rattle.nv_editor.specs.Sound.{IsOfGroups};
 ghost use Rattle.nv_model.specs.Answering.{array_of};
 ghost use Rattle.nv_api_mark.specs.Listing.{listed_mark};
-ghost use Rattle.nv_api_mark.specs.MarkRows.{details_of, end_details, paint_details, place_values, place_values_if_any};
+ghost use Rattle.nv_api_mark.specs.MarkRows.{details_of, end_details, paint_details, place_values, place_values_if_any, undo_details};
 ghost use Rattle.nv_api_mark.specs.inside.Marking.{IsGroupTold};
 ghost use Rattle.nv_api_mark.specs.inside.Picking.{listed_triple};
 
@@ -54,18 +54,51 @@ fn push_paint(
     Ok(())
 }
 
+// Puts a key that is set or not behind the rest, where it is told.
+fn push_told(
+    alloc: Global,
+    fields: &mut Fields,
+    key: &str,
+    is_told: bool,
+    is_set: bool,
+) -> Result<(), AllocError>
+    ensures { OnOk result ((rest : List (Tree × Tree))
+        → map pair_content fields.new.items ++ rest
+        ≡ map pair_content fields.old.items
+        ++ ((if is_told then (text key.now, truth is_set) ∷ [] else []) ++ rest)) }
+{
+    if !is_told {
+        return Ok(());
+    }
+    put_truth(alloc, fields, key, is_set)?;
+    Ok(())
+}
+
+// Puts what is told of how undo and removal leave a mark behind the rest.
+fn push_undo(alloc: Global, fields: &mut Fields, mark: Mark) -> Result<(), AllocError>
+    ensures { OnOk result ((rest : List (Tree × Tree))
+        → map pair_content fields.new.items ++ rest
+        ≡ map pair_content fields.old.items ++ (undo_details mark ++ rest)) }
+{
+    push_told(alloc, fields, "undo_restore", !mark.restore, false)?;
+    push_told(alloc, fields, "invalidate", mark.invalidate, true)?;
+    push_told(alloc, fields, "invalid", mark.hidden, true)?;
+    Ok(())
+}
+
 // The details of a mark.
 fn details_value(alloc: Global, groups: &Groups, mark: Mark) -> Result<Value, AllocError>
     requires { IsOfGroups groups.now mark }
     ensures told { IfOk result (λ value. content value ≡ details_of groups.now mark) }
-    ensures short { OnOk result (IsGroupTold groups.now mark.paint) }
+    ensures spelled { IfOk result (λ value. HasSpelling (content value)) }
 {
-    let mut fields = Vec::new(alloc);
+    let mut fields = Vec::with_capacity(alloc, 8)?;
     put_natural(alloc, &mut fields, "ns_id", mark.ns)?;
     put_truth(alloc, &mut fields, "right_gravity", mark.right)?;
     put_natural(alloc, &mut fields, "priority", mark.priority)?;
     push_end(alloc, &mut fields, mark.stop)?;
     push_paint(alloc, &mut fields, groups, mark.paint)?;
+    push_undo(alloc, &mut fields, mark)?;
     Ok(Value::Pairs(fields))
 }
 

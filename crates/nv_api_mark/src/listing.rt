@@ -15,10 +15,10 @@ ghost use Rattle.nv_model.specs.Answers.{Answer};
 ghost use Rattle.nv_model.specs.Answering.{array_of, reply_of};
 ghost use Rattle.nv_model.specs.Standing.{seen_now, seen_buffer_now};
 ghost use Rattle.nv_editor.specs.Sound.{IsOfGroups};
-ghost use Rattle.nv_api_mark.specs.Listing.{first_marks, is_meant, listed_mark, listing_keys, marks_from, nvim_buf_get_extmarks, place_by_number, place_of_value, place_pair, reaches};
+ghost use Rattle.nv_api_mark.specs.Listing.{first_marks, listed_mark, listing_keys, marks_from, nvim_buf_get_extmarks, place_by_number, place_of_value, place_pair};
 ghost use Rattle.nv_api_mark.specs.Outcomes.{ReadsOutcome};
 ghost use Rattle.nv_api_mark.specs.inside.Steps.{Decides};
-ghost use Rattle.nv_api_mark.specs.inside.Picking.{first_looked_at, is_looked_at, is_picked, listed_triple, marks_answer, span_answer, spanned_answer};
+ghost use Rattle.nv_api_mark.specs.inside.Picking.{is_picked, listed_triple, marks_answer, span_answer, spanned_answer};
 
 use crate::details::{detailed_value, listed_triple};
 use crate::naming::meant_namespace;
@@ -26,10 +26,10 @@ use crate::places::{mark_numbered, place_or_last};
 use nv_args::{
     Args, Fail, Rule, Takes, flag_or, integer_from, integer_of, map_fault, no_buffer, out_of_bounds,
 };
-use nv_buffer::{Buffer, Mark, Pos};
+use nv_buffer::{Buffer, Mark, Pos, Query};
 use nv_editor::Editor;
 use nv_hl::Groups;
-use nv_rpc::{Outcome, Triple};
+use nv_rpc::{CallResult, Outcome, Triple};
 use nv_value::{Pair, Value};
 use std::alloc::{AllocError, Global};
 
@@ -51,82 +51,7 @@ pub struct Picks {
     pub high: Pos,
 }
 
-/// Whether a mark is of the namespaces that are meant.
-pub fn is_meant(meant: Option<u32>, mark: Mark) -> bool
-    ensures { result ≡ is_meant meant mark }
-{
-    match meant {
-        Some(ns) => mark.ns == ns,
-        None => true,
-    }
-}
-
-// Whether a mark starts before a place, and ends at it or behind it.
-fn reaches(place: Pos, mark: Mark) -> bool
-    ensures { result ≡ reaches place mark }
-{
-    match mark.stop {
-        Some(far) => mark.start.is_before(place) && !far.pos.is_before(place),
-        None => false,
-    }
-}
-
-// Whether a mark is picked.
-fn is_picked(picks: Picks, mark: Mark) -> bool
-    ensures { result ≡ is_picked picks mark }
-{
-    let within = !mark.start.is_before(picks.low) && !picks.high.is_before(mark.start);
-    is_meant(picks.meant, mark) && (within || picks.overlap && reaches(picks.low, mark))
-}
-
-// Keeps those of some marks that are picked.
-fn keep_picked(marks: &mut Vec<Mark>, picks: Picks)
-    ensures { marks.new.items ≡ filter (is_picked picks) marks.old.items }
-{
-    marks.retain(|mark| is_picked(picks, *mark));
-}
-
-// The place from which marks are looked at.
-fn first_looked_at(picks: Picks) -> Pos
-    ensures { result ≡ first_looked_at picks }
-{
-    if picks.overlap {
-        Pos { row: 0, col: 0 }
-    } else {
-        picks.low
-    }
-}
-
-// The marks that are looked at, no more of them than a limit.
-fn looked_at(
-    alloc: Global,
-    buffer: &Buffer,
-    picks: Picks,
-    limit: usize,
-) -> Result<Vec<Mark>, AllocError>
-    ensures { IfOk result (λ held. held.items
-        ≡ take limit (filter (is_looked_at picks) buffer.now.marks.marks)) }
-{
-    let mut held = Vec::new(alloc);
-    buffer
-        .marks()
-        .range(first_looked_at(picks), picks.high, limit, &mut held)?;
-    Ok(held)
-}
-
-// All marks that are picked.
-fn all_picked(alloc: Global, buffer: &Buffer, picks: Picks) -> Result<Vec<Mark>, AllocError>
-    requires order { is_before picks.high picks.low ≡ false }
-    ensures { IfOk result
-        (λ found. found.items ≡ filter (is_picked picks) buffer.now.marks.marks) }
-{
-    let mut found = looked_at(alloc, buffer, picks, buffer.marks().len())?;
-    keep_picked(&mut found, picks);
-    Ok(found)
-}
-
-// The first marks that are picked, as many as are wanted. The first look is at as many marks, and
-// each further one at twice as many as the one before, until enough of them are picked.
+// The first marks that are picked, as many as are wanted.
 fn first_picked(
     alloc: Global,
     buffer: &Buffer,
@@ -137,23 +62,24 @@ fn first_picked(
     ensures { IfOk result (λ found. found.items
         ≡ take wanted (filter (is_picked picks) buffer.now.marks.marks)) }
 {
-    let mut looks = wanted;
-    loop {
-        let mut found = looked_at(alloc, buffer, picks, looks)?;
-        let held = found.len();
-        keep_picked(&mut found, picks);
-        if wanted <= found.len() {
-            found.truncate(wanted);
-            return Ok(found);
-        }
-        if held < looks {
-            return Ok(found);
-        }
-        let Some(more) = looks.checked_mul(2) else {
-            return Err(AllocError);
-        };
-        looks = more;
-    }
+    let query = Query {
+        ns: picks.meant,
+        from: picks.low,
+        to: picks.high,
+        reaching: picks.overlap,
+    };
+    let mut found = Vec::new(alloc);
+    buffer.marks().select(&query, wanted, &mut found)?;
+    Ok(found)
+}
+
+// All marks that are picked.
+fn all_picked(alloc: Global, buffer: &Buffer, picks: Picks) -> Result<Vec<Mark>, AllocError>
+    requires order { is_before picks.high picks.low ≡ false }
+    ensures { IfOk result
+        (λ found. found.items ≡ filter (is_picked picks) buffer.now.marks.marks) }
+{
+    first_picked(alloc, buffer, picks, buffer.marks().len())
 }
 
 // The marks from a first place on, no more of them than a limit.
@@ -269,10 +195,10 @@ fn listed_marks(
     }
     if details {
         let value = detailed_marks(alloc, groups, marks)?;
-        return Ok(Outcome::Value(value));
+        return Ok(Outcome::One(CallResult::Value(value)));
     }
     let triples = plain_marks(alloc, marks)?;
-    Ok(Outcome::Triples(triples))
+    Ok(Outcome::One(CallResult::Triples(triples)))
 }
 
 // The place that one number names: 0 the first, -1 the last, another one that of a mark.

@@ -6,6 +6,7 @@ ghost use Rattle.nv_args.specs.Arguments.{last_pairs};
 ghost use Rattle.nv_args.specs.Dicts.{flag_or};
 ghost use Rattle.nv_hl.specs.Groups.{HasGroup};
 ghost use Rattle.nv_model.specs.Answers.{Fact};
+ghost use Rattle.nv_model.specs.Keeping.{most_settings};
 ghost use Rattle.nv_editor.specs.Doing.{Does, GivesAnswer};
 ghost use Rattle.nv_editor.specs.Sound.{content_at, is_live_buffer};
 ghost use Rattle.nv_api_mark.specs.Groups.{group_operations, groups_with, id_among};
@@ -90,6 +91,7 @@ pub fn put_draft(
 ) -> Result<Value, Fail>
     requires live { is_live_buffer editor.old handle ≡ true }
     requires within { IsDraftIn (content_at editor.old handle).text draft }
+    requires settings { (content_at editor.old handle).marks.settings < most_settings }
     requires few { length editor.old.stage.groups
         + length (wanted_group_operations editor.old.stage.groups
         (group_name (last_pairs (map pair_content pairs.now)))) < 2 ^ 32 }
@@ -110,6 +112,10 @@ pub fn put_draft(
         stop: draft.stop,
         paint: paint_of(group, pairs),
         priority: integer_between(pairs, "priority", 0, 65_535).unwrap_or(4096),
+        restore: flag_or(pairs, "undo_restore", true),
+        invalidate: flag_or(pairs, "invalidate", false),
+        hidden: false,
+        set: 0,
     };
     editor.set_mark(handle, mark)?;
     Ok(natural_value(draft.id))

@@ -16,6 +16,7 @@ ghost use Rattle.nv_args.specs.KeyValues.{takes_flag};
 ghost use Rattle.nv_args.specs.Naming.{naming_fault};
 ghost use Rattle.nv_args.specs.Refusals.{Finds, Refuses};
 ghost use Rattle.nv_model.specs.Answers.{Answer};
+ghost use Rattle.nv_model.specs.Keeping.{most_settings};
 ghost use Rattle.nv_model.specs.Seen.{Seen};
 ghost use Rattle.nv_model.specs.Standing.{seen_now, seen_buffer_now};
 ghost use Rattle.nv_api_mark.specs.MarkRows.{given_id, group_words, is_no_group, mark_answer, mark_passes_limit, next_mark_id, no_mark_left, wanted_group_operations};
@@ -38,6 +39,9 @@ use std::alloc::Global;
 
 /// The greatest id of a mark.
 const GREATEST_ID: u32 = 4_294_967_295;
+
+/// How many settings of marks a buffer takes.
+const MOST_SETTINGS: u64 = 4_611_686_018_427_387_904;
 
 /// Namespace, id and places of a mark that is to be set.
 #[derive(Clone, Copy)]
@@ -68,7 +72,7 @@ fn gravity_rule(with_end: bool) -> Rule
 }
 
 // The keys of a mark's options, with an end or without.
-fn mark_rules(with_end: bool) -> [Rule; 9]
+fn mark_rules(with_end: bool) -> [Rule; 11]
     ensures { map key_of result ≡ keys_with with_end }
 {
     [
@@ -81,6 +85,8 @@ fn mark_rules(with_end: bool) -> [Rule; 9]
         Rule::flag("right_gravity"),
         gravity_rule(with_end),
         Rule::flag("strict"),
+        Rule::flag("undo_restore"),
+        Rule::flag("invalidate"),
     ]
 }
 
@@ -116,16 +122,20 @@ fn is_reversed(start: Pos, stop: Option<Far>) -> bool
     }
 }
 
-// The id that a mark gets; none where none is left.
+// The id that a mark gets; none where none is left, or no number for a setting more.
 fn id_given(buffer: &Buffer, ns: u32, pairs: &[Pair]) -> Option<u32>
-    ensures { MatchOption result
+    ensures given { MatchOption result
         (no_mark_left (seen_buffer_now buffer.now) ns
         (given_id (last_pairs (map pair_content pairs.now))) ≡ true)
         (λ id. (no_mark_left (seen_buffer_now buffer.now) ns
         (given_id (last_pairs (map pair_content pairs.now))) ≡ false)
         × (id ≡ next_mark_id (seen_buffer_now buffer.now) ns
         (given_id (last_pairs (map pair_content pairs.now))))) }
+    ensures few { IfSome result (λ id. buffer.now.marks.settings < most_settings) }
 {
+    if MOST_SETTINGS <= buffer.marks().settings() {
+        return None;
+    }
     match integer_between(pairs, "id", 1, GREATEST_ID) {
         Some(id) => Some(id),
         None => buffer.marks().next_id(ns),
@@ -210,6 +220,7 @@ fn draft_at(
         (draft_answer editor.now.stage.groups n (last_pairs (map pair_content pairs.now))) result }
     ensures start { IfOk result (λ d. d.start ≡ start) }
     ensures stop { IfOk result (λ d. d.stop ≡ stop) }
+    ensures settings { IfOk result (λ d. buffer.now.marks.settings < most_settings) }
     ensures there { IfOk result (λ d. HasNumbered editor.now.stage.groups
         (group_number (last_pairs (map pair_content pairs.now)))) }
     ensures few { IfOk result (λ d. length editor.now.stage.groups
@@ -245,6 +256,7 @@ fn draft_by(editor: &Editor, buffer: &Buffer, args: &Args, pairs: &[Pair]) -> Re
         (typed_arguments args.now) (last_pairs (map pair_content pairs.now)))
         (draft_answer editor.now.stage.groups n (last_pairs (map pair_content pairs.now))) result }
     ensures within { IfOk result (IsDraftIn buffer.now.text) }
+    ensures settings { IfOk result (λ d. buffer.now.marks.settings < most_settings) }
     ensures there { IfOk result (λ d. HasNumbered editor.now.stage.groups
         (group_number (last_pairs (map pair_content pairs.now)))) }
     ensures few { IfOk result (λ d. length editor.now.stage.groups
@@ -288,6 +300,7 @@ pub fn draft_given(
         (typed_arguments args.now) (last_pairs (map pair_content pairs.now)))
         (draft_answer editor.now.stage.groups n (last_pairs (map pair_content pairs.now))) result }
     ensures within { IfOk result (IsDraftIn buffer.now.text) }
+    ensures settings { IfOk result (λ d. buffer.now.marks.settings < most_settings) }
     ensures there { IfOk result (λ d. HasNumbered editor.now.stage.groups
         (group_number (last_pairs (map pair_content pairs.now)))) }
     ensures few { IfOk result (λ d. length editor.now.stage.groups

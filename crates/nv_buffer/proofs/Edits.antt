@@ -9,7 +9,8 @@ use Rattle.nv_places.proofs.FlatLemmas.{flat-splice}
 use Rattle.nv_lines.proofs.FlatLengths.{row_start-le}
 use Rattle.nv_buffer.specs.Splices.{IsBufferText, IsInLine, IsNarrowLine, lines_between}
 use Rattle.nv_buffer.specs.Changes.{lines_after, edit_by, rows_edit, text_edit, Replaces, IsPlaced, Fits}
-use Rattle.nv_buffer.specs.Content.{Content, IsEdit, after_edit, event_at, rows_event, text_event}
+use Rattle.nv_buffer.specs.Content.{Content, IsEdit, after_edit, event_at, next_part, rows_event, text_event}
+use Rattle.nv_buffer.specs.declared.edit.ChangePart.{ChangePart}
 use Rattle.nv_buffer.specs.declared.edit.Edit.{Edit}
 use Rattle.nv_buffer.specs.declared.buffer.Spliced.{Spliced}
 use Rattle.nv_buffer.proofs.Between.{flat-text_splice, length-between}
@@ -63,10 +64,10 @@ pub record MayPut (text : List (List ℕ)) (first last : ℕ) (lines : List (Lis
   pub columns : All IsNarrowLine lines
   pub lines_are : All IsLine lines
 
-edit_fits : (text : List (List ℕ)) (first last : ℕ) (lines : List (List ℕ)) (s e : ℕ) (bytes : List ℕ) (whole : Bool) → IsBufferText text
+edit_fits : (part : ChangePart) (text : List (List ℕ)) (first last : ℕ) (lines : List (List ℕ)) (s e : ℕ) (bytes : List ℕ) (whole : Bool) → IsBufferText text
     → MayPut text first last lines → s ≤ e → e ≤ length (flat text)
-    → flat (splice text first last lines) ≡ splice (flat text) s e bytes → Fits text (edit_by text first last lines s (e - s) bytes whole)
-edit_fits text first last lines s e bytes whole is may order within flat_is = record {
+    → flat (splice text first last lines) ≡ splice (flat text) s e bytes → Fits text (edit_by part text first last lines s (e - s) bytes whole)
+edit_fits part text first last lines s e bytes whole is may order within flat_is = record {
   order = may.order;
   within = may.within;
   left = omega (arith, length-spliced text lines first last may.order may.within, may.left, may.within);
@@ -80,19 +81,19 @@ edit_fits text first last lines s e bytes whole is may order within flat_is = re
   };
 }
 
-rows_fit : (text : List (List ℕ)) (from to : ℕ) (new : List (List ℕ)) → IsBufferText text → MayPut text from to new
-    → Fits text (rows_edit text from to new)
-rows_fit text from to new is may =
-    edit_fits text from to new (row_start text from) (row_start text to) (flat new) true is may (row_start-mono text from to may.order)
+rows_fit : (part : ChangePart) (text : List (List ℕ)) (from to : ℕ) (new : List (List ℕ)) → IsBufferText text → MayPut text from to new
+    → Fits text (rows_edit part text from to new)
+rows_fit part text from to new is may =
+    edit_fits part text from to new (row_start text from) (row_start text to) (flat new) true is may (row_start-mono text from to may.order)
     (row_start-le text to) (flat-splice text new from to)
 
-pub rows_edit_fits : (text : List (List ℕ)) (from to : ℕ) (new : List (List ℕ)) (edit : Edit) → IsBufferText text → from ≤ to → to ≤ length text
+pub rows_edit_fits : (part : ChangePart) (text : List (List ℕ)) (from to : ℕ) (new : List (List ℕ)) (edit : Edit) → IsBufferText text → from ≤ to → to ≤ length text
     → to < from + length new + length text → from + length new + length text < to + 2 ^ 32 → All IsNarrowLine new
-    → edit ≡ rows_edit text from to new → All IsLine edit.lines → Fits text edit
-rows_edit_fits text from to new edit is order within left count columns edit_is lines =
+    → edit ≡ rows_edit part text from to new → All IsLine edit.lines → Fits text edit
+rows_edit_fits part text from to new edit is order within left count columns edit_is lines =
     let are : All IsLine new = subst (λ (e : Edit). All IsLine e.lines) edit_is lines in
     subst (λ (e : Edit). Fits text e) (sym edit_is)
-    (rows_fit text from to new is
+    (rows_fit part text from to new is
     (record { order = order; within = within; left = left; count = count; columns = columns; lines_are = are }))
 
 -- what may be put between two places
@@ -116,63 +117,65 @@ text_may text start stop new may count columns lines =
       lines_are = lines;
     }
 
-text_fits : (text : List (List ℕ)) (start stop : Pos) (new : List (List ℕ)) → IsBufferText text → MayPutText text start stop new
+text_fits : (part : ChangePart) (text : List (List ℕ)) (start stop : Pos) (new : List (List ℕ)) → IsBufferText text → MayPutText text start stop new
     → start.row + length new + length text < stop.row + 1 + 2 ^ 32 → All IsNarrowLine (lines_between text start stop new)
-    → All IsLine (lines_between text start stop new) → Fits text (text_edit text start stop new)
-text_fits text start stop new is may count columns lines =
-    edit_fits text start.row (stop.row + 1) (lines_between text start stop new) (offset_of text start) (offset_of text stop)
+    → All IsLine (lines_between text start stop new) → Fits text (text_edit part text start stop new)
+text_fits part text start stop new is may count columns lines =
+    edit_fits part text start.row (stop.row + 1) (lines_between text start stop new) (offset_of text start) (offset_of text stop)
     (join_with_byte 10 new) false is (text_may text start stop new may count columns lines)
     (offsets_in_order text start stop may.start_in may.order) (omega (arith, offset_of-lt text stop may.stop_in))
     (flat-text_splice text new start stop may.start_in may.stop_in may.some)
 
-pub text_edit_fits : (text : List (List ℕ)) (start stop : Pos) (new : List (List ℕ)) (edit : Edit) → IsBufferText text
+pub text_edit_fits : (part : ChangePart) (text : List (List ℕ)) (start stop : Pos) (new : List (List ℕ)) (edit : Edit) → IsBufferText text
     → MayPutText text start stop new → start.row + length new + length text < stop.row + 1 + 2 ^ 32
-    → All IsNarrowLine (lines_between text start stop new) → edit ≡ text_edit text start stop new → All IsLine edit.lines → Fits text edit
-text_edit_fits text start stop new edit is may count columns edit_is lines =
+    → All IsNarrowLine (lines_between text start stop new) → edit ≡ text_edit part text start stop new → All IsLine edit.lines → Fits text edit
+text_edit_fits part text start stop new edit is may count columns edit_is lines =
     let are : All IsLine (lines_between text start stop new) = subst (λ (e : Edit). All IsLine e.lines) edit_is lines in
-    subst (λ (e : Edit). Fits text e) (sym edit_is) (text_fits text start stop new is may count columns are)
+    subst (λ (e : Edit). Fits text e) (sym edit_is) (text_fits part text start stop new is may count columns are)
 
 -- ---- what an edit does and tells
 -- an edit from the bytes that it replaces
-edit-is : (before : Content) (edit : Edit) (bytes : List ℕ) (s e : ℕ) → edit.at ≡ s → edit.at + edit.old ≡ e → e ≤ length (flat before.text)
+edit-is : (before : Content) (edit : Edit) (bytes : List ℕ) (s e : ℕ) → edit.part ≡ next_part before → edit.at ≡ s → edit.at + edit.old ≡ e → e ≤ length (flat before.text)
     → flat (lines_after before.text edit) ≡ splice (flat before.text) s e bytes
     → IsEdit before (after_edit before edit) bytes (event_at (before.tick +ℤ pos 1) edit)
-edit-is before edit bytes s e at end within flat_text = record {
+edit-is before edit bytes s e part at end within flat_text = record {
   within = omega arith;
   flat_text = rw (end, at) flat_text;
   lines = refl;
   tick = refl;
   modified = refl;
+  part = part;
   marks = refl;
+  keeps = refl;
   kept = refl;
 }
 
 rows_edit-is : (before : Content) (new : List (List ℕ)) (from to : ℕ) → from ≤ to
-    → IsEdit before (after_edit before (rows_edit before.text from to new)) (flat new) (rows_event before from to new)
+    → IsEdit before (after_edit before (rows_edit (next_part before) before.text from to new)) (flat new) (rows_event before from to new)
 rows_edit-is before new from to order =
-    edit-is before (rows_edit before.text from to new) (flat new) (row_start before.text from) (row_start before.text to) refl
+    edit-is before (rows_edit (next_part before) before.text from to new) (flat new) (row_start before.text from) (row_start before.text to) refl refl
     (omega (arith, row_start-mono before.text from to order)) (row_start-le before.text to) (flat-splice before.text new from to)
 
 text_edit-is : (before : Content) (new : List (List ℕ)) (start stop : Pos) → MayPutText before.text start stop new
-    → IsEdit before (after_edit before (text_edit before.text start stop new)) (join_with_byte 10 new) (text_event before start stop new)
+    → IsEdit before (after_edit before (text_edit (next_part before) before.text start stop new)) (join_with_byte 10 new) (text_event before start stop new)
 text_edit-is before new start stop may =
-    edit-is before (text_edit before.text start stop new) (join_with_byte 10 new) (offset_of before.text start) (offset_of before.text stop) refl
+    edit-is before (text_edit (next_part before) before.text start stop new) (join_with_byte 10 new) (offset_of before.text start) (offset_of before.text stop) refl refl
     (omega (arith, offsets_in_order before.text start stop may.start_in may.order)) (omega (arith, offset_of-lt before.text stop may.stop_in))
     (flat-text_splice before.text new start stop may.start_in may.stop_in may.some)
 
 -- so it is once the edit was made
 pub lines_put : (before after : Content) (new : List (List ℕ)) (from to : ℕ) (edit : Edit) (event : Spliced) → from ≤ to
-    → edit ≡ rows_edit before.text from to new → after ≡ after_edit before edit → event ≡ event_at (before.tick +ℤ pos 1) edit
+    → edit ≡ rows_edit (next_part before) before.text from to new → after ≡ after_edit before edit → event ≡ event_at (before.tick +ℤ pos 1) edit
     → IsEdit before after (flat new) event
 lines_put before after new from to edit event order edit_is after_is event_is =
-    let a : after ≡ after_edit before (rows_edit before.text from to new) = after_is ∙ ap (after_edit before) edit_is in
+    let a : after ≡ after_edit before (rows_edit (next_part before) before.text from to new) = after_is ∙ ap (after_edit before) edit_is in
     let e : event ≡ rows_event before from to new = event_is ∙ ap (event_at (before.tick +ℤ pos 1)) edit_is in
     rw (a, e) (rows_edit-is before new from to order)
 
 pub text_put : (before after : Content) (new : List (List ℕ)) (start stop : Pos) (edit : Edit) (event : Spliced)
-    → MayPutText before.text start stop new → edit ≡ text_edit before.text start stop new → after ≡ after_edit before edit
+    → MayPutText before.text start stop new → edit ≡ text_edit (next_part before) before.text start stop new → after ≡ after_edit before edit
     → event ≡ event_at (before.tick +ℤ pos 1) edit → IsEdit before after (join_with_byte 10 new) event
 text_put before after new start stop edit event may edit_is after_is event_is =
-    let a : after ≡ after_edit before (text_edit before.text start stop new) = after_is ∙ ap (after_edit before) edit_is in
+    let a : after ≡ after_edit before (text_edit (next_part before) before.text start stop new) = after_is ∙ ap (after_edit before) edit_is in
     let e : event ≡ text_event before start stop new = event_is ∙ ap (event_at (before.tick +ℤ pos 1)) edit_is in
     rw (a, e) (text_edit-is before new start stop may)

@@ -11,7 +11,7 @@ use Rattle.nv_undo.proofs.NumberLemmas.{some_numbered, some_parent, numbered_sam
 use Rattle.nv_buffer.specs.Changes.{lines_after, inverse_edits, Fits, AllFit, text_at, edits_of, leg_text, leg_edits}
 use Rattle.nv_buffer.specs.Content.{Content, after_edit, event_at, events_from, event_fold, TellBytes, after_seal, after_seal_of, after_leg, undo_to_edits, IsAlong}
 use Rattle.nv_marks.specs.Marks.{Marks}
-use Rattle.nv_buffer.specs.Marks.{marks_after}
+use Rattle.nv_marks.specs.declared.keeping.Kept.{Kept}
 use Rattle.nv_buffer.specs.Steps.{IsBuffer}
 use Rattle.nv_buffer.specs.declared.edit.Edit.{Edit}
 use Rattle.nv_buffer.specs.declared.buffer.Spliced.{Spliced}
@@ -64,17 +64,13 @@ pub made-undo : (buffer : Content) (edits : List Edit) → (fold after_edit buff
 made-undo buffer [] = refl
 made-undo buffer (edit ∷ edits) = made-undo (after_edit buffer edit) edits
 
-pub made-marks : (buffer : Content) (edits : List Edit) → (fold after_edit buffer edits).marks ≡ fold marks_after buffer.marks edits
-made-marks buffer [] = refl
-made-marks buffer (edit ∷ edits) = made-marks (after_edit buffer edit) edits
-
 -- and all that edits leave as it was
-pub made-rest : (buffer : Content) (edits : List Edit) (text : List (List ℕ)) (tick : ℤ) (marks : Marks) (undo : Undo (List Edit))
-    (unsealed : List Edit)
-    → record (fold after_edit buffer edits) { text = text; tick = tick; modified = true; marks = marks; undo = undo; unsealed = unsealed }
-    ≡ record buffer { text = text; tick = tick; modified = true; marks = marks; undo = undo; unsealed = unsealed }
-made-rest buffer [] text tick marks undo unsealed = refl
-made-rest buffer (edit ∷ edits) text tick marks undo unsealed = made-rest (after_edit buffer edit) edits text tick marks undo unsealed
+pub made-rest : (buffer : Content) (edits : List Edit) (text : List (List ℕ)) (tick : ℤ) (marks : Marks) (kept : List ((ℕ × ℕ) × List Kept))
+    (undo : Undo (List Edit)) (unsealed : List Edit)
+    → record (fold after_edit buffer edits) { text = text; tick = tick; modified = true; marks = marks; kept = kept; undo = undo; unsealed = unsealed }
+    ≡ record buffer { text = text; tick = tick; modified = true; marks = marks; kept = kept; undo = undo; unsealed = unsealed }
+made-rest buffer [] text tick marks kept undo unsealed = refl
+made-rest buffer (edit ∷ edits) text tick marks kept undo unsealed = made-rest (after_edit buffer edit) edits text tick marks kept undo unsealed
 
 -- ---- a leg
 -- what stands at a number
@@ -155,20 +151,22 @@ arrived-is buffer made now leg sealed text_is runs made_is now_is =
     ∙ sym (text_at-same (tree_after_leg leg buffer.undo) buffer.undo (tree_after_leg leg buffer.undo).current (gone_changes leg buffer.undo)) in
     let tick : made.tick ≡ buffer.tick +ℤ pos (length edits) = ap (λ (b : Content). b.tick) made_is ∙ made-tick buffer edits in
     let undo : made.undo ≡ buffer.undo = ap (λ (b : Content). b.undo) made_is ∙ made-undo buffer edits in
-    let marks : made.marks ≡ fold marks_after buffer.marks edits = ap (λ (b : Content). b.marks) made_is ∙ made-marks buffer edits in
+    let marks : made.marks ≡ (fold after_edit buffer edits).marks = ap (λ (b : Content). b.marks) made_is in
+    let kept : made.kept ≡ (fold after_edit buffer edits).kept = ap (λ (b : Content). b.kept) made_is in
     now_is
-    ∙ (λ i. record made { text = text i; tick = tick i; modified = true; marks = marks i; undo = tree_after_leg leg (undo i); unsealed = sym sealed i })
+    ∙ (λ i. record made { text = text i; tick = tick i; modified = true; marks = marks i; kept = kept i; undo = tree_after_leg leg (undo i); unsealed = sym sealed i })
     ∙ ap (λ (b : Content).
     record b {
       text = text_at (tree_after_leg leg buffer.undo) (tree_after_leg leg buffer.undo).current;
       tick = buffer.tick +ℤ pos (length edits);
       modified = true;
-      marks = fold marks_after buffer.marks edits;
+      marks = (fold after_edit buffer edits).marks;
+      kept = (fold after_edit buffer edits).kept;
       undo = tree_after_leg leg buffer.undo;
       unsealed = buffer.unsealed;
     }) made_is
     ∙ made-rest buffer edits (text_at (tree_after_leg leg buffer.undo) (tree_after_leg leg buffer.undo).current) (buffer.tick +ℤ pos (length edits))
-    (fold marks_after buffer.marks edits) (tree_after_leg leg buffer.undo) buffer.unsealed
+    (fold after_edit buffer edits).marks (fold after_edit buffer edits).kept (tree_after_leg leg buffer.undo) buffer.unsealed
 
 -- ---- a way
 -- what is known of a buffer whose edits are all in changes

@@ -85,7 +85,7 @@ pub record Begins (text : List (List ℕ)) (tree : Undo (List Step)) (steps : Li
   pub places : AreMarksIn text marks
 
 pub begins : (text : List (List ℕ)) (tree : Undo (List Step)) (steps : List Step) (marks : Marks) → text ≡ first_text → tree ≡ no_changes
-    → steps ≡ [] → marks ≡ record { marks = []; greatest = [] } → Begins text tree steps marks
+    → steps ≡ [] → marks ≡ record { marks = []; greatest = []; settings = 0 } → Begins text tree steps marks
 begins text tree steps marks text_is tree_is steps_is marks_is =
     rw (text_is, tree_is, steps_is, marks_is)
     (record {
@@ -97,7 +97,7 @@ begins text tree steps marks text_is tree_is steps_is marks_is =
 
 -- and how it is seen
 pub fresh_seen : (handle : ℤ) (text : List (List ℕ)) (name : List ℕ) (tree : Undo (List Step)) (steps : List Step) (marks : Marks)
-    → text ≡ first_text → name ≡ [] → tree ≡ no_changes → steps ≡ [] → marks ≡ record { marks = []; greatest = [] }
+    → text ≡ first_text → name ≡ [] → tree ≡ no_changes → steps ≡ [] → marks ≡ record { marks = []; greatest = []; settings = 0 }
     → record (fresh_content handle true) { text = text; name = name; marks = marks; undo = tree_ahead tree; unsealed = edits_since tree steps }
     ≡ fresh_content handle true
 fresh_seen handle text name tree steps marks text_is name_is tree_is steps_is marks_is =

@@ -3,6 +3,7 @@ pub mod Measures
 pub mod MarkOrders
 pub mod WayBack
 pub mod Placing
+pub mod Rooms
 pub mod Edits
 pub mod Reaches
 pub mod KeptTexts

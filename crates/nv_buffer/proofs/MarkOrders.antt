@@ -1,21 +1,25 @@
 -- Marks put in order one by one are in order, and in the one order that there is.
-use Rattle.std.proofs.Common.{◌≡◌, ℕ, zero, suc, ◌+◌, ◌<◌, List, [], ◌∷◌, length, map, get_or, refl, arith, Bool, true, false, cond, subst}
+use Rattle.std.proofs.Common.{◌≡◌, ℕ, zero, suc, ◌+◌, ◌<◌, List, [], ◌∷◌, length, map, filter, get_or, refl, ap, ◌∙◌, arith, Bool, true, false, cond, not, ◌&&◌, eqb, Option, All, option_map, unwrap_or, sym, subst}
 use Rattle.std.specs.Prelude.{IsSorted, IsPermutation}
 use Rattle.std.specs.List.{IsDistinct}
 use Rattle.std.specs.Ordering.{is_lt}
-use Rattle.std.proofs.lemmas.List.{get_or-map, length-map}
-use Rattle.std.proofs.lemmas.List.Sorted.{IsPermutation-refl, IsPermutation-sym, IsPermutation-cons, IsPermutation-middle, IsPermutation-trans}
-use Rattle.std.proofs.lemmas.Map.Keys.{IsDistinct-from_apart, apart_from_distinct}
+use Rattle.std.proofs.lemmas.List.Elements.{All-filter, All-map, All-weaker}
+use Rattle.std.proofs.lemmas.List.Sorted.{All-permutation, IsPermutation-refl, IsPermutation-sym, IsPermutation-cons, IsPermutation-map, IsPermutation-middle, IsPermutation-trans}
 use Rattle.nv_places.specs.declared.place.Pos.{Pos}
 use Rattle.nv_places.specs.declared.place.Extent.{Extent}
+use Rattle.nv_places.specs.Places.{further}
+use Rattle.nv_marks.specs.Keeping.{far_put_back, is_gone, is_of_kept, is_struck, marks_struck, put_back_by, put_back_mark, struck_mark}
 use Rattle.nv_marks.specs.Marks.{Marks}
+use Rattle.nv_marks.specs.declared.keeping.Kept.{Kept}
 use Rattle.nv_marks.specs.Moves.{moved_mark}
 use Rattle.nv_marks.specs.Order.{mark_order, IsInOrder}
 use Rattle.nv_marks.specs.Sound.{same_name}
 use Rattle.nv_marks.specs.declared.extmark.Mark.{Mark}
+use Rattle.nv_marks.specs.declared.extmark.Paint.{Paint}
+use Rattle.nv_marks.proofs.NameLemmas.{IsDistinct-map, IsDistinct-without}
 use Rattle.nv_marks.proofs.OrderLemmas.{mark_order_ranks}
 use Rattle.nv_marks.proofs.UniqueLemmas.{order_is_unique}
-use Rattle.nv_buffer.specs.Marks.{with_in_order, marks_in_order, marks_after}
+use Rattle.nv_buffer.specs.Marks.{with_in_order, mark_after, marks_in_order, marks_after}
 use Rattle.nv_buffer.specs.declared.edit.Edit.{Edit}
 
 -- a mark that may stand in front of others
@@ -82,28 +86,108 @@ in_order_is (m ∷ ms) =
       in_order = put_sorted m (marks_in_order ms) rest.in_order;
     }
 
--- marks keep their names where they are moved
-moved_apart : (start : Pos) (old new : Extent) (marks : List Mark) → IsDistinct same_name marks
-    → IsDistinct same_name (map (moved_mark start old new) marks)
-moved_apart start old new marks apart =
-    IsDistinct-from_apart same_name (map (moved_mark start old new) marks)
-    (λ i j d before within. names i j d before (omega (arith, length-map marks (moved_mark start old new))))
+-- marks keep their names where they are struck, moved and put back
+put_back_named : (kept : List Kept) (m : Mark) → ((put_back_mark kept m).ns ≡ m.ns) × ((put_back_mark kept m).id ≡ m.id)
+put_back_named [] m = (refl, refl)
+put_back_named (k ∷ ks) m =
+    let rest = put_back_named ks (put_back_by k m) in
+    let here = by_case (is_of_kept k m) in (rest.0 ∙ here.0, rest.1 ∙ here.1)
   where
-    names : (i j : ℕ) (d : Mark) → i < j → j < length marks
-        → same_name (get_or (map (moved_mark start old new) marks) i d) (get_or (map (moved_mark start old new) marks) j d) ≡ false
-    names i j d before within =
-        let at_i : get_or (map (moved_mark start old new) marks) i d ≡ moved_mark start old new (get_or marks i d) =
-        get_or-map (moved_mark start old new) marks i d d (omega arith) in
-        let at_j : get_or (map (moved_mark start old new) marks) j d ≡ moved_mark start old new (get_or marks j d) =
-        get_or-map (moved_mark start old new) marks j d d (omega arith) in
-        rw (at_i, at_j) (apart_from_distinct same_name marks i j d apart before within)
+    by_case : (b : Bool)
+        → ((cond b (record m { start = unwrap_or k.start m.start; stop = option_map (far_put_back k) m.stop; hidden = k.hidden }) m).ns ≡ m.ns)
+        × ((cond b (record m { start = unwrap_or k.start m.start; stop = option_map (far_put_back k) m.stop; hidden = k.hidden }) m).id ≡ m.id)
+    by_case true = (refl, refl)
+    by_case false = (refl, refl)
 
--- so marks that were moved and are in order are the ones after the edit
-pub moved_are : (before later : Marks) (edit : Edit) → IsDistinct same_name before.marks
-    → IsInOrder (map (moved_mark edit.start edit.removed edit.put) before.marks) later.marks → later.greatest ≡ before.greatest
-    → later ≡ marks_after before edit
-moved_are before later edit apart moved greatest =
-    let moves : List Mark = map (moved_mark edit.start edit.removed edit.put) before.marks in
-    let same : later.marks ≡ marks_in_order moves =
-    order_is_unique moves later.marks (marks_in_order moves) (moved_apart edit.start edit.removed edit.put before.marks apart) moved (in_order_is moves) in
-    λ i. record { marks = same i; greatest = greatest i }
+after_names : (kept : List Kept) (edit : Edit) (m k : Mark) → same_name (mark_after kept edit m) (mark_after kept edit k) ≡ same_name m k
+after_names kept edit m k =
+    let a = put_back_named kept (moved_mark edit.start edit.removed edit.put m) in
+    let b = put_back_named kept (moved_mark edit.start edit.removed edit.put k) in
+    λ i. eqb (a.0 i) (b.0 i) && eqb (a.1 i) (b.1 i)
+
+struck_names : (from to : Pos) (m k : Mark) → same_name (struck_mark from to m) (struck_mark from to k) ≡ same_name m k
+struck_names from to m k = by_case (is_struck from to m) (is_struck from to k)
+  where
+    by_case : (a b : Bool) → same_name (cond a (record m { hidden = true }) m) (cond b (record k { hidden = true }) k) ≡ same_name m k
+    by_case true true = refl
+    by_case true false = refl
+    by_case false true = refl
+    by_case false false = refl
+
+struck_apart : (start : Pos) (old : Extent) (marks : List Mark) → IsDistinct same_name marks → IsDistinct same_name (marks_struck start old marks)
+struck_apart start old marks apart =
+    let to : Pos = further start old in
+    IsDistinct-map (struck_mark start to) (struck_names start to) (filter (λ m. not (is_gone start to m)) marks)
+    (IsDistinct-without (λ m. not (is_gone start to m)) marks apart)
+
+map_both : (f g : Mark → Mark) (ms : List Mark) → map f (map g ms) ≡ map (λ m. f (g m)) ms
+map_both f g [] = refl
+map_both f g (m ∷ ms) = ap (λ (l : List Mark). f (g m) ∷ l) (map_both f g ms)
+
+-- so marks that were struck and moved, and then put back and are in order, are those after the edit
+pub marks_are : (before struck moved later : Marks) (kept : List Kept) (edit : Edit) → IsDistinct same_name before.marks
+    → struck.marks ≡ marks_struck edit.start edit.removed before.marks
+    → IsInOrder (map (moved_mark edit.start edit.removed edit.put) struck.marks) moved.marks
+    → IsInOrder (map (put_back_mark kept) moved.marks) later.marks → later.greatest ≡ before.greatest → later.settings ≡ before.settings
+    → later ≡ marks_after kept before edit
+marks_are before struck moved later kept edit apart struck_is move back greatest settings =
+    let left : List Mark = marks_struck edit.start edit.removed before.marks in
+    let moves : List Mark = map (moved_mark edit.start edit.removed edit.put) left in
+    let all : List Mark = map (mark_after kept edit) left in
+    let here : IsPermutation moves moved.marks =
+    subst (λ (l : List Mark). IsPermutation (map (moved_mark edit.start edit.removed edit.put) l) moved.marks) struck_is move.same_marks in
+    let put : IsPermutation all (map (put_back_mark kept) moved.marks) =
+    subst (λ (l : List Mark). IsPermutation l (map (put_back_mark kept) moved.marks))
+    (map_both (put_back_mark kept) (moved_mark edit.start edit.removed edit.put) left)
+    (IsPermutation-map (put_back_mark kept) moves moved.marks here) in
+    let ordered : IsInOrder all later.marks = record {
+      same_marks = IsPermutation-trans all (map (put_back_mark kept) moved.marks) later.marks put back.same_marks;
+      in_order = back.in_order;
+    } in
+    let names : IsDistinct same_name all =
+    IsDistinct-map (mark_after kept edit) (after_names kept edit) left (struck_apart edit.start edit.removed before.marks apart) in
+    let same : later.marks ≡ marks_in_order all = order_is_unique all later.marks (marks_in_order all) names ordered (in_order_is all) in
+    λ i. record { marks = same i; greatest = greatest i; settings = settings i }
+
+-- ---- what holds of what marks show holds of it after an edit
+put_back_paint : (kept : List Kept) (m : Mark) → (put_back_mark kept m).paint ≡ m.paint
+put_back_paint [] m = refl
+put_back_paint (k ∷ ks) m = put_back_paint ks (put_back_by k m) ∙ by_case (is_of_kept k m)
+  where
+    by_case : (b : Bool)
+        → (cond b (record m { start = unwrap_or k.start m.start; stop = option_map (far_put_back k) m.stop; hidden = k.hidden }) m).paint ≡ m.paint
+    by_case true = refl
+    by_case false = refl
+
+struck_paint : (from to : Pos) (m : Mark) → (struck_mark from to m).paint ≡ m.paint
+struck_paint from to m = by_case (is_struck from to m)
+  where
+    by_case : (b : Bool) → (cond b (record m { hidden = true }) m).paint ≡ m.paint
+    by_case true = refl
+    by_case false = refl
+
+pub paint_after : (P : Option Paint → Type 0) (kept : List Kept) (marks : Marks) (edit : Edit) → All (λ (m : Mark). P m.paint) marks.marks
+    → All (λ (m : Mark). P m.paint) (marks_after kept marks edit).marks
+paint_after P kept marks edit are =
+    let to : Pos = further edit.start edit.removed in
+    let left : List Mark = filter (λ m. not (is_gone edit.start to m)) marks.marks in
+    let struck : List Mark = marks_struck edit.start edit.removed marks.marks in
+    let moves : List Mark = map (mark_after kept edit) struck in
+    let of_left : All (λ (m : Mark). P m.paint) left = All-filter (λ m. not (is_gone edit.start to m)) (λ (m : Mark). P m.paint) marks.marks are in
+    let of_struck : All (λ (m : Mark). P m.paint) struck =
+    All-map (λ (m : Mark). P m.paint) (struck_mark edit.start to) left
+    (All-weaker (λ (m : Mark). P m.paint) (λ (m : Mark). P (struck_mark edit.start to m).paint) (λ m here. subst P (sym (struck_paint edit.start to m)) here) left of_left) in
+    let of_moves : All (λ (m : Mark). P m.paint) moves =
+    All-map (λ (m : Mark). P m.paint) (mark_after kept edit) struck
+    (All-weaker (λ (m : Mark). P m.paint) (λ (m : Mark). P (mark_after kept edit m).paint)
+    (λ m here. subst P (sym (put_back_paint kept (moved_mark edit.start edit.removed edit.put m))) here) struck of_struck) in
+    All-permutation (λ (m : Mark). P m.paint) moves (marks_in_order moves) (in_order_is moves).same_marks of_moves
+
+-- where there are no marks an edit moves none
+none_after : (kept : List Kept) (edit : Edit) (ms : List Mark) → length ms ≡ 0
+    → ms ≡ marks_in_order (map (mark_after kept edit) (marks_struck edit.start edit.removed ms))
+none_after kept edit [] none = refl
+none_after kept edit (m ∷ ms) none = absurd (omega (arith, none))
+
+pub none_moves : (kept : List Kept) (marks : Marks) (edit : Edit) → length marks.marks ≡ 0 → marks ≡ marks_after kept marks edit
+none_moves kept marks edit none = ap (λ (ms : List Mark). record marks { marks = ms }) (none_after kept edit marks.marks none)

@@ -234,6 +234,7 @@ patch_found text edit before line patch text_is fits in_row lines_is before_is i
             removed = (let e : Extent = record { rows = sym in_row.removed i; cols = (taken_len ∙ sym old) i } in e);
             put = (let e : Extent = record { rows = sym in_row.put i; cols = (put_len ∙ sym new) i } in e);
             rows = sym in_row.rows i;
+            part = is.part i;
           };
       stands = record {
         row = subst (λ (r : ℕ). r < length text) (sym is.row) within;

@@ -1,5 +1,5 @@
 -- Lemmas on where the bytes of an edit lie, and on marks that it moves.
-use Rattle.std.proofs.Common.{◌≡◌, ℕ, zero, suc, ◌+◌, ◌-◌, ◌^◌, ◌<◌, ◌≤◌, List, [], ◌∷◌, ◌++◌, length, take, drop, map, All, Bool, Option, Some, None, IfSome, Result, Ok, Err, OnOk, OnErr, not, option_map, refl, sym, ap, subst, ◌∙◌, arith, inl, inr}
+use Rattle.std.proofs.Common.{◌≡◌, ℕ, zero, suc, ◌+◌, ◌-◌, ◌^◌, ◌<◌, ◌≤◌, List, [], ◌∷◌, ◌++◌, length, take, drop, map, filter, All, Bool, true, false, cond, ◌&&◌, nat_le, Option, Some, None, IfSome, Result, Ok, Err, OnOk, OnErr, not, option_map, unwrap_or, refl, sym, ap, subst, ◌∙◌, arith, inl, inr}
 use Rattle.std.proofs.Math.Seq.{take-add}
 use Rattle.std.proofs.lemmas.List.Elements.{All-filter}
 use Rattle.std.proofs.lemmas.Bool.Decides.{nat_tests}
@@ -7,6 +7,7 @@ use Rattle.std.proofs.lemmas.List.{take-append-drop, drop-drop, take_at, drop_at
 use Rattle.std.proofs.lemmas.List.Elements.{All-head, All-tail, All-map, All-nil, All-cons}
 use Rattle.std.proofs.lemmas.List.Sorted.{All-permutation}
 use Rattle.std.specs.List.{splice}
+use Rattle.std.specs.Option.{option_map_or}
 use Rattle.nv_places.specs.Flat.{flat, IsLine, line_at}
 use Rattle.nv_places.specs.Places.{place_of, end_of, extent_of, offset_of, further, IsPlaceIn, IsNarrow}
 use Rattle.nv_places.specs.Moves.{moved_place}
@@ -15,14 +16,18 @@ use Rattle.nv_places.specs.declared.place.Extent.{Extent}
 use Rattle.nv_places.proofs.PlaceLemmas.{end_of-append, place-offset, offset-place}
 use Rattle.nv_places.proofs.MoveLemmas.{moves_stay}
 use Rattle.nv_lines.proofs.Splices.{All-splice}
-use Rattle.nv_marks.specs.Marks.{Marks, is_named, without}
+use Rattle.nv_marks.specs.Keeping.{far_put_back, is_gone, is_of_kept, is_struck, marks_struck, put_back_by, put_back_mark, struck_mark}
+use Rattle.nv_marks.specs.Marks.{Marks, is_named, numbered_mark, without}
+use Rattle.nv_marks.specs.declared.keeping.Kept.{Kept}
 use Rattle.nv_marks.specs.Order.{IsInOrder}
+use Rattle.nv_marks.specs.Queries.{cleared_marks, is_cleared}
 use Rattle.nv_marks.specs.Moves.{moved_mark, moved_far, MovesNarrowly}
 use Rattle.nv_marks.specs.declared.extmark.Far.{Far}
 use Rattle.nv_marks.specs.declared.extmark.Mark.{Mark}
 use Rattle.nv_buffer.specs.Splices.{IsBufferText, IsNarrowLine, IsNarrowText}
 use Rattle.nv_buffer.specs.Changes.{lines_after, Replaces, Fits}
-use Rattle.nv_buffer.specs.Marks.{IsMarkIn, AreMarksIn, marks_in_order, marks_after}
+use Rattle.nv_buffer.specs.KeptMarks.{is_kept_in, is_place_in}
+use Rattle.nv_buffer.specs.Marks.{IsMarkIn, AreMarksIn, mark_after, marks_in_order, marks_after}
 use Rattle.nv_buffer.specs.declared.edit.Edit.{Edit}
 use Rattle.nv_buffer.proofs.MarkOrders.{in_order_is}
 use Rattle.nv_buffer.proofs.Measures.{flat_small}
@@ -163,14 +168,112 @@ pub marks_narrowly : (text : List (List ℕ)) (edit : Edit) (marks : Marks) → 
 marks_narrowly text edit marks is fits are =
     All-by (IsMarkIn text) (MovesNarrowly edit.start edit.removed edit.put) (mark_narrowly text edit is fits) marks.marks are
 
-pub marks_stay : (text : List (List ℕ)) (edit : Edit) (marks : Marks) → IsBufferText text → Fits text edit → AreMarksIn text marks
-    → AreMarksIn (lines_after text edit) (marks_after marks edit)
-marks_stay text edit marks is fits are =
+-- marks that are struck stand where they stood
+mark_struck : (text : List (List ℕ)) (from to : Pos) (mark : Mark) → IsMarkIn text mark → IsMarkIn text (struck_mark from to mark)
+mark_struck text from to mark stands = by_case (is_struck from to mark)
+  where
+    by_case : (b : Bool) → IsMarkIn text (cond b (record mark { hidden = true }) mark)
+    by_case true = record { start = stands.start; stop = stands.stop }
+    by_case false = stands
+
+pub marks_struck_stay : (text : List (List ℕ)) (start : Pos) (old : Extent) (marks : List Mark) → All (IsMarkIn text) marks
+    → All (IsMarkIn text) (marks_struck start old marks)
+marks_struck_stay text start old marks are =
+    let to : Pos = further start old in
+    let left : List Mark = filter (λ m. not (is_gone start to m)) marks in
+    All-map (IsMarkIn text) (struck_mark start to) left
+    (All-by (IsMarkIn text) (λ m. IsMarkIn text (struck_mark start to m)) (mark_struck text start to) left
+    (All-filter (λ m. not (is_gone start to m)) (IsMarkIn text) marks are))
+
+-- and move as they moved
+struck_narrowly : (start : Pos) (old new : Extent) (mark : Mark) → MovesNarrowly start old new mark
+    → MovesNarrowly start old new (struck_mark start (further start old) mark)
+struck_narrowly start old new mark narrow = by_case (is_struck start (further start old) mark)
+  where
+    by_case : (b : Bool) → MovesNarrowly start old new (cond b (record mark { hidden = true }) mark)
+    by_case true = narrow
+    by_case false = narrow
+
+pub marks_struck_narrowly : (start : Pos) (old new : Extent) (marks : List Mark) → All (MovesNarrowly start old new) marks
+    → All (MovesNarrowly start old new) (marks_struck start old marks)
+marks_struck_narrowly start old new marks are =
+    let to : Pos = further start old in
+    let left : List Mark = filter (λ m. not (is_gone start to m)) marks in
+    All-map (MovesNarrowly start old new) (struck_mark start to) left
+    (All-by (MovesNarrowly start old new) (λ m. MovesNarrowly start old new (struck_mark start to m)) (struck_narrowly start old new) left
+    (All-filter (λ m. not (is_gone start to m)) (MovesNarrowly start old new) marks are))
+
+-- what is put back stands in the text
+place_tested : (text : List (List ℕ)) (p : Pos) → is_place_in text p ≡ true → IsPlaceIn text p
+place_tested text p e = record {
+  row = row_of p.row (length text) p.col (length (line_at text p.row)) e;
+  col = col_of p.row (length text) p.col (length (line_at text p.row)) e;
+}
+  where
+    row_of : (a b c d : ℕ) → (nat_le a b && nat_le c d) ≡ true → a ≤ b
+    row_of a b c d e = grind (arith, nat_tests)
+
+    col_of : (a b c d : ℕ) → (nat_le a b && nat_le c d) ≡ true → c ≤ d
+    col_of a b c d e = grind (arith, nat_tests)
+
+both_true : (a b : Bool) → (a && b) ≡ true → (a ≡ true) × (b ≡ true)
+both_true true b e = (refl, e)
+both_true false b e = cc
+
+place_or : (text : List (List ℕ)) (o : Option Pos) (p : Pos) → option_map_or (is_place_in text) o true ≡ true → IsPlaceIn text p
+    → IsPlaceIn text (unwrap_or o p)
+place_or text None p e stands = stands
+place_or text (Some q) p e stands = place_tested text q e
+
+stop_put_back : (text : List (List ℕ)) (k : Kept) (stop : Option Far) → option_map_or (is_place_in text) k.stop true ≡ true
+    → IfSome stop (λ far. IsPlaceIn text far.pos) → IfSome (option_map (far_put_back k) stop) (λ far. IsPlaceIn text far.pos)
+stop_put_back text k None e stands = tt
+stop_put_back text k (Some far) e stands = place_or text k.stop far.pos e stands
+
+mark_put_back : (text : List (List ℕ)) (k : Kept) (mark : Mark) → is_kept_in text k ≡ true → IsMarkIn text mark → IsMarkIn text (put_back_by k mark)
+mark_put_back text k mark e stands = by_case (is_of_kept k mark)
+  where
+    by_case : (b : Bool)
+        → IsMarkIn text (cond b (record mark { start = unwrap_or k.start mark.start; stop = option_map (far_put_back k) mark.stop; hidden = k.hidden }) mark)
+    by_case false = stands
+    by_case true =
+        let both = both_true (option_map_or (is_place_in text) k.start true) (option_map_or (is_place_in text) k.stop true) e in record {
+          start = place_or text k.start mark.start both.0 stands.start;
+          stop = stop_put_back text k mark.stop both.1 stands.stop;
+        }
+
+-- those that passed
+kept_pass : (p : Kept → Bool) (kept : List Kept) → All (λ (k : Kept). p k ≡ true) (filter p kept)
+kept_pass p [] = All-nil (λ (k : Kept). p k ≡ true)
+kept_pass p (k ∷ ks) = by_case (p k) refl (kept_pass p ks)
+  where
+    by_case : (b : Bool) → p k ≡ b → All (λ (x : Kept). p x ≡ true) (filter p ks)
+        → All (λ (x : Kept). p x ≡ true) (cond b (k ∷ filter p ks) (filter p ks))
+    by_case true e rest = All-cons (λ (x : Kept). p x ≡ true) k (filter p ks) e rest
+    by_case false e rest = rest
+
+all_put_back : (text : List (List ℕ)) (kept : List Kept) (mark : Mark) → All (λ (k : Kept). is_kept_in text k ≡ true) kept → IsMarkIn text mark
+    → IsMarkIn text (put_back_mark kept mark)
+all_put_back text [] mark pass stands = stands
+all_put_back text (k ∷ ks) mark pass stands =
+    all_put_back text ks (put_back_by k mark) (All-tail (λ (x : Kept). is_kept_in text x ≡ true) k ks pass)
+    (mark_put_back text k mark (All-head (λ (x : Kept). is_kept_in text x ≡ true) k ks pass) stands)
+
+-- the marks after an edit stand in the text after it
+pub marks_stay : (text : List (List ℕ)) (edit : Edit) (kept : List Kept) (marks : Marks) → IsBufferText text → Fits text edit
+    → AreMarksIn text marks → AreMarksIn (lines_after text edit) (marks_after (filter (is_kept_in (lines_after text edit)) kept) marks edit)
+marks_stay text edit kept marks is fits are =
     let after : List (List ℕ) = lines_after text edit in
-    let moves : List Mark = map (moved_mark edit.start edit.removed edit.put) marks.marks in
+    let back : List Kept = filter (is_kept_in after) kept in
+    let struck : List Mark = marks_struck edit.start edit.removed marks.marks in
+    let moves : List Mark = map (mark_after back edit) struck in
+    let each : (mark : Mark) → IsMarkIn text mark → IsMarkIn after (mark_after back edit mark) =
+    λ mark stands. all_put_back after back (moved_mark edit.start edit.removed edit.put mark) (kept_pass (is_kept_in after) kept)
+    (mark_moved text edit is fits mark stands) in
     let moved : All (IsMarkIn after) moves =
-    All-map (IsMarkIn after) (moved_mark edit.start edit.removed edit.put) marks.marks
-    (All-by (IsMarkIn text) (λ m. IsMarkIn after (moved_mark edit.start edit.removed edit.put m)) (mark_moved text edit is fits) marks.marks are) in
+    All-map (IsMarkIn after) (mark_after back edit) struck
+    (All-by (IsMarkIn text) (λ m. IsMarkIn after (mark_after back edit m)) each struck
+    (marks_struck_stay text edit.start edit.removed marks.marks are)) in
     All-permutation (IsMarkIn after) moves (marks_in_order moves) (in_order_is moves).same_marks moved
 
 -- ---- marks that are set and removed
@@ -179,14 +282,26 @@ pub others_stand : (text : List (List ℕ)) (ns id : ℕ) (marks : Marks) → Ar
 others_stand text ns id marks are = All-filter (λ (m : Mark). not (is_named ns id m)) (IsMarkIn text) marks.marks are
 
 pub set_places : {T E : Type 0} (result : Result T E) (inside text : List (List ℕ)) (mark : Mark) (before after : Marks) → inside ≡ text
-    → IsMarkIn text mark → AreMarksIn inside before → OnOk result (IsInOrder (mark ∷ without mark.ns mark.id before.marks) after.marks)
+    → IsMarkIn text mark → AreMarksIn inside before
+    → OnOk result (IsInOrder (numbered_mark before.settings mark ∷ without mark.ns mark.id before.marks) after.marks)
     → OnErr result (after ≡ before) → AreMarksIn inside after
 set_places (Ok value) inside text mark before after same stands are ok err =
-    let here : IsMarkIn inside mark = subst (λ (t : List (List ℕ)). IsMarkIn t mark) (sym same) stands in
+    let kept : Mark = numbered_mark before.settings mark in
+    let there : IsMarkIn inside mark = subst (λ (t : List (List ℕ)). IsMarkIn t mark) (sym same) stands in
+    let here : IsMarkIn inside kept = record { start = there.start; stop = there.stop } in
     let others : All (IsMarkIn inside) (without mark.ns mark.id before.marks) = others_stand inside mark.ns mark.id before are in
-    All-permutation (IsMarkIn inside) (mark ∷ without mark.ns mark.id before.marks) after.marks ok.same_marks
-    (All-cons (IsMarkIn inside) mark (without mark.ns mark.id before.marks) here others)
+    All-permutation (IsMarkIn inside) (kept ∷ without mark.ns mark.id before.marks) after.marks ok.same_marks
+    (All-cons (IsMarkIn inside) kept (without mark.ns mark.id before.marks) here others)
 set_places (Err e) inside text mark before after same stands are ok err = subst (AreMarksIn inside) (sym err) are
+
+-- and those that are left where some are cleared
+pub cleared_places : {T E : Type 0} (result : Result T E) (text : List (List ℕ)) (ns : Option ℕ) (from to : Pos) (before after : Marks)
+    → AreMarksIn text before → OnOk result (after.marks ≡ cleared_marks ns from to before.marks) → OnErr result (after ≡ before)
+    → AreMarksIn text after
+cleared_places (Ok value) text ns from to before after are ok err =
+    subst (λ (ms : List Mark). All (IsMarkIn text) ms) (sym ok)
+    (All-filter (λ m. not (is_cleared ns from to m)) (IsMarkIn text) before.marks are)
+cleared_places (Err e) text ns from to before after are ok err = subst (AreMarksIn text) (sym err) are
 
 -- ---- what an edit that fits asks of the calls that make it
 pub small_after : (inside text lines : List (List ℕ)) (edit : Edit) → inside ≡ text → lines ≡ edit.lines → Fits text edit

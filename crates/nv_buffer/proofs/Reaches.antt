@@ -12,6 +12,7 @@ use Rattle.nv_places.proofs.FlatLemmas.{flat-joined}
 use Rattle.nv_places.proofs.PlaceLemmas.{place-offset, extent_of-flat, extent_of-joined}
 use Rattle.nv_buffer.specs.Splices.{IsInLine, IsNarrowLine, IsNarrowText, with_front, with_back, lines_between}
 use Rattle.nv_buffer.specs.Changes.{rows_edit, text_edit}
+use Rattle.nv_buffer.specs.declared.edit.ChangePart.{ChangePart}
 use Rattle.nv_buffer.specs.declared.edit.Edit.{Edit}
 use Rattle.nv_buffer.proofs.Edits.{MayPutText}
 use Rattle.nv_buffer.proofs.Measures.{flat_small, row_start-mono, offsets_in_order}
@@ -91,12 +92,12 @@ rows_on from to e order is =
     reached : (from to : ℕ) → from ≤ to → further (row_place from) (record { rows = to - from; cols = 0 }) ≡ row_place to
     reached from to order = let r = row_is from to order in let c = col_is from to order in λ i. record { row = r i; col = c i }
 
-pub rows_edit_is : (inside text new : List (List ℕ)) (from to at old bytes count : ℕ) (removed put : Extent) → inside ≡ text
+pub rows_edit_is : (part : ChangePart) (inside text new : List (List ℕ)) (from to at old bytes count : ℕ) (removed put : Extent) → inside ≡ text
     → All IsLine text → All IsLine new → from ≤ to → to ≤ length text → at ≡ row_start inside from → row_start inside from + old ≡ row_start inside to
     → bytes ≡ length (flat new) → removed ≡ record { rows = to - from; cols = 0 } → count ≡ length new → put ≡ record { rows = count; cols = 0 }
-    → (let e : Edit = record { first = from; last = to; lines = new; at = at; old = old; new = bytes; start = row_place from; removed = removed; put = put; rows = true } in e)
-    ≡ rows_edit text from to new
-rows_edit_is inside text new from to at old bytes count removed put same are new_are order within at_is old_is bytes_is removed_is count_is put_is =
+    → (let e : Edit = record { first = from; last = to; lines = new; at = at; old = old; new = bytes; start = row_place from; removed = removed; put = put; rows = true; part = part } in e)
+    ≡ rows_edit part text from to new
+rows_edit_is part inside text new from to at old bytes count removed put same are new_are order within at_is old_is bytes_is removed_is count_is put_is =
     let begin : row_start inside from ≡ row_start text from = ap (λ (t : List (List ℕ)). row_start t from) same in
     let end : row_start inside to ≡ row_start text to = ap (λ (t : List (List ℕ)). row_start t to) same in
     let a : at ≡ row_start text from = at_is ∙ begin in
@@ -123,16 +124,17 @@ rows_edit_is inside text new from to at old bytes count removed put same are new
       removed = r i;
       put = p i;
       rows = true;
+      part = part;
     }
 
 -- ---- between two places
-pub text_edit_is : (text new lines : List (List ℕ)) (start stop : Pos) (at old bytes : ℕ) (removed put : Extent) → All IsLine text
+pub text_edit_is : (part : ChangePart) (text new lines : List (List ℕ)) (start stop : Pos) (at old bytes : ℕ) (removed put : Extent) → All IsLine text
     → MayPutText text start stop new → lines ≡ lines_between text start stop new → at ≡ offset_of text start
     → offset_of text start + old ≡ offset_of text stop → bytes ≡ length (flat new) → further start removed ≡ stop
     → put ≡ extent_of (join_with_byte 10 new)
-    → (let e : Edit = record { first = start.row; last = stop.row + 1; lines = lines; at = at; old = old; new = bytes - 1; start = start; removed = removed; put = put; rows = false } in e)
-    ≡ text_edit text start stop new
-text_edit_is text new lines start stop at old bytes removed put are may lines_is at_is old_is bytes_is removed_is put_is =
+    → (let e : Edit = record { first = start.row; last = stop.row + 1; lines = lines; at = at; old = old; new = bytes - 1; start = start; removed = removed; put = put; rows = false; part = part } in e)
+    ≡ text_edit part text start stop new
+text_edit_is part text new lines start stop at old bytes removed put are may lines_is at_is old_is bytes_is removed_is put_is =
     let start_in : IsPlaceIn text start = record { row = omega (arith, may.start_in.row); col = may.start_in.col } in
     let stop_in : IsPlaceIn text stop = record { row = omega (arith, may.stop_in.row); col = may.stop_in.col } in
     let rise : offset_of text start ≤ offset_of text stop = offsets_in_order text start stop may.start_in may.order in
@@ -152,4 +154,5 @@ text_edit_is text new lines start stop at old bytes removed put are may lines_is
       removed = r i;
       put = put_is i;
       rows = false;
+      part = part;
     }

@@ -1,5 +1,5 @@
 -- Lemmas on edits that are taken back.
-use Rattle.std.proofs.Common.{◌≡◌, ℕ, ◌+◌, ◌-◌, ◌<◌, ◌≤◌, List, [], ◌∷◌, ◌++◌, length, take, drop, fold, slice_range, All, refl, sym, ap, subst, suc, ◌∙◌, arith, length-append}
+use Rattle.std.proofs.Common.{◌≡◌, ℕ, ◌+◌, ◌-◌, ◌<◌, ◌≤◌, Bool, true, false, not, List, [], ◌∷◌, ◌++◌, length, take, drop, fold, slice_range, All, refl, sym, ap, subst, suc, ◌∙◌, arith, length-append}
 use Rattle.std.proofs.lemmas.List.{take_at, drop_at, drop-drop, length-take, length-take-le, length-drop, length-reverse, reverse-append}
 use Rattle.std.proofs.lemmas.List.Edits.{split_between, length-between}
 use Rattle.std.specs.List.{splice}
@@ -7,7 +7,8 @@ use Rattle.std.proofs.lemmas.List.Elements.{All-take, All-drop}
 use Rattle.nv_places.specs.Flat.{flat, IsLine}
 use Rattle.nv_places.specs.Places.{end_of, extent_of}
 use Rattle.nv_lines.proofs.Splices.{All-splice}
-use Rattle.nv_buffer.specs.Changes.{lines_after, inverse_edit, each_inverse, inverse_edits, Replaces, Fits, AllFit}
+use Rattle.nv_buffer.specs.declared.edit.ChangePart.{ChangePart}
+use Rattle.nv_buffer.specs.Changes.{lines_after, turned_part, inverse_edit, each_inverse, inverse_edits, Replaces, Fits, AllFit}
 use Rattle.nv_buffer.specs.Splices.{IsBufferText, IsNarrowText}
 use Rattle.nv_buffer.specs.declared.edit.Edit.{Edit}
 
@@ -51,6 +52,14 @@ length-spliced text new from to order within =
       length-drop to text,
     )
 
+-- a part that is turned twice is as it was
+turned_twice : (p : ChangePart) → turned_part (turned_part p) ≡ p
+turned_twice p = let same = not_not p.back in λ i. record p { back = same i }
+  where
+    not_not : (b : Bool) → not (not b) ≡ b
+    not_not true = refl
+    not_not false = refl
+
 pub inverse-undoes : (text : List (List ℕ)) (edit : Edit) → Fits text edit → lines_after (lines_after text edit) (inverse_edit text edit) ≡ text
 inverse-undoes text edit fits = splice-back text edit.lines edit.first edit.last fits.order fits.within
 
@@ -60,7 +69,7 @@ inverse-inverse text edit fits =
     let end : edit.first + length (slice_range text edit.first edit.last) ≡ edit.last = omega (arith, fits.order) in
     let lines : slice_range (lines_after text edit) edit.first (edit.first + length edit.lines) ≡ edit.lines =
     range-splice text edit.lines edit.first edit.last (omega (arith, fits.order, fits.within)) in
-    λ i. record edit { last = end i; lines = lines i }
+    λ i. record edit { last = end i; lines = lines i; part = turned_twice edit.part i }
 
 -- bytes that were replaced, seen from the other side
 pub replaced-back : (before after : List ℕ) (at old new : ℕ) → Replaces before after at old new → Replaces after before at new old

@@ -1,5 +1,5 @@
 -- Edits of a text as data, the way back, and the texts that a tree of changes keeps.
-use Rattle.std.specs.Prelude.{◌≡◌, ℕ, ◌+◌, ◌-◌, ◌<◌, ◌≤◌, List, [], ◌∷◌, ◌++◌, length, All, Bool, true, false, take, drop, get_or, reverse, fold, slice_range, unwrap_or}
+use Rattle.std.specs.Prelude.{◌≡◌, ℕ, ◌+◌, ◌-◌, ◌<◌, ◌≤◌, List, [], ◌∷◌, ◌++◌, length, All, Bool, true, false, not, take, drop, get_or, reverse, fold, slice_range, unwrap_or}
 use Rattle.std.specs.List.{splice, join_with_byte}
 use Rattle.nv_places.specs.Flat.{flat, IsLine, row_start}
 use Rattle.nv_places.specs.Places.{place_of, offset_of, extent_of}
@@ -9,6 +9,7 @@ use Rattle.nv_undo.specs.Ways.{origin}
 use Rattle.nv_undo.specs.declared.legs.Leg.{Leg}
 use Rattle.nv_undo.specs.declared.legs.Leg.TheVariants.{Back, Ahead}
 use Rattle.nv_buffer.specs.Splices.{IsNarrowText, lines_between}
+use Rattle.nv_buffer.specs.declared.edit.ChangePart.{ChangePart}
 use Rattle.nv_buffer.specs.declared.edit.Edit.{Edit}
 
 -- the text once an edit is made: the lines before its first row, its lines, and those from its last
@@ -16,10 +17,16 @@ use Rattle.nv_buffer.specs.declared.edit.Edit.{Edit}
 abbrev pub lines_after : List (List ℕ) → Edit → List (List ℕ)
 lines_after text edit = splice text edit.first edit.last edit.lines
 
+-- the same part of a change, gone the other way
+abbrev pub turned_part : ChangePart → ChangePart
+turned_part part = record part { back = not part.back }
+
 -- the edit by which rows of a text become other lines, where bytes of its flat text from an offset
--- on are replaced by these; `whole` where whole rows are, and not text between two places
-abbrev pub edit_by : List (List ℕ) → ℕ → ℕ → List (List ℕ) → ℕ → ℕ → List ℕ → Bool → Edit
-edit_by text first last lines at old bytes whole = record {
+-- on are replaced by these, as a part of a change; `whole` where whole rows are, and not text
+-- between two places
+abbrev pub edit_by : ChangePart → List (List ℕ) → ℕ → ℕ → List (List ℕ) → ℕ → ℕ → List ℕ → Bool
+    → Edit
+edit_by part text first last lines at old bytes whole = record {
   first = first;
   last = last;
   lines = lines;
@@ -30,19 +37,20 @@ edit_by text first last lines at old bytes whole = record {
   removed = extent_of (take old (drop at (flat text)));
   put = extent_of bytes;
   rows = whole;
+  part = part;
 }
 
 -- the edit that puts lines in place of rows `from` up to before `to` (help: nvim_buf_set_lines())
-abbrev pub rows_edit : List (List ℕ) → ℕ → ℕ → List (List ℕ) → Edit
-rows_edit text from to new =
-    edit_by text from to new
+abbrev pub rows_edit : ChangePart → List (List ℕ) → ℕ → ℕ → List (List ℕ) → Edit
+rows_edit part text from to new =
+    edit_by part text from to new
     (row_start text from) (row_start text to - row_start text from) (flat new) true
 
 -- the edit that puts lines between two places: whole rows in its lines, the bytes alone beside them
 -- (help: nvim_buf_set_text())
-abbrev pub text_edit : List (List ℕ) → Pos → Pos → List (List ℕ) → Edit
-text_edit text start stop new =
-    edit_by text start.row (stop.row + 1) (lines_between text start stop new)
+abbrev pub text_edit : ChangePart → List (List ℕ) → Pos → Pos → List (List ℕ) → Edit
+text_edit part text start stop new =
+    edit_by part text start.row (stop.row + 1) (lines_between text start stop new)
     (offset_of text start) (offset_of text stop - offset_of text start)
     (join_with_byte 10 new) false
 
@@ -60,6 +68,7 @@ inverse_edit text edit = record {
   removed = edit.put;
   put = edit.removed;
   rows = edit.rows;
+  part = turned_part edit.part;
 }
 
 -- the edits that take back these, each one in the place of its edit, where they are made one after

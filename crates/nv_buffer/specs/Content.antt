@@ -1,19 +1,23 @@
 -- What a buffer is, what an edit of its text does, and what undoing does.
-use Rattle.std.specs.Prelude.{◌≡◌, ℕ, ℤ, pos, ◌+◌, ◌+ℤ◌, ◌≤◌, Bool, true, false, List, [], ◌∷◌, ◌++◌, length, take, fold, flat_map}
+use Rattle.std.specs.Prelude.{◌≡◌, ℕ, ℤ, pos, ◌+◌, ◌+ℤ◌, ◌≤◌, Bool, true, false, suc, List, [], ◌∷◌, ◌++◌, length, take, filter, fold, flat_map}
 use Rattle.std.specs.List.{splice}
 use Rattle.nv_places.specs.Flat.{flat}
 use Rattle.nv_places.specs.declared.place.Pos.{Pos}
-use Rattle.nv_undo.specs.Tree.{Undo, no_changes, pushed, tree_after_leg}
+use Rattle.nv_undo.specs.Tree.{Undo, last, no_changes, pushed, tree_after_leg}
 use Rattle.nv_undo.specs.declared.legs.Leg.{Leg}
 use Rattle.nv_buffer.specs.Changes.{first_text, lines_after, rows_edit, text_edit, Replaces, text_at, leg_text, leg_edits}
+use Rattle.nv_buffer.specs.KeptMarks.{is_kept_in, kept_at, with_part}
 use Rattle.nv_buffer.specs.Marks.{marks_after}
+use Rattle.nv_marks.specs.Keeping.{kept_marks}
 use Rattle.nv_marks.specs.Marks.{Marks}
+use Rattle.nv_marks.specs.declared.keeping.Kept.{Kept}
 use Rattle.nv_undo.specs.Ways.{undo_legs, redo_legs, legs_to}
+use Rattle.nv_buffer.specs.declared.edit.ChangePart.{ChangePart}
 use Rattle.nv_buffer.specs.declared.edit.Edit.{Edit}
 use Rattle.nv_buffer.specs.declared.buffer.Spliced.{Spliced}
 
--- a buffer: its handle, lines, changedtick, name and options, its marks, its changes, and the edits
--- made since the last one was closed
+-- a buffer: its handle, lines, changedtick, name and options, its marks, what the last step of each
+-- part of a change kept of marks, its changes, and the edits made since the last one was closed
 -- (help: api-buffer, changetick, options, api-extended-marks, undo-tree)
 pub record Content : Type 0 where
   pub handle : ℤ
@@ -25,6 +29,7 @@ pub record Content : Type 0 where
   pub listed : Bool
   pub tabstop : ℕ
   pub marks : Marks
+  pub kept : List ((ℕ × ℕ) × List Kept)
   pub undo : Undo (List Edit)
   pub unsealed : List Edit
 
@@ -40,19 +45,44 @@ fresh_content handle listed = record {
   modified = false;
   listed = listed;
   tabstop = 8;
-  marks = record { marks = []; greatest = [] };
+  marks = record { marks = []; greatest = []; settings = 0 };
+  kept = [];
   undo = no_changes;
   unsealed = [];
 }
 
--- the buffer once an edit is made: changedtick one more, 'modified' set, the marks moved, the edit
--- among those that are not yet a change, and all else as it was
+-- the next edit of a buffer: the next part of the change that is open, which gets the next number
+-- once it is closed
+abbrev pub next_part : Content → ChangePart
+next_part buffer = record {
+  change = suc (last buffer.undo);
+  part = length buffer.unsealed;
+  back = false;
+}
+
+-- what is put back of marks once an edit is made: what the last step of the same part kept, where
+-- it has places of the text afterwards
+abbrev pub kept_put_back : Content → Edit → List Kept
+kept_put_back buffer edit =
+    filter (is_kept_in (lines_after buffer.text edit)) (kept_at buffer.kept edit.part)
+
+-- the marks then, and what the last step of each part kept
+abbrev pub marks_by : Content → Edit → Marks
+marks_by buffer edit = marks_after (kept_put_back buffer edit) buffer.marks edit
+
+abbrev pub kept_by : Content → Edit → List ((ℕ × ℕ) × List Kept)
+kept_by buffer edit =
+    with_part edit.part (kept_marks edit.start edit.removed buffer.marks.marks) buffer.kept
+
+-- the buffer once an edit is made: changedtick one more, 'modified' set, marks struck, moved and
+-- put back, the edit among those that are not yet a change, and all else as it was
 abbrev pub after_edit : Content → Edit → Content
 after_edit buffer edit = record buffer {
   text = lines_after buffer.text edit;
   tick = buffer.tick +ℤ pos 1;
   modified = true;
-  marks = marks_after buffer.marks edit;
+  marks = marks_by buffer edit;
+  kept = kept_by buffer edit;
   unsealed = buffer.unsealed ++ edit ∷ [];
 }
 
@@ -73,13 +103,13 @@ event_fold lines event = lines_after lines event.edit
 -- what is told of lines put in place of rows `from` up to before `to` (help: nvim_buf_set_lines())
 abbrev pub rows_event : Content → ℕ → ℕ → List (List ℕ) → Spliced
 rows_event buffer from to new =
-    event_at (buffer.tick +ℤ pos 1) (rows_edit buffer.text from to new)
+    event_at (buffer.tick +ℤ pos 1) (rows_edit (next_part buffer) buffer.text from to new)
 
 -- what is told of lines put between two places: whole rows in the event, the bytes alone beside it
 -- (help: nvim_buf_set_text())
 abbrev pub text_event : Content → Pos → Pos → List (List ℕ) → Spliced
 text_event buffer start stop new =
-    event_at (buffer.tick +ℤ pos 1) (text_edit buffer.text start stop new)
+    event_at (buffer.tick +ℤ pos 1) (text_edit (next_part buffer) buffer.text start stop new)
 
 -- an edit of the text as it was told: a splice of the flat text, in rows and bytes of the buffer
 -- before
@@ -91,7 +121,9 @@ pub record IsEdit (before after : Content) (bytes : List ℕ) (event : Spliced) 
   pub lines : after.text ≡ event_fold before.text event
   pub tick : after.tick ≡ before.tick +ℤ pos 1
   pub modified : after.modified ≡ true
-  pub marks : after.marks ≡ marks_after before.marks event.edit
+  pub part : event.edit.part ≡ next_part before
+  pub marks : after.marks ≡ marks_by before event.edit
+  pub keeps : after.kept ≡ kept_by before event.edit
   pub kept :
       after
       ≡ record before {
@@ -99,6 +131,7 @@ pub record IsEdit (before after : Content) (bytes : List ℕ) (event : Spliced) 
         tick = after.tick;
         modified = after.modified;
         marks = after.marks;
+        kept = after.kept;
         unsealed = before.unsealed ++ event.edit ∷ [];
       }
 
@@ -121,14 +154,15 @@ abbrev pub after_seal : Content → Content
 after_seal buffer = after_seal_of buffer buffer.unsealed
 
 -- the buffer once a leg is gone in its tree: the kept text of the number that it leads to, the
--- changedtick as much more as the leg has edits, 'modified' set, the marks moved by each of them
--- (help: undo-tree, changetick)
+-- changedtick as much more as the leg has edits, 'modified' set, the marks struck, moved and put
+-- back by each of them (help: undo-tree, changetick)
 abbrev pub after_leg : Content → Leg → Content
 after_leg buffer leg = record buffer {
   text = text_at (tree_after_leg leg buffer.undo) (tree_after_leg leg buffer.undo).current;
   tick = buffer.tick +ℤ pos (length (leg_edits buffer.undo leg));
   modified = true;
-  marks = fold marks_after buffer.marks (leg_edits buffer.undo leg);
+  marks = (fold after_edit buffer (leg_edits buffer.undo leg)).marks;
+  kept = (fold after_edit buffer (leg_edits buffer.undo leg)).kept;
   undo = tree_after_leg leg buffer.undo;
 }
 

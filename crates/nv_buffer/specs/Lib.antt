@@ -1,7 +1,9 @@
 pub mod Splices
 pub mod Marks
 pub mod Changes
+pub mod KeptMarks
 pub mod Content
 pub mod Patches
+pub mod Rooms
 pub mod Steps
 pub mod Laws

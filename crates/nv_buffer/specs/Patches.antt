@@ -2,6 +2,7 @@
 use Rattle.std.specs.Prelude.{◌≡◌, ℕ, ◌+◌, ◌<◌, ◌≤◌, List, [], ◌∷◌, ◌++◌, length, take, drop, false}
 use Rattle.nv_places.specs.Flat.{line_at}
 use Rattle.nv_buffer.specs.Splices.{IsNarrowLine}
+use Rattle.nv_buffer.specs.Changes.{turned_part}
 use Rattle.nv_buffer.specs.declared.edit.Edit.{Edit}
 use Rattle.nv_buffer.specs.declared.patch.Patch.{Patch}
 
@@ -23,11 +24,13 @@ patch_edit text patch = record {
   removed = record { rows = 0; cols = length patch.taken };
   put = record { rows = 0; cols = length patch.put };
   rows = false;
+  part = patch.part;
 }
 
 -- the patch that takes this one back
 abbrev pub patch_back : Patch → Patch
-patch_back patch = record patch { taken = patch.put; put = patch.taken }
+patch_back patch =
+    record patch { taken = patch.put; put = patch.taken; part = turned_part patch.part }
 
 -- the bytes that a patch takes stand in a row of this text
 pub record IsPatch (text : List (List ℕ)) (patch : Patch) : Type 0 where
@@ -54,6 +57,7 @@ pub record IsChanged (edit : Edit) (before after : List ℕ) (patch : Patch) : T
   pub row : patch.row ≡ edit.first
   pub col : patch.col ≡ edit.start.col
   pub at : patch.at ≡ edit.at
+  pub part : patch.part ≡ edit.part
   pub taken : take edit.removed.cols (drop edit.start.col before) ≡ patch.taken
   pub put : take edit.put.cols (drop edit.start.col after) ≡ patch.put
   pub taken_in : edit.start.col + edit.removed.cols ≤ length before

@@ -2,7 +2,7 @@
 use Rattle.std.specs.Prelude.{◌≡◌, ℕ, ℤ, pos, ◌+◌, ◌≤◌, ◌≤ℤ◌, List, [], ◌∷◌, ◌++◌, Option, Some, None, length, flat_map, fold, slice_range}
 use Rattle.nv_undo.specs.Tree.{Undo, tree_of, IsTree, change_of}
 use Rattle.nv_buffer.specs.Splices.{IsBufferText}
-use Rattle.nv_buffer.specs.Changes.{lines_after, AllFit, text_at}
+use Rattle.nv_buffer.specs.Changes.{lines_after, turned_part, AllFit, text_at}
 use Rattle.nv_buffer.specs.Patches.{IsPatch, patch_back, patch_edit}
 use Rattle.nv_undo.specs.Ways.{origin}
 use Rattle.nv_buffer.specs.declared.edit.Edit.{Edit}
@@ -51,6 +51,7 @@ swap_back swap = record {
   removed = swap.ahead.put;
   put = swap.ahead.removed;
   rows = swap.ahead.rows;
+  part = turned_part swap.ahead.part;
 }
 
 -- the edit that takes a step back, of the text after it

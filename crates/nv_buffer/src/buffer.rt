@@ -1,35 +1,41 @@
 // A buffer.
-ghost use Rattle.std.specs.Prelude.{◌≡◌, ◌+◌, ◌-◌, ◌^◌, ◌<◌, ◌≤◌, ◌↔◌, ◌<ℤ◌, ◌+ℤ◌, pos, true, false, [], ◌∷◌, length, All, Some, slice_get, IsTrue, IsSome, IfSome, IfOk, OnOk, OnErr, vec_len, vec_capacity};
+ghost use Rattle.std.specs.Prelude.{◌≡◌, ◌+◌, ◌-◌, ◌^◌, ◌<◌, ◌≤◌, ◌↔◌, ◌<ℤ◌, ◌+ℤ◌, pos, suc, true, false, [], ◌∷◌, filter, is_some, length, All, Some, slice_get, IsTrue, IsSome, IfSome, IfOk, OnOk, OnErr, vec_len, vec_capacity};
 ghost use Rattle.std.specs.List.{join_with_byte};
+ghost use Rattle.std.specs.Map.{lookup};
 ghost use Rattle.nv_places.specs.Flat.{flat, IsLine};
 ghost use Rattle.nv_places.specs.Places.{offset_of, is_before, further, IsNarrow};
 ghost use Rattle.nv_lines.specs.Text.{IsText};
+ghost use Rattle.nv_marks.specs.Keeping.{kept_marks};
 ghost use Rattle.nv_marks.specs.Marks.{mark_at};
 ghost use Rattle.nv_marks.specs.Moves.{MovesNarrowly};
+ghost use Rattle.nv_marks.specs.Striking.{struck_of};
 ghost use Rattle.nv_buffer.specs.Splices.{IsBufferText, IsInLine, IsNarrowLine, IsNarrowText, lines_between};
-ghost use Rattle.nv_buffer.specs.Marks.{AreMarksIn, IsMarkIn, IsMarked, IsUnmarked, marks_after};
+ghost use Rattle.nv_buffer.specs.Marks.{AreMarksIn, IsMarkIn, IsMarked, IsUnmarked, marks_after, marks_cleared};
 ghost use Rattle.nv_buffer.specs.Changes.{rows_edit, text_edit, Fits, text_at, edits_of, leg_edits};
-ghost use Rattle.nv_buffer.specs.Content.{IsEdit, fresh_content, after_edit, event_at, rows_event, text_event, after_seal, IsAlong};
+ghost use Rattle.nv_buffer.specs.Content.{IsEdit, fresh_content, after_edit, event_at, next_part, rows_event, text_event, after_seal, IsAlong};
+ghost use Rattle.nv_buffer.specs.KeptMarks.{is_kept_in, is_of_part, kept_at, with_part};
+ghost use Rattle.nv_buffer.specs.Rooms.{kept_entries};
 ghost use Rattle.nv_buffer.specs.Steps.{IsBuffer, kept_count};
 ghost use Rattle.nv_undo.specs.Tree.{last, tree_after_leg, parent_of, child_of, path};
 ghost use Rattle.nv_undo.specs.Ways.{Leads, origin, IsNext};
 ghost use Rattle.nv_undo.specs.declared.legs.Leg.TheVariants.{Back, Ahead};
 
-use crate::edit::Edit;
+use crate::edit::{ChangePart, Edit};
 use crate::joining::{around, is_one_empty, joined};
+use crate::kept_marks::{KeptMarks, keep_in};
 use crate::patch::Patch;
 use crate::reaching::{extent_between, flat_len_of, joined_reach, rows_reached};
 use crate::step::{Change, Step};
 use nv_lines::{Line, LineList, Lines};
-use nv_marks::{Mark, MarkSet};
+use nv_marks::{Kept, Mark, MarkSet, Struck};
 use nv_places::Pos;
 use nv_undo::{Leg, UndoTree};
 use std::alloc::{AllocError, Global};
 use std::marker::Model;
 use std::mem;
 
-/// An edit of a buffer's text as it is told, and the changedtick after it (help:
-/// nvim_buf_lines_event).
+/// An edit of a buffer's text as it is told, with the part of a change that it is, and the
+/// changedtick after it (help: nvim_buf_lines_event).
 #[derive(Drop)]
 pub struct Spliced {
     pub tick: i64,
@@ -51,6 +57,8 @@ pub struct Buffer {
     listed: bool,
     tabstop: u32,
     marks: MarkSet,
+    // What the last step of each part of each change kept of marks.
+    kept: KeptMarks,
     tree: UndoTree<Change>,
     // The steps that were made since the last change was closed.
     unsealed: Vec<Step>,
@@ -61,6 +69,7 @@ impl Model for Buffer {
     ghost use Rattle.nv_buffer.specs.Splices.{IsNarrowText};
     ghost use Rattle.nv_buffer.specs.Content.{Content};
     ghost use Rattle.nv_buffer.specs.Marks.{AreMarksIn};
+    ghost use Rattle.nv_buffer.specs.Rooms.{kept_entries};
     ghost use Rattle.nv_buffer.specs.Steps.{tree_ahead, edits_since, IsBuffer, AllLeadBack};
 
     ghost Value = { Content };
@@ -75,6 +84,7 @@ impl Model for Buffer {
       listed = b.listed;
       tabstop = b.tabstop;
       marks = b.marks;
+      kept = kept_entries b.kept;
       undo = tree_ahead b.tree;
       unsealed = edits_since b.tree b.unsealed.items;
     } };
@@ -105,6 +115,7 @@ impl Buffer {
             listed: true,
             tabstop: 8,
             marks,
+            kept: KeptMarks::new(alloc),
             tree: UndoTree::new(alloc)?,
             unsealed: Vec::new(alloc),
         })
@@ -230,6 +241,18 @@ impl Buffer {
         self.marks.remove(ns, id)
     }
 
+    /// Removes the marks of a namespace, or of all, that start from `from` to `to`, both included
+    /// (help: nvim_buf_clear_namespace()). Their ids still count for the next one. Where memory is
+    /// wanting nothing changes.
+    pub fn clear_marks(&mut self, ns: Option<u32>, from: Pos, to: Pos) -> Result<(), AllocError>
+        ensures ok { OnOk result (self.new ≡ record self.old {
+          marks = marks_cleared ns from to self.old.marks;
+        }) }
+        ensures err { OnErr result (self.new ≡ self.old) }
+    {
+        self.marks.clear(ns, from, to)
+    }
+
     /// Puts `new` in place of the rows from `from` up to before `to` (help: nvim_buf_set_lines()).
     /// `None` exactly where no row is removed and no line put, and then nothing changes. Where
     /// memory is wanting nothing changes either.
@@ -266,19 +289,20 @@ impl Buffer {
         requires within { to ≤ length self.now.text }
         requires columns { All IsNarrowLine new }
         requires count { from + length new + length self.now.text < to + 2 ^ 32 }
-        ensures edit { result ≡ rows_edit self.now.text from to new }
+        ensures edit { result ≡ rows_edit (next_part self.now) self.now.text from to new }
         ensures lines { All IsLine result.lines }
         ensures text { IsBufferText self.now.text }
     {
         self.known();
         let put = rows_reached(new.len());
         let bytes = flat_len_of(&new);
+        let (at, old) = self.text.flat_span(from, to);
         Edit {
             first: from as u32,
             last: to as u32,
             lines: new,
-            at: self.text.offset(from),
-            old: self.text.flat_len_between(from, to),
+            at,
+            old,
             new: bytes,
             start: Pos {
                 row: from as u32,
@@ -287,6 +311,7 @@ impl Buffer {
             removed: rows_reached(to - from),
             put,
             rows: true,
+            part: self.next_part(),
         }
     }
 
@@ -333,7 +358,8 @@ impl Buffer {
         requires some_line { 0 < length new }
         requires count { start.row + length new + length self.now.text < stop.row + 1 + 2 ^ 32 }
         requires columns { All IsNarrowLine (lines_between self.now.text start stop new) }
-        ensures edit { IfOk result (λ edit. edit ≡ text_edit self.now.text start stop new) }
+        ensures edit { IfOk result
+            (λ edit. edit ≡ text_edit (next_part self.now) self.now.text start stop new) }
         ensures lines { IfOk result (λ edit. All IsLine edit.lines) }
         ensures text { IsBufferText self.now.text }
     {
@@ -353,11 +379,24 @@ impl Buffer {
             removed: extent_between(start, stop),
             put,
             rows: false,
+            part: self.next_part(),
         })
     }
 
-    /// Makes an edit that fits: in the text, the marks, and what is kept of it. Where memory is
-    /// wanting nothing changes.
+    // Which part of a change the next edit is.
+    fn next_part(&self) -> ChangePart
+        ensures { result ≡ next_part self.now }
+    {
+        ChangePart {
+            change: self.next_change(),
+            part: self.unsealed_len() as u64,
+            back: false,
+        }
+    }
+
+    /// Makes an edit that fits: in the text, the marks, and what is kept of it. Marks of which it
+    /// removes all are struck, all others move, and those of which the step before of its part kept
+    /// something are put back. Where memory is wanting nothing changes.
     pub fn put_edit(&mut self, edit: Edit) -> Result<Spliced, AllocError>
         requires fits { Fits self.old.text edit }
         requires tick { self.old.tick <ℤ i64.MAX }
@@ -365,14 +404,15 @@ impl Buffer {
         ensures told { IfOk result (λ event. event ≡ event_at (self.old.tick +ℤ pos 1) edit) }
         ensures err { OnErr result (self.new ≡ self.old) }
     {
+        make_room(&mut self.unsealed)?;
+        let met = marks_met(self.alloc, &self.marks, &mut self.kept, &edit)?;
         let told = edit.share()?;
         let patch = Patch::of(self.alloc, &self.text, &edit)?;
         let lines = edit.lines.share()?;
-        make_room(&mut self.unsealed)?;
         let taken = self
             .text
             .replace(edit.first as usize, edit.last as usize, lines)?;
-        move_marks(&mut self.marks, &edit);
+        carry_marks(&mut self.marks, &mut self.kept, &self.text, &edit, met);
         self.tick += 1;
         self.modified = true;
         self.unsealed.push_reserved(Step::new(patch, edit, taken));
@@ -455,6 +495,13 @@ impl Buffer {
         ensures { result ≡ last self.now.undo }
     {
         self.tree.last()
+    }
+
+    // The number that the open change gets once it is closed.
+    fn next_change(&self) -> u64
+        ensures { result ≡ suc (last self.now.undo) }
+    {
+        self.tree.next()
     }
 
     /// What is known of each buffer, for callers whose proofs need it. It does nothing.
@@ -600,13 +647,72 @@ fn go_leg(tree: &mut UndoTree<Change>, leg: Leg)
     }
 }
 
-// Moves the marks by an edit.
-fn move_marks(marks: &mut MarkSet, by: &Edit)
+// What an edit meets of the marks.
+#[derive(Drop)]
+struct MarksMet {
+    // What is kept of them.
+    found: Vec<Kept>,
+    // Those of which it removes all.
+    struck: Struck,
+}
+
+// What an edit meets of the marks. Room is made for what is kept of them.
+fn marks_met(
+    alloc: Global,
+    marks: &MarkSet,
+    before: &mut KeptMarks,
+    by: &Edit,
+) -> Result<MarksMet, AllocError>
+    requires { IsNarrow (further by.now.start by.now.removed) }
+    ensures same { kept_entries before.new ≡ kept_entries before.old }
+    ensures found { IfOk result (λ met. met.found.items
+        ≡ kept_marks by.now.start by.now.removed marks.now.marks) }
+    ensures room { IfOk result (λ met. 0 < length met.found.items
+        → is_some (lookup (is_of_part by.now.part) before.new) ≡ true) }
+    ensures struck { IfOk result (λ met. met.struck
+        ≡ struck_of by.now.start by.now.removed marks.now.marks) }
+{
+    let mut found = Vec::new(alloc);
+    marks.keep(by.start, by.removed, &mut found)?;
+    before.make_room(by.part, &found)?;
+    let struck = marks.find_struck(by.start, by.removed)?;
+    Ok(MarksMet { found, struck })
+}
+
+// Carries the marks over an edit of a text, which is lent as it is afterwards: what the step before
+// of its part kept of them is put back where it has places there, and what this one met is kept.
+fn carry_marks(marks: &mut MarkSet, kept: &mut KeptMarks, text: &Lines, by: &Edit, met: MarksMet)
     requires old_end { IsNarrow (further by.now.start by.now.removed) }
     requires new_end { IsNarrow (further by.now.start by.now.put) }
     requires moved { All (MovesNarrowly by.now.start by.now.removed by.now.put) marks.old.marks }
-    ensures { marks.new ≡ marks_after marks.old by.now }
+    requires struck { met.struck ≡ struck_of by.now.start by.now.removed marks.old.marks }
+    requires room { 0 < length met.found.items
+        → is_some (lookup (is_of_part by.now.part) kept.old) ≡ true }
+    ensures marks { marks.new ≡ marks_after
+        (filter (is_kept_in text.now) (kept_at (kept_entries kept.old) by.now.part))
+        marks.old by.now }
+    ensures kept { kept_entries kept.new
+        ≡ with_part by.now.part met.found.items (kept_entries kept.old) }
 {
-    let _count = marks.len();
+    let MarksMet { found, struck } = met;
+    let mut back = kept.put(by.part, found);
+    keep_in(text, &mut back);
+    move_marks(marks, by, &struck, &back);
+}
+
+// Strikes and moves the marks by an edit, and puts back what was kept of them before.
+fn move_marks(marks: &mut MarkSet, by: &Edit, struck: &Struck, kept: &[Kept])
+    requires old_end { IsNarrow (further by.now.start by.now.removed) }
+    requires new_end { IsNarrow (further by.now.start by.now.put) }
+    requires moved { All (MovesNarrowly by.now.start by.now.removed by.now.put) marks.old.marks }
+    requires struck { struck.now ≡ struck_of by.now.start by.now.removed marks.old.marks }
+    ensures { marks.new ≡ marks_after kept.now marks.old by.now }
+{
+    let count = marks.len();
+    if count == 0 {
+        return;
+    }
+    marks.strike(by.start, by.removed, struck);
     marks.splice(by.start, by.removed, by.put);
+    marks.put_back(kept);
 }

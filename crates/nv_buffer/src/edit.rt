@@ -1,9 +1,33 @@
 // Edits of a text.
 ghost use Rattle.std.specs.Prelude.{◌≡◌, IfOk};
+ghost use Rattle.nv_buffer.specs.Changes.{turned_part};
 
 use nv_lines::LineList;
 use nv_places::{Extent, Pos};
 use std::alloc::AllocError;
+
+/// Which part of which change an edit is, and which way it goes. Changes are numbered from 1, the
+/// parts of each from 0 in the order in which they were made (help: undo-tree).
+#[derive(Clone, Copy, Debug, PartialEq, Eq)]
+pub struct ChangePart {
+    pub change: u64,
+    pub part: u64,
+    /// Whether the part is taken back, and not made.
+    pub back: bool,
+}
+
+impl ChangePart {
+    /// The same part, gone the other way.
+    pub fn turned(self) -> ChangePart
+        ensures { result ≡ turned_part self }
+    {
+        ChangePart {
+            change: self.change,
+            part: self.part,
+            back: !self.back,
+        }
+    }
+}
 
 /// One edit of a text, in numbers of the text before it. Rows, columns and offsets count from 0.
 /// Text, marks, what is told of an edit and undo have it as one value.
@@ -30,6 +54,7 @@ pub struct Edit {
     /// Whether whole rows are put (help: nvim_buf_set_lines()), and not text between two places
     /// (help: nvim_buf_set_text()).
     pub rows: bool,
+    pub part: ChangePart,
 }
 
 impl Edit {
@@ -49,6 +74,7 @@ impl Edit {
             removed: self.removed,
             put: self.put,
             rows: self.rows,
+            part: self.part,
         })
     }
 }

@@ -5,7 +5,7 @@ ghost use Rattle.nv_buffer.specs.Changes.{Fits};
 ghost use Rattle.nv_buffer.specs.Splices.{IsBufferText};
 ghost use Rattle.nv_buffer.specs.Patches.{IsChanged, IsInRow, IsPatch, IsPatchOf, patch_back, patch_edit};
 
-use crate::edit::Edit;
+use crate::edit::{ChangePart, Edit};
 use crate::joining::{line_between, line_of, row_of};
 use nv_lines::{Line, LineList, Lines};
 use nv_places::{Extent, Pos};
@@ -26,6 +26,7 @@ pub struct Patch {
     pub taken: Line,
     /// The bytes that are put there.
     pub put: Line,
+    pub part: ChangePart,
 }
 
 // Whether an edit puts bytes within a row in place of others there.
@@ -66,6 +67,7 @@ fn changed(
         at: edit.at,
         taken,
         put,
+        part: edit.part,
     }))
 }
 
@@ -115,6 +117,7 @@ impl Patch {
             removed: Extent { rows: 0, cols: old },
             put: Extent { rows: 0, cols: new },
             rows: false,
+            part: self.part,
         })
     }
 
@@ -130,6 +133,7 @@ impl Patch {
             at: self.at,
             taken,
             put,
+            part: self.part.turned(),
         })
     }
 }

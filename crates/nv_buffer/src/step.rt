@@ -36,6 +36,7 @@ impl Swap {
             removed: edit.put,
             put: edit.removed,
             rows: edit.rows,
+            part: edit.part.turned(),
         })
     }
 }

@@ -1,12 +1,15 @@
 -- Calls as values: their parts, and how much these weigh.
 use Rattle.std.proofs.Common.{◌≡◌, ℕ, ◌+◌, ◌<◌, ◌≤◌, List, [], ◌∷◌, ◌++◌, map, drop, length, refl, sym, ap, ◌∙◌, arith}
 use Rattle.std.proofs.lemmas.List.{at_drop_more}
-use Rattle.std.specs.Prelude.{get_or, unwrap_or}
-use Rattle.nv_value.specs.Content.{Tree, Trees, nil, truth, integer, big, text, bin, list, pairs, ext, opaque, no_more, one, trees_of}
+use Rattle.std.specs.Prelude.{suc, get_or, unwrap_or}
+use Rattle.nv_value.specs.Content.{Tree, Trees, nil, truth, integer, big, text, bin, list, pairs, ext, opaque, no_more, one, count, trees_of}
 use Rattle.nv_value.specs.View.{content, contents}
 use Rattle.nv_value.specs.declared.value.Value.{Value}
 use Rattle.nv_msgpack.specs.Shortest.{HasSpelling, HaveSpellings}
+use Rattle.nv_rpc.specs.Outcomes.{call_result_content}
+use Rattle.nv_rpc.specs.declared.outcome.CallResult.{CallResult}
 use Rattle.nv_args.specs.Arguments.{tree_list, string_in}
+use Rattle.nv_args.specs.Texts.{strings}
 use Rattle.nv_args.specs.Weight.{weight, weights}
 use Rattle.nv_args.specs.Reading.{first_string, values_in, second_values, name_of_call, arguments_of_call}
 use Rattle.nv_dispatch.specs.inside.Weights.{list_weight}
@@ -66,8 +69,18 @@ parts-light (t ∷ u ∷ ts) = omega (arith, string-weight t, values_in-weight u
 pub call-weight : (t : Tree) → length (name_of_call t) + list_weight (arguments_of_call t) ≤ weight t
 call-weight t = omega (arith, parts-light (values_in t), values_in-weight t)
 
--- one value more that can be spelled
-pub spelled_more : (values : List Value) (value : Value) → HaveSpellings (trees_of (map content values)) → HasSpelling (content value)
-    → HaveSpellings (trees_of (map content (values ++ value ∷ [])))
-spelled_more [] value h s = (s, tt)
-spelled_more (v ∷ values) value h s = (h.0, spelled_more values value h.1 s)
+-- one result more that can be spelled
+pub spelled_more : (results : List CallResult) (result : CallResult) → HaveSpellings (trees_of (map call_result_content results)) → HasSpelling (call_result_content result)
+    → HaveSpellings (trees_of (map call_result_content (results ++ result ∷ [])))
+spelled_more [] result h s = (s, tt)
+spelled_more (r ∷ results) result h s = (h.0, spelled_more results result h.1 s)
+
+-- as many values as there are in the list
+pub count-trees : (ts : List Tree) → count (trees_of ts) ≡ length ts
+count-trees [] = refl
+count-trees (t ∷ ts) = ap suc (count-trees ts)
+
+-- lines as strings, one by one
+pub strings_are : (lines : List (List ℕ)) → strings lines ≡ trees_of (map text lines)
+strings_are [] = refl
+strings_are (line ∷ lines) = ap (one (text line)) (strings_are lines)

@@ -10,7 +10,7 @@ use Rattle.nv_places.specs.Places.{place_of}
 use Rattle.nv_places.specs.declared.place.Pos.{Pos}
 use Rattle.nv_places.proofs.FlatLemmas.{lines_of-flat}
 use Rattle.nv_lines.proofs.Splices.{All-splice}
-use Rattle.nv_buffer.specs.Content.{Content, IsEdit, after_edit, rows_event, text_event}
+use Rattle.nv_buffer.specs.Content.{Content, IsEdit, after_edit, rows_event, text_event, next_part}
 use Rattle.nv_buffer.specs.Changes.{lines_after, rows_edit, text_edit}
 use Rattle.nv_buffer.specs.Splices.{lines_between}
 use Rattle.nv_buffer.specs.declared.edit.Edit.{Edit}
@@ -95,32 +95,32 @@ from_before : (c later : Content) (p : Splice) (event : Spliced) → IsSpliced c
 from_before c later p event is = omega (arith, is.from, is.until)
 
 pub rows_are_put : (c : Content) (from to : ℕ) (new : List (List ℕ)) → from ≤ to → to ≤ length c.text → All IsLine c.text → All IsLine new
-    → IsPut c (rows_splice c.text from to new)
+    → IsPut c (rows_splice (next_part c) c.text from to new)
 rows_are_put c from to new order within lines put =
-    let edit : Edit = rows_edit c.text from to new in
+    let edit : Edit = rows_edit (next_part c) c.text from to new in
     let later : Content = after_edit c edit in
     let event : Spliced = rows_event c from to new in
     let is : IsEdit c later (flat new) event = lines_put c later new from to edit event order refl refl refl in
-    let spliced : IsSpliced c later (rows_splice c.text from to new) event =
+    let spliced : IsSpliced c later (rows_splice (next_part c) c.text from to new) event =
     rows_are_spliced c later from to new event order within lines (All-splice IsLine c.text new from to lines put) refl is in
     record {
       later = later;
       event = event;
       spliced = spliced;
       fits =
-          puts_fit c.text (rows_splice c.text from to new) from to new (rows_put c.text new from to order within lines put)
-          (lies_within c later (rows_splice c.text from to new) event spliced (from_before c later (rows_splice c.text from to new) event spliced));
+          puts_fit c.text (rows_splice (next_part c) c.text from to new) from to new (rows_put (next_part c) c.text new from to order within lines put)
+          (lies_within c later (rows_splice (next_part c) c.text from to new) event spliced (from_before c later (rows_splice (next_part c) c.text from to new) event spliced));
     }
 
 pub text_is_put : (c : Content) (start stop : Pos) (new : List (List ℕ)) → MayPutText c.text start stop new → All IsLine c.text → All IsLine new
-    → IsPut c (text_splice c.text start stop new)
+    → IsPut c (text_splice (next_part c) c.text start stop new)
 text_is_put c start stop new may lines put =
-    let edit : Edit = text_edit c.text start stop new in
+    let edit : Edit = text_edit (next_part c) c.text start stop new in
     let later : Content = after_edit c edit in
     let event : Spliced = text_event c start stop new in
     let joined : All IsLine (lines_between c.text start stop new) = between_lines c.text new start stop lines put in
     let is = text_put c later new start stop edit event may refl refl refl in
-    let spliced : IsSpliced c later (text_splice c.text start stop new) event =
+    let spliced : IsSpliced c later (text_splice (next_part c) c.text start stop new) event =
     text_is_spliced c later start stop new event may.start_in may.stop_in may.order lines
     (All-splice IsLine c.text (lines_between c.text start stop new) start.row (stop.row + 1) lines joined) refl is in
     record {
@@ -128,9 +128,9 @@ text_is_put c start stop new may lines put =
       event = event;
       spliced = spliced;
       fits =
-          puts_fit c.text (text_splice c.text start stop new) start.row (stop.row + 1) (lines_between c.text start stop new)
-          (text_puts c.text new (lines_between c.text start stop new) start stop may.start_in may.stop_in may.order may.some lines refl joined)
-          (lies_within c later (text_splice c.text start stop new) event spliced (from_before c later (text_splice c.text start stop new) event spliced));
+          puts_fit c.text (text_splice (next_part c) c.text start stop new) start.row (stop.row + 1) (lines_between c.text start stop new)
+          (text_puts (next_part c) c.text new (lines_between c.text start stop new) start stop may.start_in may.stop_in may.order may.some lines refl joined)
+          (lies_within c later (text_splice (next_part c) c.text start stop new) event spliced (from_before c later (text_splice (next_part c) c.text start stop new) event spliced));
     }
 
 -- ---- the text of a sound buffer

@@ -3,9 +3,8 @@ use Rattle.std.proofs.Common.{◌≡◌, ℕ, List, [], ◌∷◌, ◌++◌, map
 use Rattle.std.specs.Prelude.{◌||◌, suc, ◌+◌, is_some, option_map}
 use Rattle.std.proofs.lemmas.List.{length-map}
 use Rattle.nv_value.specs.Content.{Tree}
-use Rattle.nv_value.specs.View.{content}
 use Rattle.nv_value.specs.declared.fault.ApiFault.{ApiFault}
-use Rattle.nv_rpc.specs.Outcomes.{outcome_content}
+use Rattle.nv_rpc.specs.Outcomes.{call_result_content, outcome_content}
 use Rattle.nv_args.specs.Reading.{Arg}
 use Rattle.nv_args.specs.Args.{typed_arguments}
 use Rattle.nv_args.specs.Arguments.{tree_list}
@@ -215,13 +214,13 @@ one_refused wanted m session results is_seen value left middle after told betwee
 pub goes_on :
     (wanted : Batch) (m : ModelEditor) (session : ℕ) (given : Result Done Fail) (made later : Results) (value : Tree) (left : List Tree) (middle after : PresentEditor) (told between now : List Fact)
     → TakesResult given made later → later.stopped ≡ None
-    → IsMadeSoFar wanted m session (map content made.values.items) made.is_seen (value ∷ left) middle told between
+    → IsMadeSoFar wanted m session (map call_result_content made.values.items) made.is_seen (value ∷ left) middle told between
     → ((k : ModelEditor) → Stands middle k → GaveOutcome (outcome_of_value k session value) k given after between now)
-    → IsMadeSoFar wanted m session (map content later.values.items) later.is_seen left after told now
+    → IsMadeSoFar wanted m session (map call_result_content later.values.items) later.is_seen left after told now
 goes_on wanted m session (Ok done) made later value left middle after told between now t going so_far gave =
-    let more = one_made wanted m session (map content made.values.items) made.is_seen value left middle after told between now so_far (outcome_content done.result) done.is_seen
+    let more = one_made wanted m session (map call_result_content made.values.items) made.is_seen value left middle after told between now so_far (outcome_content done.result) done.is_seen
     (gave (after_operations so_far.operations m) so_far.stands) in
-    subst (λ (b : Bool). IsMadeSoFar wanted m session (map content later.values.items) b left after told now) (sym t.2)
+    subst (λ (b : Bool). IsMadeSoFar wanted m session (map call_result_content later.values.items) b left after told now) (sym t.2)
     (subst (λ (rs : List Tree). IsMadeSoFar wanted m session rs (made.is_seen || done.is_seen) left after told now) (sym t.0) more)
 goes_on wanted m session (Err (Api fault)) made later value left middle after told between now t going so_far gave =
     absurd (let e : None ≡ Some (length made.values.items, fault) = ap (option_map stop_of) (sym going) ∙ t.1 in cc)
@@ -229,7 +228,7 @@ goes_on wanted m session (Err NoMemory) made later value left middle after told 
 
 batch_is :
     (wanted : Batch) (m : ModelEditor) (made : Results) (after : PresentEditor) (told now : List Fact)
-    → BatchComes wanted m (map content made.values.items) (option_map stop_of made.stopped) made.is_seen after told now
+    → BatchComes wanted m (map call_result_content made.values.items) (option_map stop_of made.stopped) made.is_seen after told now
     → IsBatch wanted m made after told now
 batch_is wanted m made after told now h =
     record { results = h.results_are; stopped = h.stopped_is; seen = h.seen_is; stands = h.stands; facts = h.facts_are }
@@ -237,31 +236,31 @@ batch_is wanted m made after told now h =
 -- all were made
 pub ends_all :
     (wanted : Batch) (m : ModelEditor) (session : ℕ) (made : Results) (after : PresentEditor) (told now : List Fact)
-    → made.stopped ≡ None → IsMadeSoFar wanted m session (map content made.values.items) made.is_seen [] after told now
+    → made.stopped ≡ None → IsMadeSoFar wanted m session (map call_result_content made.values.items) made.is_seen [] after told now
     → IsBatch wanted m made after told now
 ends_all wanted m session made after told now going so_far =
     batch_is wanted m made after told now
-    (subst (λ (s : Option (ℕ × ApiFault)). BatchComes wanted m (map content made.values.items) s made.is_seen after told now) (sym (ap (option_map stop_of) going))
-    (all_made wanted m session (map content made.values.items) made.is_seen after told now so_far))
+    (subst (λ (s : Option (ℕ × ApiFault)). BatchComes wanted m (map call_result_content made.values.items) s made.is_seen after told now) (sym (ap (option_map stop_of) going))
+    (all_made wanted m session (map call_result_content made.values.items) made.is_seen after told now so_far))
 
 -- a call was refused, and none is made behind it
 pub ends_refused :
     (wanted : Batch) (m : ModelEditor) (session : ℕ) (given : Result Done Fail) (made later : Results) (value : Tree) (left : List Tree) (middle after : PresentEditor) (told between now : List Fact)
     → TakesResult given made later → is_some later.stopped ≡ true
     → RefusedKeeps given after middle → RefusedKeeps given now between
-    → IsMadeSoFar wanted m session (map content made.values.items) made.is_seen (value ∷ left) middle told between
+    → IsMadeSoFar wanted m session (map call_result_content made.values.items) made.is_seen (value ∷ left) middle told between
     → ((k : ModelEditor) → Stands middle k → GaveOutcome (outcome_of_value k session value) k given after between now)
     → IsBatch wanted m later after told now
 ends_refused wanted m session (Ok done) made later value left middle after told between now t stops same quiet so_far gave =
     absurd (let e : false ≡ true = ap is_some (sym t.1) ∙ stops in cc)
 ends_refused wanted m session (Err (Api fault)) made later value left middle after told between now t stops same quiet so_far gave =
     let is = gave (after_operations so_far.operations m) so_far.stands in
-    let results = map content made.values.items in
-    let count : length results ≡ length made.values.items = length-map made.values.items content in
+    let results = map call_result_content made.values.items in
+    let count : length results ≡ length made.values.items = length-map made.values.items call_result_content in
     let comes = one_refused wanted m session results made.is_seen value left middle after told between now so_far fault same quiet is.result_is in
     batch_is wanted m later after told now
-    (subst (λ (b : Bool). BatchComes wanted m (map content later.values.items) (option_map stop_of later.stopped) b after told now) (sym t.2)
-    (subst (λ (s : Option (ℕ × ApiFault)). BatchComes wanted m (map content later.values.items) s made.is_seen after told now) (ap (λ (n : ℕ). Some (n, fault)) count ∙ sym t.1)
+    (subst (λ (b : Bool). BatchComes wanted m (map call_result_content later.values.items) (option_map stop_of later.stopped) b after told now) (sym t.2)
+    (subst (λ (s : Option (ℕ × ApiFault)). BatchComes wanted m (map call_result_content later.values.items) s made.is_seen after told now) (ap (λ (n : ℕ). Some (n, fault)) count ∙ sym t.1)
     (subst (λ (rs : List Tree). BatchComes wanted m rs (Some (length results, fault)) made.is_seen after told now) (sym t.0) comes)))
 ends_refused wanted m session (Err NoMemory) made later value left middle after told between now t stops same quiet so_far gave = absurd t
 
@@ -279,12 +278,12 @@ taken_light (Ok done) made later value left t some few =
       some,
       few,
       ap (length {A = Tree}) t.0,
-      length-map later.values.items content,
-      length-map made.values.items content,
-      length-append (map content made.values.items) (outcome_content done.result ∷ []),
+      length-map later.values.items call_result_content,
+      length-map made.values.items call_result_content,
+      length-append (map call_result_content made.values.items) (outcome_content done.result ∷ []),
     )
 taken_light (Err (Api fault)) made later value left t some few =
-    omega (arith, few, ap (length {A = Tree}) t.0, length-map later.values.items content, length-map made.values.items content)
+    omega (arith, few, ap (length {A = Tree}) t.0, length-map later.values.items call_result_content, length-map made.values.items call_result_content)
 taken_light (Err NoMemory) made later value left t some few = absurd t
 
 -- ---- calls in one call
@@ -293,12 +292,12 @@ taken_light (Err NoMemory) made later value left t some few = absurd t
 pub atomic_is :
     (wanted : Batch) (m : ModelEditor) (made : Results) (value : Tree) (after : PresentEditor) (told now : List Fact)
     → IsBatch wanted m made after told now
-    → value ≡ array_of (array_of (map content made.values.items) ∷ stop_value (option_map stop_of made.stopped) ∷ [])
+    → value ≡ array_of (array_of (map call_result_content made.values.items) ∷ stop_value (option_map stop_of made.stopped) ∷ [])
     → IsOutcome (outcome_of_batch wanted) m (Ok value) made.is_seen after told now
 atomic_is wanted m made value after told now is e = record {
   result_is =
       ap (λ (rs : List Tree). Ok (array_of (array_of rs ∷ stop_value wanted.stopped ∷ []))) is.results
-      ∙ ap (λ (s : Option (ℕ × ApiFault)). Ok (array_of (array_of (map content made.values.items) ∷ stop_value s ∷ []))) is.stopped
+      ∙ ap (λ (s : Option (ℕ × ApiFault)). Ok (array_of (array_of (map call_result_content made.values.items) ∷ stop_value s ∷ []))) is.stopped
       ∙ ap Ok (sym e);
   seen_is = is.seen;
   stands = is.stands;
@@ -310,7 +309,7 @@ pub atomic_read :
     (m : ModelEditor) (session : ℕ) (args : Result (List Arg) ApiFault) (given : List Arg) (calls : List Tree) (made : Results) (value : Tree) (after : PresentEditor) (told now : List Fact)
     → args ≡ Ok given → calls ≡ tree_list (values_at given 0)
     → IsBatch (batch_of_values 0 m session calls) m made after told now
-    → value ≡ array_of (array_of (map content made.values.items) ∷ stop_value (option_map stop_of made.stopped) ∷ [])
+    → value ≡ array_of (array_of (map call_result_content made.values.items) ∷ stop_value (option_map stop_of made.stopped) ∷ [])
     → IsOutcome (atomic_outcome m session args) m (Ok value) made.is_seen after told now
 atomic_read m session args given calls made value after told now e f is v =
     subst (λ (r : Result (List Arg) ApiFault). IsOutcome (atomic_outcome m session r) m (Ok value) made.is_seen after told now) (sym e)

@@ -19,6 +19,7 @@ use Rattle.nv_model.specs.Answering.{reply_of}
 use Rattle.nv_model.specs.Rows.{Row}
 use Rattle.nv_model.specs.Standing.{PresentEditor, Stands, seen_now}
 use Rattle.nv_editor.specs.Doing.{AnswersRow, row_among, GivesAnswer, Replies}
+use Rattle.nv_api_buf.specs.Excerpts.{ReadsLines}
 use Rattle.nv_api_mark.specs.Outcomes.{ReadsOutcome}
 use Rattle.nv_dispatch.specs.Calls.{CallOutcome, outcome_of_answer, answer_to_args, outcome_by_row, outcome_of_method, row_named}
 use Rattle.nv_dispatch.specs.Outcomes.{IsOutcome, GaveOutcome, GivesOutcome}
@@ -95,6 +96,11 @@ listed_err found row name session args is_seen NoMemory e told there h m is = tt
 listed_err found row name session args is_seen (Api fault) e told there h m is =
     subst (λ (r : Option Row). GaveOutcome (outcome_of_row m session is_seen name r args) m (Err (Api fault)) e told told) (sym there)
     (gave_err row session args is_seen (Api fault) e e told told (h.0, h.1, refl, refl) m is)
+
+-- what a call that reads lines was refused with
+pub lines_err : (answer : Answer) (fail : Fail) → ReadsLines answer (Err fail) → ReadsOutcome answer (Err fail)
+lines_err answer NoMemory h = tt
+lines_err answer (Api fault) h = h
 
 -- ---- rows of several crates
 

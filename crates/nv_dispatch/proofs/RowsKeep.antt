@@ -25,7 +25,10 @@ use Rattle.nv_undo.specs.Ways.{Leads, undo_legs, redo_legs, legs_to}
 use Rattle.nv_undo.specs.declared.legs.Leg.{Leg}
 use Rattle.nv_buffer.specs.Splices.{IsInLine}
 use Rattle.nv_buffer.proofs.Edits.{MayPutText}
-use Rattle.nv_model.specs.Buffers.{Splice, ModelBuffer, rows_splice, text_splice, is_empty_splice, text_of, tick_of, with_splice}
+use Rattle.nv_buffer.specs.Content.{next_part}
+use Rattle.nv_buffer.specs.declared.edit.ChangePart.{ChangePart}
+use Rattle.nv_model.proofs.Seeing.{next_same}
+use Rattle.nv_model.specs.Buffers.{Splice, ModelBuffer, rows_splice, text_splice, is_empty_splice, text_of, tick_of, with_splice, part_next}
 use Rattle.nv_model.specs.Stage.{or_current}
 use Rattle.nv_windows.specs.Operations.{has_one_tabpage}
 use Rattle.nv_windows.specs.Workspace.{current_buffer, showing}
@@ -189,14 +192,15 @@ tells_rows m args n b from to sound there within =
     let new : List (List ℕ) = lines_at args 4 in
     let put : List (List ℕ) = lines_put from to new (lines_of (text_of b)) in
     let same : lines_of (text_of b) ≡ is.0.text = lines_kept b is in
-    let splice : Splice = rows_splice (lines_of (text_of b)) from to put in
+    let splice : Splice = rows_splice (part_next b) (lines_of (text_of b)) from to put in
     let answer : Answer = put_answer (seen_of m) n (seen_buffer b) new splice in
     tells_test m (range_leaves args (length (lines_of (text_of b)))) out_of_bounds (if nat_lt to from then refused start_after_end else answer) (λ inside.
     tells_test m (nat_lt to from) start_after_end answer (λ order.
     tells_put m n b new splice sound there (λ clean.
-    subst (λ (ls : List (List ℕ)). IsPut is.0 (rows_splice ls from to put)) (sym same)
+    subst (λ (p : ChangePart). IsPut is.0 (rows_splice p (lines_of (text_of b)) from to put)) (next_same is.0 _ is.1)
+    (subst (λ (ls : List (List ℕ)). IsPut is.0 (rows_splice (next_part is.0) ls from to put)) (sym same)
     (rows_are_put is.0 from to put (grind (arith, nat_tests)) (subst (λ (ls : List (List ℕ)). to ≤ length ls) same within) is.1.lines
-    (left_clean _ new (lines_clean new clean))))))
+    (left_clean _ new (lines_clean new clean)))))))
 
 set_lines : RowKeeps nvim_buf_set_lines
 set_lines m sound session args =
@@ -224,7 +228,7 @@ named_in lines row col p is = named_row lines row col p (text_row row (length li
 
 tells_text : (m : ModelEditor) (args : List Arg) (n : ℤ) (b : ModelBuffer) (start stop : Pos) → IsSoundModel m → at_handle m.buffers n ≡ Some b
     → IsInLine (lines_of (text_of b)) start → IsInLine (lines_of (text_of b)) stop → is_before stop start ≡ false
-    → AnswerTells m (put_answer (seen_of m) n (seen_buffer b) (lines_at args 5) (text_splice (lines_of (text_of b)) start stop (or_empty (lines_at args 5))))
+    → AnswerTells m (put_answer (seen_of m) n (seen_buffer b) (lines_at args 5) (text_splice (part_next b) (lines_of (text_of b)) start stop (or_empty (lines_at args 5))))
 tells_text m args n b start stop sound there start_in stop_in order =
     let is : IsSoundBuffer b = sound.buffers n b there in
     let new : List (List ℕ) = lines_at args 5 in
@@ -235,14 +239,15 @@ tells_text m args n b start stop sound there start_in stop_in order =
       order = order;
       some = empty_some new;
     } in
-    tells_put m n b new (text_splice (lines_of (text_of b)) start stop (or_empty new)) sound there (λ clean.
-    subst (λ (ls : List (List ℕ)). IsPut is.0 (text_splice ls start stop (or_empty new))) (sym same)
-    (text_is_put is.0 start stop (or_empty new) may is.1.lines (empty_clean new (lines_clean new clean))))
+    tells_put m n b new (text_splice (part_next b) (lines_of (text_of b)) start stop (or_empty new)) sound there (λ clean.
+    subst (λ (p : ChangePart). IsPut is.0 (text_splice p (lines_of (text_of b)) start stop (or_empty new))) (next_same is.0 _ is.1)
+    (subst (λ (ls : List (List ℕ)). IsPut is.0 (text_splice (next_part is.0) ls start stop (or_empty new))) (sym same)
+    (text_is_put is.0 start stop (or_empty new) may is.1.lines (empty_clean new (lines_clean new clean)))))
 
 set_text : RowKeeps nvim_buf_set_text
 set_text m sound session args =
     let done : ℤ → SeenBuffer → Pos → Pos → Answer = λ n b start stop.
-    put_answer (seen_of m) n b (lines_at args 5) (text_splice b.lines start stop (or_empty (lines_at args 5))) in
+    put_answer (seen_of m) n b (lines_at args 5) (text_splice b.next b.lines start stop (or_empty (lines_at args 5))) in
     let last : ℤ → SeenBuffer → Pos → Pos → Answer = λ n b start stop.
     if is_before stop start then refused start_after_end else done n b start stop in
     let second : ℤ → SeenBuffer → Pos → Answer = λ n b start.

@@ -2,34 +2,34 @@
 use Rattle.std.proofs.Common.{refl}
 use Rattle.std.specs.Fmt.{digits}
 use Rattle.nv_msgpack.specs.Shortest.{unsigned_spelling}
-use Rattle.nv_model.specs.Buffers.{text_of, offset_now, marks_of}
+use Rattle.nv_model.specs.Buffers.{text_of, state_behind, marks_of}
 use Rattle.nv_dispatch.specs.Calls.{row_named}
 use Rattle.nv_dispatch.specs.WorkedFacts.{FollowingAnswers, FollowingTells, FollowingFaults, RefusedTellNothing, FactsInOne, DeletionAnswers, DeletionTells}
 
 pub following_answers : FollowingAnswers
-unfolding FollowingAnswers text_of offset_now marks_of row_named
+unfolding FollowingAnswers text_of state_behind marks_of row_named
 following_answers = refl
 
 pub following_tells : FollowingTells
-unfolding FollowingTells text_of offset_now marks_of row_named
+unfolding FollowingTells text_of state_behind marks_of row_named
 following_tells = refl
 
 pub following_faults : FollowingFaults
-unfolding FollowingFaults digits text_of offset_now marks_of row_named
+unfolding FollowingFaults digits text_of state_behind marks_of row_named
 following_faults = refl
 
 pub refused_tell_nothing : RefusedTellNothing
-unfolding RefusedTellNothing text_of offset_now marks_of row_named
+unfolding RefusedTellNothing text_of state_behind marks_of row_named
 refused_tell_nothing = refl
 
 pub facts_in_one : FactsInOne
-unfolding FactsInOne text_of offset_now marks_of row_named
+unfolding FactsInOne text_of state_behind marks_of row_named
 facts_in_one = refl
 
 pub deletion_answers : DeletionAnswers
-unfolding DeletionAnswers unsigned_spelling text_of offset_now marks_of row_named
+unfolding DeletionAnswers unsigned_spelling text_of state_behind marks_of row_named
 deletion_answers = refl
 
 pub deletion_tells : DeletionTells
-unfolding DeletionTells text_of offset_now marks_of row_named
+unfolding DeletionTells text_of state_behind marks_of row_named
 deletion_tells = refl

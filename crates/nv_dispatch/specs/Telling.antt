@@ -93,7 +93,7 @@ FactsTell n (fact ∷ facts) past later =
 
 -- a buffer without its marks
 abbrev pub without_marks : ModelBuffer → ModelBuffer
-without_marks b = record b { marks = []; greatest = [] }
+without_marks b = record b { marks = []; settings = 0; greatest = [] }
 
 -- text, changes and open change of a buffer can be kept as lines and as edits of lines
 abbrev pub IsSoundBuffer : ModelBuffer → Type 0

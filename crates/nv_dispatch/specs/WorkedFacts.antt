@@ -41,6 +41,7 @@ FollowingTells =
         removed = record { rows = 1; cols = 0 };
         put = record { rows = 1; cols = 0 };
         rows = true;
+        part = record { change = 1; part = 0; back = false };
       };
     })
     ∷ attached (pos 1) 3 None
@@ -96,6 +97,7 @@ FactsInOne =
         removed = record { rows = 0; cols = 0 };
         put = record { rows = 1; cols = 0 };
         rows = true;
+        part = record { change = 1; part = 0; back = false };
       };
     })
     ∷ attached (pos 1) 3 (Some ((97 ∷ []) ∷ [] ∷ []))
@@ -112,6 +114,7 @@ FactsInOne =
         removed = record { rows = 1; cols = 0 };
         put = record { rows = 0; cols = 0 };
         rows = true;
+        part = record { change = 1; part = 0; back = true };
       };
     })
     ∷ []

@@ -2,6 +2,7 @@
 ghost use Rattle.std.specs.Prelude.{◌≡◌, [], ◌∷◌, ◌+◌, ◌<◌, ◌^◌, false, length, map, option_map, None, IfOk, IfSome, OnOk};
 ghost use Rattle.nv_value.specs.View.{content};
 ghost use Rattle.nv_msgpack.specs.Shortest.{HasSpelling};
+ghost use Rattle.nv_rpc.specs.Outcomes.{call_result_content, outcome_content};
 ghost use Rattle.nv_args.specs.Refusals.{CanBeTold};
 ghost use Rattle.nv_model.specs.Answering.{array_of};
 ghost use Rattle.nv_dispatch.specs.Calls.{stop_value};
@@ -10,7 +11,8 @@ ghost use Rattle.nv_dispatch.specs.inside.Batches.{CanBeListed, TakesResult, sto
 
 use crate::done::Done;
 use nv_args::Fail;
-use nv_value::{ApiFault, Items, Value};
+use nv_rpc::{AtomicResults, CallResult, Outcome};
+use nv_value::{ApiFault, Value};
 use std::alloc::{AllocError, Global};
 
 /// Where calls stopped: the number of the call, from 0, and its fault.
@@ -24,7 +26,7 @@ pub struct Stop {
 /// and whether one may have changed what is seen.
 #[derive(Drop)]
 pub struct Results {
-    pub values: Items,
+    pub values: Vec<CallResult>,
     pub stopped: Option<Stop>,
     pub is_seen: bool,
 }
@@ -72,7 +74,7 @@ impl Results {
     {
         match given {
             Ok(done) => {
-                let value = done.result.into_value(*self.values.allocator())?;
+                let value = done.result.into_result(*self.values.allocator())?;
                 self.values.push(value)?;
                 self.is_seen = self.is_seen || done.is_seen;
                 Ok(self)
@@ -86,15 +88,19 @@ impl Results {
         }
     }
 
-    /// The results and the fault as the one value that the calls give.
-    pub fn into_value(self, alloc: Global) -> Result<Value, AllocError>
+    /// The results and the fault as what the calls give together.
+    pub fn into_outcome(self, alloc: Global) -> Result<Outcome, AllocError>
         requires { CanBeListed self }
-        ensures value { IfOk result (λ value. content value
-            ≡ array_of (array_of (map content self.values.items)
+        ensures outcome { IfOk result (λ outcome. outcome_content outcome
+            ≡ array_of (array_of (map call_result_content self.values.items)
             ∷ stop_value (option_map stop_of self.stopped) ∷ [])) }
-        ensures spelled { IfOk result (λ value. HasSpelling (content value)) }
+        ensures spelled { IfOk result (λ outcome. HasSpelling (outcome_content outcome)) }
     {
-        let stopped = stop_value(alloc, self.stopped)?;
-        Ok(Value::List(vec![in alloc; Value::List(self.values), stopped]?))
+        let stop = stop_value(alloc, self.stopped)?;
+        let results = AtomicResults {
+            results: self.values,
+            stop,
+        };
+        Ok(Outcome::Atomic(Box::new(alloc, results)?))
     }
 }

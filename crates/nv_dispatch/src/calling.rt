@@ -5,7 +5,7 @@ ghost use Rattle.nv_value.specs.View.{content, contents};
 ghost use Rattle.nv_msgpack.specs.Shortest.{HasSpelling};
 ghost use Rattle.nv_args.specs.Args.{typed_arguments};
 ghost use Rattle.nv_args.specs.Reading.{read};
-ghost use Rattle.nv_args.specs.declared.methods.Method.TheVariants.{BufGetExtmarks, CallAtomic};
+ghost use Rattle.nv_args.specs.declared.methods.Method.TheVariants.{BufGetExtmarks, BufGetLines, BufGetText, CallAtomic};
 ghost use Rattle.nv_args.specs.Methods.{method_name, signature_of};
 ghost use Rattle.nv_args.specs.Refusals.{CanBeTold, RefusedKeeps};
 ghost use Rattle.nv_args.specs.Table.{method_named};
@@ -28,10 +28,11 @@ ghost use Rattle.nv_dispatch.specs.inside.Weights.{list_weight};
 use crate::batch::Results;
 use crate::done::Done;
 use crate::table::{has_row, is_seen};
+use nv_api_buf::{nvim_buf_get_lines, nvim_buf_get_text};
 use nv_api_mark::nvim_buf_get_extmarks;
 use nv_args::{Args, Fail, Method, NamedCall, call_in, method_of, read, unknown_method};
 use nv_editor::{Editor, Happened};
-use nv_rpc::Outcome;
+use nv_rpc::{CallResult, Outcome};
 use nv_value::Value;
 use std::alloc::AllocError;
 
@@ -121,7 +122,7 @@ fn call_row(
 {
     match row_of(editor, session, method, args, happened) {
         Some(Ok(value)) => Ok(Done {
-            result: Outcome::Value(value),
+            result: Outcome::One(CallResult::Value(value)),
             is_seen: is_seen(method),
         }),
         Some(Err(fail)) => Err(fail),
@@ -146,6 +147,40 @@ fn list_marks(editor: &Editor, args: &Args) -> Result<Done, Fail>
     }
 }
 
+// Reads lines of a buffer. The result shares the tables of the text.
+fn read_lines(editor: &Editor, args: &Args) -> Result<Done, Fail>
+    ensures outcome { (session : ℕ) (told : List Fact) → GivesOutcome
+        (λ m. outcome_of_row m session (signature_of BufGetLines).is_seen
+        (method_name BufGetLines) (row_named (method_name BufGetLines))
+        (typed_arguments args.now)) result editor.now editor.now told told }
+    ensures sendable { CanBeSent result }
+{
+    match nvim_buf_get_lines(editor, args) {
+        Ok(lines) => Ok(Done {
+            result: Outcome::One(CallResult::Lines(lines)),
+            is_seen: false,
+        }),
+        Err(fail) => Err(fail),
+    }
+}
+
+// The same of the text between two places.
+fn read_text(editor: &Editor, args: &Args) -> Result<Done, Fail>
+    ensures outcome { (session : ℕ) (told : List Fact) → GivesOutcome
+        (λ m. outcome_of_row m session (signature_of BufGetText).is_seen
+        (method_name BufGetText) (row_named (method_name BufGetText))
+        (typed_arguments args.now)) result editor.now editor.now told told }
+    ensures sendable { CanBeSent result }
+{
+    match nvim_buf_get_text(editor, args) {
+        Ok(lines) => Ok(Done {
+            result: Outcome::One(CallResult::Lines(lines)),
+            is_seen: false,
+        }),
+        Err(fail) => Err(fail),
+    }
+}
+
 // Calls a method whose arguments were read.
 fn call_method(
     editor: &mut Editor,
@@ -164,6 +199,8 @@ fn call_method(
 {
     match method {
         Method::BufGetExtmarks => list_marks(editor, args),
+        Method::BufGetLines => read_lines(editor, args),
+        Method::BufGetText => read_text(editor, args),
         _ => call_row(editor, session, method, args, happened),
     }
 }
@@ -277,11 +314,8 @@ fn call_read(
 {
     let made = call_each(editor, session, args.values(0), happened)?;
     let is_seen = made.is_seen;
-    let value = made.into_value(editor.alloc())?;
-    Ok(Done {
-        result: Outcome::Value(value),
-        is_seen,
-    })
+    let result = made.into_outcome(editor.alloc())?;
+    Ok(Done { result, is_seen })
 }
 
 // A call of any method, which leaves the open changes open.

@@ -1,26 +1,22 @@
 -- An edit of a buffer, with the windows that show it.
-use Rattle.std.proofs.Common.{◌≡◌, ◌≢◌, ℕ, ℤ, ◌+◌, ◌-◌, ◌<◌, ◌≤◌, Bool, true, false, cond, List, [], ◌∷◌, length, map, min, All, Option, Some, None, refl, sym, ap, subst, ◌∙◌, arith}
+use Rattle.std.proofs.Common.{◌≡◌, ◌≢◌, ℕ, ℤ, ◌+◌, ◌-◌, ◌<◌, ◌≤◌, Bool, true, false, cond, List, [], ◌∷◌, length, min, All, Option, Some, None, refl, sym, ap, subst, ◌∙◌, arith}
 use Rattle.std.specs.Prelude.{IfSome}
 use Rattle.std.specs.Ordering.{int_eq}
 use Rattle.std.proofs.lemmas.Bool.Decides.{nat_tests}
 use Rattle.std.proofs.lemmas.List.Elements.{All-map}
-use Rattle.std.proofs.lemmas.List.Sorted.{All-permutation}
 use Rattle.nv_places.specs.Flat.{line_at}
 use Rattle.nv_places.specs.Places.{IsPlaceIn, IsNarrow}
 use Rattle.nv_places.specs.Moves.{moved_place}
 use Rattle.nv_places.specs.declared.place.Pos.{Pos}
 use Rattle.nv_marks.specs.Marks.{Marks}
-use Rattle.nv_marks.specs.Moves.{moved_mark}
-use Rattle.nv_marks.specs.declared.extmark.Mark.{Mark}
 use Rattle.nv_marks.specs.declared.extmark.Paint.{Paint}
-use Rattle.nv_hl.specs.Groups.{NamedGroup}
+use Rattle.nv_hl.specs.Groups.{NamedGroup, HasGroup}
 use Rattle.nv_buffer.specs.Changes.{Fits, lines_after}
-use Rattle.nv_buffer.specs.Content.{Content}
-use Rattle.nv_buffer.specs.Marks.{marks_after, marks_in_order}
+use Rattle.nv_buffer.specs.Content.{Content, marks_by, kept_put_back}
+use Rattle.nv_buffer.proofs.MarkOrders.{paint_after}
 use Rattle.nv_buffer.specs.Splices.{IsBufferText, IsNarrowText}
 use Rattle.nv_buffer.specs.declared.edit.Edit.{Edit}
 use Rattle.nv_buffer.specs.declared.buffer.Spliced.{Spliced}
-use Rattle.nv_buffer.proofs.MarkOrders.{in_order_is}
 use Rattle.nv_buffer.proofs.Placing.{EndsNarrowly, ends_narrowly, place_moved, narrow_place}
 use Rattle.nv_windows.specs.Sound.{IsSoundWorkspace}
 use Rattle.nv_windows.specs.Views.{MovesNarrowlyIn, view_after, row_begin}
@@ -43,7 +39,7 @@ pub record IsEdited (b c : Content) (edit : Edit) : Type 0 where
   pub fits : Fits b.text edit
   pub before : IsBufferText b.text
   pub text : c.text ≡ lines_after b.text edit
-  pub marks : c.marks ≡ marks_after b.marks edit
+  pub marks : c.marks ≡ marks_by b edit
 
 pub made_is_edited : (b c : Content) (s : Splice) (event : Spliced) → IsMade b c s event → IsEdited b c event.edit
 made_is_edited b c s event made =
@@ -141,16 +137,9 @@ keeps_handle : (t : Bool) (v w : Window) → v.handle ≡ w.handle → (cond t v
 keeps_handle true v w e = e
 keeps_handle false v w e = refl
 
--- a mark keeps its group
-mark_paint : (groups : List NamedGroup) (edit : Edit) (k : Mark) → IsOfGroups groups k → IsOfGroups groups (moved_mark edit.start edit.removed edit.put k)
-mark_paint groups edit k of = of
-
-marks_paint : (groups : List NamedGroup) (edit : Edit) (marks : Marks) → All (IsOfGroups groups) marks.marks → All (IsOfGroups groups) (marks_after marks edit).marks
-marks_paint groups edit marks all =
-    let moves : List Mark = map (moved_mark edit.start edit.removed edit.put) marks.marks in
-    All-permutation (IsOfGroups groups) moves (marks_in_order moves) (in_order_is moves).same_marks
-    (All-map (IsOfGroups groups) (moved_mark edit.start edit.removed edit.put) marks.marks
-    (all_by (IsOfGroups groups) (λ (k : Mark). IsOfGroups groups (moved_mark edit.start edit.removed edit.put k)) (mark_paint groups edit) marks.marks all))
+-- marks keep their groups
+marks_paint : (groups : List NamedGroup) (edit : Edit) (b : Content) → All (IsOfGroups groups) b.marks.marks → All (IsOfGroups groups) (marks_by b edit).marks
+marks_paint groups edit b all = paint_after (λ o. IfSome o (λ p. HasGroup groups p.group)) (kept_put_back b edit) b.marks edit all
 
 -- the editor stays sound
 pub edited_sound : (bs later : List (ℤ × Content)) (stage : Stage) (n : ℤ) (edit : Edit) → IsSoundEditor (editor_of bs stage)
@@ -168,5 +157,5 @@ edited_sound bs later stage n edit sound is edited =
     (λ (w : Window). ShowsBuffer (at_handle later (view_carried n edit lines w).buffer) (view_carried n edit lines w))
     (view_shows bs later n edit is some) stage.workspace.windows sound.shown))
     (subst (λ (k : Marks). All (IsOfGroups stage.groups) k.marks) (sym edited.marks)
-    (marks_paint stage.groups edit (content_in bs n).marks (painted_there bs later stage n sound is)))
+    (marks_paint stage.groups edit (content_in bs n) (painted_there bs later stage n sound is)))
     sound.uis

@@ -1,22 +1,18 @@
 -- An editor after an edit of one buffer stays sound.
 use Rattle.std.proofs.Common.{◌≡◌, ◌≢◌, ℕ, suc, ℤ, pos, ◌+◌, ◌-◌, ◌+ℤ◌, ◌^◌, ◌<◌, ◌≤◌, List, [], ◌∷◌, ◌++◌, length, map, fold, flat_map, min, refl, ap, sym, ◌∙◌, arith, Bool, true, false, cond, subst, Option, Some, None, All, slice_get, length-append}
 use Rattle.std.specs.Prelude.{IfSome, option_map}
-use Rattle.std.specs.Ordering.{int_eq, is_lt}
-use Rattle.std.proofs.lemmas.List.Elements.{All-nil, All-cons, All-head, All-tail, All-map}
+use Rattle.std.specs.Ordering.{int_eq}
+use Rattle.std.proofs.lemmas.List.Elements.{All-map}
 use Rattle.nv_places.specs.Flat.{IsLine, line_at}
 use Rattle.nv_places.specs.Places.{IsPlaceIn}
 use Rattle.nv_places.specs.Moves.{moved_place}
 use Rattle.nv_places.specs.declared.place.Pos.{Pos}
-use Rattle.nv_marks.specs.Marks.{Marks}
-use Rattle.nv_marks.specs.Moves.{moved_mark}
-use Rattle.nv_marks.specs.Order.{mark_order}
-use Rattle.nv_marks.specs.declared.extmark.Mark.{Mark}
-use Rattle.nv_hl.specs.Groups.{NamedGroup}
+use Rattle.nv_hl.specs.Groups.{NamedGroup, HasGroup}
 use Rattle.nv_undo.specs.Tree.{Undo, IsTree, numbered, change_of, tree_after_leg}
 use Rattle.nv_undo.specs.declared.legs.Leg.{Leg}
-use Rattle.nv_buffer.specs.Content.{Content, after_edit, after_seal, after_seal_of}
+use Rattle.nv_buffer.specs.Content.{Content, after_edit, after_seal, after_seal_of, marks_by, kept_put_back}
 use Rattle.nv_buffer.specs.Changes.{Fits, lines_after, text_at}
-use Rattle.nv_buffer.specs.Marks.{with_in_order, marks_in_order, marks_after}
+use Rattle.nv_buffer.proofs.MarkOrders.{paint_after}
 use Rattle.nv_buffer.specs.Splices.{IsBufferText}
 use Rattle.nv_buffer.specs.Steps.{IsBuffer, kept_count}
 use Rattle.nv_buffer.specs.declared.edit.Edit.{Edit}
@@ -28,7 +24,7 @@ use Rattle.nv_windows.proofs.SoundLaws.{views_sound}
 use Rattle.nv_model.specs.Editors.{at_handle}
 use Rattle.nv_model.specs.Stage.{Stage, view_in_line}
 use Rattle.nv_model.specs.Standing.{IsEditOf, AreEditsOf, IsChangeOf}
-use Rattle.nv_model.proofs.Splicing.{edits-push}
+use Rattle.nv_model.proofs.BytesPut.{edits-push}
 use Rattle.nv_model.proofs.Lookups.{same_int, int_eq-itself}
 use Rattle.nv_editor.specs.Sound.{IsSoundEditor, ShowsText, ShowsBuffer, IsOfGroups}
 use Rattle.nv_editor.specs.inside.Kept.{AreKeptEdits}
@@ -39,25 +35,10 @@ use Rattle.nv_editor.proofs.StageKept.{editor_of}
 use Rattle.nv_editor.proofs.Updating.{all_by, sound_updated, option_sound, kept_updated, painted_there}
 use Rattle.nv_editor.proofs.WindowsKept.{AreShown}
 
--- ---- marks
-ordered_all : (P : Mark → Type 0) (k : Mark) (ms : List Mark) → P k → All P ms → All P (with_in_order k ms)
-ordered_all P k [] here are = All-cons P k [] here (All-nil P)
-ordered_all P k (m ∷ ms) here are = by (is_lt (mark_order m k)) (ordered_all P k ms here (All-tail P m ms are))
-  where
-    by : (t : Bool) → All P (with_in_order k ms) → All P (cond t (m ∷ with_in_order k ms) (k ∷ m ∷ ms))
-    by true rest = All-cons P m (with_in_order k ms) (All-head P m ms are) rest
-    by false rest = All-cons P k (m ∷ ms) here are
-
-in_order_all : (P : Mark → Type 0) (ms : List Mark) → All P ms → All P (marks_in_order ms)
-in_order_all P [] are = All-nil P
-in_order_all P (m ∷ ms) are = ordered_all P m (marks_in_order ms) (All-head P m ms are) (in_order_all P ms (All-tail P m ms are))
-
 -- the groups of marks that an edit moves
-pub painted_after : (groups : List NamedGroup) (marks : Marks) (edit : Edit) → All (IsOfGroups groups) marks.marks
-    → All (IsOfGroups groups) (marks_after marks edit).marks
-painted_after groups marks edit are =
-    in_order_all (IsOfGroups groups) (map (moved_mark edit.start edit.removed edit.put) marks.marks)
-    (All-map (IsOfGroups groups) (moved_mark edit.start edit.removed edit.put) marks.marks are)
+pub painted_after : (groups : List NamedGroup) (b : Content) (edit : Edit) → All (IsOfGroups groups) b.marks.marks
+    → All (IsOfGroups groups) (marks_by b edit).marks
+painted_after groups b edit are = paint_after (λ o. IfSome o (λ p. HasGroup groups p.group)) (kept_put_back b edit) b.marks edit are
 
 -- ---- windows
 view_shows : (lines : List (List ℕ)) (edit : Edit) (w : Window) → 0 < length lines
@@ -136,7 +117,7 @@ edit_sound bs later stage new n edit sound is made fits put =
     refl refl
     (shown_after bs later n edit (lines_after (content_in bs n).text edit) stage.workspace.windows is (ap (λ (c : Content). c.text) made) fits.left sound.shown)
     (subst (λ (c : Content). All (IsOfGroups stage.groups) c.marks.marks) (sym made)
-    (painted_after stage.groups (content_in bs n).marks edit (painted_there bs later stage n sound is))) sound.uis in
+    (painted_after stage.groups (content_in bs n) edit (painted_there bs later stage n sound is))) sound.uis in
     subst (λ (s : Stage). IsSoundEditor (editor_of later s)) (sym put) next
 
 -- where the buffer stayed

@@ -16,7 +16,8 @@ use Rattle.nv_model.specs.Buffers.{Splice}
 use Rattle.nv_model.specs.Keeping.{IsSpliced}
 use Rattle.nv_model.specs.Standing.{AreEditsOf, IsChangeOf}
 use Rattle.nv_model.proofs.Sealing.{edits_stay}
-use Rattle.nv_model.proofs.Splicing.{edits-push, edit_is}
+use Rattle.nv_model.proofs.BytesPut.{edits-push}
+use Rattle.nv_model.proofs.Splicing.{edit_is}
 use Rattle.nv_editor.specs.inside.Kept.{AreKeptEdits}
 
 no_change : (n : ℕ) → change_of {E = List Edit} no_changes n ≡ None
@@ -36,6 +37,7 @@ splice_kept_edits b later s event sp now is =
       tick = later.tick;
       modified = later.modified;
       marks = later.marks;
+      kept = later.kept;
       unsealed = b.unsealed ++ event.edit ∷ [];
     }) = record {
       changes = is.changes;

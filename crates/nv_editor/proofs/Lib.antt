@@ -25,3 +25,4 @@ pub mod EditsMade
 pub mod Going
 pub mod Undone
 pub mod MarksDone
+pub mod Clearing

@@ -12,8 +12,9 @@ use Rattle.nv_places.proofs.FlatLemmas.{flat-append, flat-joined}
 use Rattle.nv_places.proofs.PlaceLemmas.{place-offset}
 use Rattle.nv_buffer.specs.Splices.{IsInLine, IsBufferText}
 use Rattle.nv_buffer.specs.Steps.{IsBuffer}
-use Rattle.nv_buffer.specs.Content.{Content, IsEdit, rows_event, text_event}
+use Rattle.nv_buffer.specs.Content.{Content, IsEdit, rows_event, text_event, next_part}
 use Rattle.nv_buffer.specs.declared.buffer.Spliced.{Spliced}
+use Rattle.nv_buffer.specs.declared.edit.ChangePart.{ChangePart}
 use Rattle.nv_model.specs.Buffers.{is_empty_splice, rows_splice, text_splice}
 use Rattle.nv_model.proofs.Told.{rows_are_spliced, text_is_spliced}
 use Rattle.nv_editor.specs.inside.Splicing.{IsMadeOrLeft}
@@ -47,14 +48,14 @@ starts_apart lines from to order within same =
     let zero_is : length rest ≡ 0 = ap length none in
     omega arith
 
-pub rows_empty : (text new : List (List ℕ)) (from to : ℕ) → from ≤ to → to ≤ length text → is_empty_splice (rows_splice text from to new) ≡ true
+pub rows_empty : (part : ChangePart) (text new : List (List ℕ)) (from to : ℕ) → from ≤ to → to ≤ length text → is_empty_splice (rows_splice part text from to new) ≡ true
     → (from ≡ to) × (new ≡ [])
-rows_empty text new from to order within is =
+rows_empty part text new from to order within is =
     let both = both_true (eqb (row_start text from) (row_start text to)) (eqb (length (flat new)) 0) is in
     (starts_apart text from to order within (equal (row_start text from) (row_start text to) both.0), some_flat new (equal (length (flat new)) 0 both.1))
 
-pub rows_none : (text new : List (List ℕ)) (from to : ℕ) → (from ≡ to) × (new ≡ []) → is_empty_splice (rows_splice text from to new) ≡ true
-rows_none text new from to none =
+pub rows_none : (part : ChangePart) (text new : List (List ℕ)) (from to : ℕ) → (from ≡ to) × (new ≡ []) → is_empty_splice (rows_splice part text from to new) ≡ true
+rows_none part text new from to none =
     let starts : eqb (row_start text from) (row_start text to) ≡ true = equal_test (row_start text from) (row_start text to) (ap (row_start text) none.0) in
     let bytes : eqb (length (flat new)) 0 ≡ true = equal_test (length (flat new)) 0 (ap (λ (ls : List (List ℕ)). length (flat ls)) none.1) in
     ap (λ (t : Bool). t && eqb (length (flat new)) 0) starts ∙ bytes
@@ -80,9 +81,9 @@ join_none (line ∷ lines) some is =
 pub place_in : (text : List (List ℕ)) (p : Pos) → IsInLine text p → IsPlaceIn text p
 place_in text p is = record { row = omega (arith, is.row); col = is.col }
 
-pub text_empty : (text new : List (List ℕ)) (start stop : Pos) → All IsLine text → IsInLine text start → IsInLine text stop → 0 < length new
-    → is_empty_splice (text_splice text start stop new) ≡ true → (start ≡ stop) × (new ≡ [] ∷ [])
-text_empty text new start stop lines start_in stop_in some is =
+pub text_empty : (part : ChangePart) (text new : List (List ℕ)) (start stop : Pos) → All IsLine text → IsInLine text start → IsInLine text stop → 0 < length new
+    → is_empty_splice (text_splice part text start stop new) ≡ true → (start ≡ stop) × (new ≡ [] ∷ [])
+text_empty part text new start stop lines start_in stop_in some is =
     let both = both_true (eqb (offset_of text start) (offset_of text stop)) (eqb (length (join_with_byte 10 new)) 0) is in
     let at_start = (place-offset text start lines (place_in text start start_in)).1 in
     let at_stop = (place-offset text stop lines (place_in text stop stop_in)).1 in (
@@ -90,8 +91,8 @@ text_empty text new start stop lines start_in stop_in some is =
       join_none new some (equal (length (join_with_byte 10 new)) 0 both.1),
     )
 
-pub text_none : (text new : List (List ℕ)) (start stop : Pos) → (start ≡ stop) × (new ≡ [] ∷ []) → is_empty_splice (text_splice text start stop new) ≡ true
-text_none text new start stop none =
+pub text_none : (part : ChangePart) (text new : List (List ℕ)) (start stop : Pos) → (start ≡ stop) × (new ≡ [] ∷ []) → is_empty_splice (text_splice part text start stop new) ≡ true
+text_none part text new start stop none =
     let offsets : eqb (offset_of text start) (offset_of text stop) ≡ true = equal_test (offset_of text start) (offset_of text stop) (ap (offset_of text) none.0) in
     let bytes : eqb (length (join_with_byte 10 new)) 0 ≡ true = equal_test (length (join_with_byte 10 new)) 0 (ap (λ (ls : List (List ℕ)). length (join_with_byte 10 ls)) none.1) in
     ap (λ (t : Bool). t && eqb (length (join_with_byte 10 new)) 0) offsets ∙ bytes
@@ -108,11 +109,11 @@ not_both t is isnt = let both = sym is ∙ isnt in cc
 rows_made : (made : Option Spliced) (b c : Content) (from to : ℕ) (new : List (List ℕ)) → from ≤ to → to ≤ length b.text
     → IsBuffer b.text b.tick b.undo b.unsealed → IsBufferText b.text → IsBufferText c.text
     → (IsSome made ↔ ¬ ((from ≡ to) × (new ≡ []))) → (made ≡ None → c ≡ b) → IfSome made (λ (e : Spliced). e ≡ rows_event b from to new)
-    → IfSome made (IsEdit b c (flat new)) → IsMadeOrLeft made b c (rows_splice b.text from to new)
+    → IfSome made (IsEdit b c (flat new)) → IsMadeOrLeft made b c (rows_splice (next_part b) b.text from to new)
 rows_made None b c from to new order within buffer text later some none told edit = record {
   same = none refl;
-  none = by_test (is_empty_splice (rows_splice b.text from to new) ≡ true) (is_empty_splice (rows_splice b.text from to new)) (λ is. is)
-      (λ isnt. absurd (nothing (some.1 (λ both. not_both (is_empty_splice (rows_splice b.text from to new)) (rows_none b.text new from to both) isnt))));
+  none = by_test (is_empty_splice (rows_splice (next_part b) b.text from to new) ≡ true) (is_empty_splice (rows_splice (next_part b) b.text from to new)) (λ is. is)
+      (λ isnt. absurd (nothing (some.1 (λ both. not_both (is_empty_splice (rows_splice (next_part b) b.text from to new)) (rows_none (next_part b) b.text new from to both) isnt))));
 }
   where
     nothing : false ≡ true → ⊥
@@ -122,19 +123,19 @@ rows_made (Some event) b c from to new order within buffer text later some none 
   before = buffer;
   text = text;
   later = later;
-  some = by_test (is_empty_splice (rows_splice b.text from to new) ≡ false) (is_empty_splice (rows_splice b.text from to new))
-      (λ is. absurd (some.0 refl (rows_empty b.text new from to order within is))) (λ isnt. isnt);
+  some = by_test (is_empty_splice (rows_splice (next_part b) b.text from to new) ≡ false) (is_empty_splice (rows_splice (next_part b) b.text from to new))
+      (λ is. absurd (some.0 refl (rows_empty (next_part b) b.text new from to order within is))) (λ isnt. isnt);
 }
 
 text_made : (made : Option Spliced) (b c : Content) (start stop : Pos) (new : List (List ℕ)) → IsInLine b.text start → IsInLine b.text stop
     → is_before stop start ≡ false → 0 < length new → IsBuffer b.text b.tick b.undo b.unsealed → IsBufferText b.text → IsBufferText c.text
     → (IsSome made ↔ ¬ ((start ≡ stop) × (new ≡ [] ∷ []))) → (made ≡ None → c ≡ b)
     → IfSome made (λ (e : Spliced). e ≡ text_event b start stop new) → IfSome made (IsEdit b c (join_with_byte 10 new))
-    → IsMadeOrLeft made b c (text_splice b.text start stop new)
+    → IsMadeOrLeft made b c (text_splice (next_part b) b.text start stop new)
 text_made None b c start stop new start_in stop_in order some_line buffer text later some none told edit = record {
   same = none refl;
-  none = by_test (is_empty_splice (text_splice b.text start stop new) ≡ true) (is_empty_splice (text_splice b.text start stop new)) (λ is. is)
-      (λ isnt. absurd (nothing (some.1 (λ both. not_both (is_empty_splice (text_splice b.text start stop new)) (text_none b.text new start stop both) isnt))));
+  none = by_test (is_empty_splice (text_splice (next_part b) b.text start stop new) ≡ true) (is_empty_splice (text_splice (next_part b) b.text start stop new)) (λ is. is)
+      (λ isnt. absurd (nothing (some.1 (λ both. not_both (is_empty_splice (text_splice (next_part b) b.text start stop new)) (text_none (next_part b) b.text new start stop both) isnt))));
 }
   where
     nothing : false ≡ true → ⊥
@@ -144,8 +145,8 @@ text_made (Some event) b c start stop new start_in stop_in order some_line buffe
   before = buffer;
   text = text;
   later = later;
-  some = by_test (is_empty_splice (text_splice b.text start stop new) ≡ false) (is_empty_splice (text_splice b.text start stop new))
-      (λ is. absurd (some.0 refl (text_empty b.text new start stop text.lines start_in stop_in some_line is))) (λ isnt. isnt);
+  some = by_test (is_empty_splice (text_splice (next_part b) b.text start stop new) ≡ false) (is_empty_splice (text_splice (next_part b) b.text start stop new))
+      (λ is. absurd (some.0 refl (text_empty (next_part b) b.text new start stop text.lines start_in stop_in some_line is))) (λ isnt. isnt);
 }
 
 -- and where memory may be wanting
@@ -153,7 +154,7 @@ pub rows_made_ok : {E : Type 0} (r : Result (Option Spliced) E) (b c : Content) 
     → IsBuffer b.text b.tick b.undo b.unsealed → IsBufferText b.text → IsBufferText c.text
     → IfOk r (λ made. IsSome made ↔ ¬ ((from ≡ to) × (new ≡ []))) → IfOk r (λ made. made ≡ None → c ≡ b)
     → IfOk r (λ made. IfSome made (λ (e : Spliced). e ≡ rows_event b from to new)) → IfOk r (λ made. IfSome made (IsEdit b c (flat new)))
-    → IfOk r (λ made. IsMadeOrLeft made b c (rows_splice b.text from to new))
+    → IfOk r (λ made. IsMadeOrLeft made b c (rows_splice (next_part b) b.text from to new))
 rows_made_ok (Ok made) b c from to new order within buffer text later some none told edit =
     rows_made made b c from to new order within buffer text later some none told edit
 rows_made_ok (Err e) b c from to new order within buffer text later some none told edit = tt
@@ -162,7 +163,7 @@ pub text_made_ok : {E : Type 0} (r : Result (Option Spliced) E) (b c : Content) 
     → is_before stop start ≡ false → 0 < length new → IsBuffer b.text b.tick b.undo b.unsealed → IsBufferText b.text → IsBufferText c.text
     → IfOk r (λ made. IsSome made ↔ ¬ ((start ≡ stop) × (new ≡ [] ∷ []))) → IfOk r (λ made. made ≡ None → c ≡ b)
     → IfOk r (λ made. IfSome made (λ (e : Spliced). e ≡ text_event b start stop new)) → IfOk r (λ made. IfSome made (IsEdit b c (join_with_byte 10 new)))
-    → IfOk r (λ made. IsMadeOrLeft made b c (text_splice b.text start stop new))
+    → IfOk r (λ made. IsMadeOrLeft made b c (text_splice (next_part b) b.text start stop new))
 text_made_ok (Ok made) b c start stop new start_in stop_in order some_line buffer text later some none told edit =
     text_made made b c start stop new start_in stop_in order some_line buffer text later some none told edit
 text_made_ok (Err e) b c start stop new start_in stop_in order some_line buffer text later some none told edit = tt

@@ -6,8 +6,8 @@ ghost use Rattle.nv_marks.specs.Marks.{mark_at};
 ghost use Rattle.nv_undo.specs.Tree.{IsTree, tree_after_leg};
 ghost use Rattle.nv_undo.specs.Ways.{IsNext};
 ghost use Rattle.nv_buffer.specs.Changes.{Fits, text_at};
-ghost use Rattle.nv_buffer.specs.Content.{after_edit, after_seal, event_at, fresh_content};
-ghost use Rattle.nv_buffer.specs.Marks.{IsMarkIn, IsMarked, IsUnmarked};
+ghost use Rattle.nv_buffer.specs.Content.{after_edit, after_seal, event_at, fresh_content, next_part};
+ghost use Rattle.nv_buffer.specs.Marks.{IsMarkIn, IsMarked, IsUnmarked, marks_cleared};
 ghost use Rattle.nv_buffer.specs.Splices.{IsBufferText, IsInLine, IsNarrowLine, lines_between};
 ghost use Rattle.nv_buffer.specs.Steps.{IsBuffer};
 ghost use Rattle.nv_model.specs.Buffers.{rows_splice, text_splice};
@@ -274,7 +274,8 @@ impl Buffers {
         ensures updated { IsUpdatedAt handle self.old self.new }
         ensures made { IfOk result (λ made. IsMadeOrLeft made (content_in self.old handle)
             (content_in self.new handle)
-            (rows_splice (content_in self.old handle).text from to new)) }
+            (rows_splice (next_part (content_in self.old handle))
+            (content_in self.old handle).text from to new)) }
         ensures err { OnErr result
             (content_in self.new handle ≡ content_in self.old handle) }
     {
@@ -309,7 +310,8 @@ impl Buffers {
         ensures updated { IsUpdatedAt handle self.old self.new }
         ensures made { IfOk result (λ made. IsMadeOrLeft made (content_in self.old handle)
             (content_in self.new handle)
-            (text_splice (content_in self.old handle).text start stop new)) }
+            (text_splice (next_part (content_in self.old handle))
+            (content_in self.old handle).text start stop new)) }
         ensures err { OnErr result
             (content_in self.new handle ≡ content_in self.old handle) }
     {
@@ -370,10 +372,13 @@ impl Buffers {
         ensures sealed { OnOk result ((content_in self.new handle).unsealed ≡ []) }
         ensures err { OnErr result
             (content_in self.new handle ≡ content_in self.old handle) }
+        ensures known { let b = content_in self.old handle in
+            IsBuffer b.text b.tick b.undo b.unsealed }
     {
         let Some(buffer) = self.items.get_mut(&handle) else {
             unreachable!();
         };
+        buffer.known();
         buffer.seal()
     }
 
@@ -411,6 +416,28 @@ impl Buffers {
             unreachable!();
         };
         buffer.remove_mark(ns, id)
+    }
+
+    /// Removes marks of a buffer that is there, as `Buffer::clear_marks`.
+    pub fn clear_marks(
+        &mut self,
+        handle: i64,
+        ns: Option<u32>,
+        from: Pos,
+        to: Pos,
+    ) -> Result<(), AllocError>
+        requires there { is_some (at_handle self.old handle) ≡ true }
+        ensures updated { IsUpdatedAt handle self.old self.new }
+        ensures ok { OnOk result (content_in self.new handle ≡ record (content_in self.old handle) {
+          marks = marks_cleared ns from to (content_in self.old handle).marks;
+        }) }
+        ensures err { OnErr result
+            (content_in self.new handle ≡ content_in self.old handle) }
+    {
+        let Some(buffer) = self.items.get_mut(&handle) else {
+            unreachable!();
+        };
+        buffer.clear_marks(ns, from, to)
     }
 
     /// What is known of a buffer that is there. It does nothing.

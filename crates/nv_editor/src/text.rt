@@ -2,6 +2,7 @@
 ghost use Rattle.std.specs.Prelude.{◌≡◌, ◌+◌, ◌^◌, ◌<◌, ◌≤◌, ◌<ℤ◌, ◌++◌, true, false, [], ◌∷◌, length, All, OnOk, is_some};
 ghost use Rattle.nv_value.specs.Content.{nil};
 ghost use Rattle.nv_places.specs.Places.{IsNarrow, further, is_before};
+ghost use Rattle.nv_buffer.specs.Content.{next_part};
 ghost use Rattle.nv_buffer.specs.Splices.{IsInLine, IsNarrowLine, lines_between};
 ghost use Rattle.nv_windows.specs.Views.{MovesNarrowlyIn};
 ghost use Rattle.nv_model.specs.Answers.{edited};
@@ -68,7 +69,8 @@ impl Editor {
             → (content_at self.old buffer).tick <ℤ i64.MAX }
         ensures { let b = content_at self.old buffer in
             OnOk result (Replies
-            (splice_answer buffer (seen_buffer_now b) (rows_splice b.text from to new))
+            (splice_answer buffer (seen_buffer_now b)
+            (rows_splice (next_part b) b.text from to new))
             nil self.old self.new happened.old happened.new) }
     {
         self.edited.push(buffer)?;
@@ -104,7 +106,8 @@ impl Editor {
             → (content_at self.old buffer).tick <ℤ i64.MAX }
         ensures { let b = content_at self.old buffer in
             OnOk result (Replies
-            (splice_answer buffer (seen_buffer_now b) (text_splice b.text start stop new))
+            (splice_answer buffer (seen_buffer_now b)
+            (text_splice (next_part b) b.text start stop new))
             nil self.old self.new happened.old happened.new) }
     {
         self.edited.push(buffer)?;

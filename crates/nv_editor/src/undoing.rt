@@ -108,11 +108,13 @@ impl Editor {
         requires fits { Fits (content_at self.old buffer).text edit }
         requires edit { IsEditOf (content_at self.old buffer).text edit }
         requires tick { (content_at self.old buffer).tick <ℤ i64.MAX }
+        requires known { let b = content_at self.old buffer in
+            IsBuffer b.text b.tick b.undo b.unsealed }
+        requires text { IsBufferText (content_at self.old buffer).text }
         ensures made { OnOk result (IsEditMade buffer edit self.old self.new) }
         ensures told { OnOk result (happened.new ≡ happened.old
             ++ edited buffer (event_at ((content_at self.old buffer).tick +ℤ pos 1) edit) ∷ []) }
     {
-        self.known_buffer(buffer);
         let spliced = make_edit(
             &mut self.buffers,
             &mut self.stage,
@@ -129,8 +131,9 @@ impl Editor {
         requires { is_live_buffer self.old buffer ≡ true }
         ensures sealed { OnOk result (IsSealedIn buffer self.old self.new) }
         ensures closed { OnOk result ((content_at self.new buffer).unsealed ≡ []) }
+        ensures known { let b = content_at self.old buffer in
+            IsBuffer b.text b.tick b.undo b.unsealed }
     {
-        self.known_buffer(buffer);
         self.buffers.seal(buffer)?;
         Ok(())
     }
@@ -150,10 +153,16 @@ impl Editor {
     // How many edits a leg of a live buffer has.
     fn leg_len(&self, buffer: i64, leg: Leg) -> usize
         requires { is_live_buffer self.now buffer ≡ true }
-        ensures { result ≡ length (leg_edits (content_at self.now buffer).undo leg) }
+        ensures len { result ≡ length (leg_edits (content_at self.now buffer).undo leg) }
+        ensures known { let b = content_at self.now buffer in
+            IsBuffer b.text b.tick b.undo b.unsealed }
+        ensures edits { AreKeptEdits (content_at self.now buffer) }
     {
         match self.buffers.get(buffer) {
-            Some(content) => content.leg_len(leg),
+            Some(content) => {
+                content.known();
+                content.leg_len(leg)
+            }
             None => unreachable!(),
         }
     }
@@ -163,11 +172,17 @@ impl Editor {
         requires live { is_live_buffer self.now buffer ≡ true }
         requires place { place < length (leg_edits (content_at self.now buffer).undo leg) }
         requires text { IsAlong (content_at self.now buffer) leg place }
-        ensures { IfOk result (λ edit.
+        ensures edit { IfOk result (λ edit.
             slice_get (leg_edits (content_at self.now buffer).undo leg) place ≡ Some edit) }
+        ensures known { let b = content_at self.now buffer in
+            IsBuffer b.text b.tick b.undo b.unsealed }
+        ensures text { IsBufferText (content_at self.now buffer).text }
     {
         match self.buffers.get(buffer) {
-            Some(content) => content.leg_edit(leg, place),
+            Some(content) => {
+                content.known();
+                content.leg_edit(leg, place)
+            }
             None => unreachable!(),
         }
     }
@@ -184,7 +199,6 @@ impl Editor {
             OnOk result (happened.new ≡ happened.old
             ++ map (edited buffer) (events_from b.tick (leg_edits b.undo leg))) }
     {
-        self.known_buffer(buffer);
         for place in 0..self.leg_len(buffer, leg) {
             let edit = self.leg_edit(buffer, leg, place)?;
             self.make_edit(buffer, edit, happened)?;
@@ -201,12 +215,14 @@ impl Editor {
             (to : ℕ) × Leads b.undo b.undo.current legs.now to }
         requires tick { let b = content_at self.old buffer in
             (b.tick +ℤ pos (length (flat_map (leg_edits b.undo) legs.now))) ≤ℤ i64.MAX }
+        requires known { let b = content_at self.old buffer in
+            IsBuffer b.text b.tick b.undo b.unsealed }
+        requires edits { AreKeptEdits (content_at self.old buffer) }
         ensures gone { OnOk result (IsWayMade buffer legs.now self.old self.new) }
         ensures told { let b = content_at self.old buffer in
             OnOk result (happened.new ≡ happened.old
             ++ map (edited buffer) (events_from b.tick (flat_map (leg_edits b.undo) legs.now))) }
     {
-        self.known_buffer(buffer);
         for leg in legs {
             self.go(buffer, *leg, happened)?;
         }
@@ -290,20 +306,30 @@ impl Editor {
     // How many splices undo, redo, and undo to a number would make.
     fn splices_back(&self, buffer: i64) -> u64
         requires { is_live_buffer self.now buffer ≡ true }
-        ensures { result ≡ length (undo_edits (content_at self.now buffer)) }
+        ensures count { result ≡ length (undo_edits (content_at self.now buffer)) }
+        ensures known { let b = content_at self.now buffer in
+            IsBuffer b.text b.tick b.undo b.unsealed }
     {
         match self.buffers.get(buffer) {
-            Some(content) => content.cost_back(),
+            Some(content) => {
+                content.known();
+                content.cost_back()
+            }
             None => unreachable!(),
         }
     }
 
     fn splices_ahead(&self, buffer: i64) -> u64
         requires { is_live_buffer self.now buffer ≡ true }
-        ensures { result ≡ length (redo_edits (content_at self.now buffer)) }
+        ensures count { result ≡ length (redo_edits (content_at self.now buffer)) }
+        ensures known { let b = content_at self.now buffer in
+            IsBuffer b.text b.tick b.undo b.unsealed }
     {
         match self.buffers.get(buffer) {
-            Some(content) => content.cost_ahead(),
+            Some(content) => {
+                content.known();
+                content.cost_ahead()
+            }
             None => unreachable!(),
         }
     }
@@ -335,7 +361,6 @@ impl Editor {
         ensures { let s = seen_buffer_now (content_at self.now buffer) in
             result ≡ length (undo_splices s (undo_legs (sealed_undo s))) }
     {
-        self.known_buffer(buffer);
         self.splices_back(buffer)
     }
 
@@ -345,7 +370,6 @@ impl Editor {
         ensures { let s = seen_buffer_now (content_at self.now buffer) in
             result ≡ length (undo_splices s (redo_legs (sealed_undo s))) }
     {
-        self.known_buffer(buffer);
         self.splices_ahead(buffer)
     }
 
@@ -373,7 +397,6 @@ impl Editor {
             (replied nil (undo_operations buffer s legs) (edits buffer s (undo_splices s legs)))
             nil self.old self.new happened.old happened.new) }
     {
-        self.known_buffer(buffer);
         self.seal_buffer(buffer)?;
         match self.undone(buffer) {
             0 => {
@@ -399,7 +422,6 @@ impl Editor {
             (replied nil (undo_operations buffer s legs) (edits buffer s (undo_splices s legs)))
             nil self.old self.new happened.old happened.new) }
     {
-        self.known_buffer(buffer);
         self.seal_buffer(buffer)?;
         match self.child(buffer) {
             None => {
@@ -432,7 +454,6 @@ impl Editor {
             (replied nil (undo_operations buffer s legs) (edits buffer s (undo_splices s legs)))
             nil self.old self.new happened.old happened.new) }
     {
-        self.known_buffer(buffer);
         self.seal_buffer(buffer)?;
         let legs = self.legs_to(buffer, number)?;
         self.go_way(buffer, legs.as_slice(), happened)?;

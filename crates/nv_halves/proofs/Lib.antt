@@ -12,3 +12,4 @@ pub mod WritingOn
 pub mod Intaking
 pub mod Closings
 pub mod AskedOrder
+pub mod Sendings

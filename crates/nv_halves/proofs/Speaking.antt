@@ -1,22 +1,15 @@
 -- What a voice speaks of a batch, in the words of what a session is sent.
-use Rattle.std.proofs.Common.{◌≡◌, ℕ, List, ◌++◌, Option, Some, None, Result, Ok, Err, refl, ap₂}
+use Rattle.std.proofs.Common.{◌≡◌, ℕ, List, ◌++◌, Option, Some, None, Result, Ok, Err, refl}
 use Rattle.std.specs.Prelude.{OnOk}
-use Rattle.nv_rpc.specs.Messages.{Sent}
 use Rattle.nv_screen.specs.declared.scene.Scene.{Scene}
 use Rattle.nv_linegrid.specs.Told.{Told}
 use Rattle.nv_painter.specs.Painters.{Painting}
 use Rattle.nv_painter.specs.Spoken.{spoken_scene, painting_after}
-use Rattle.nv_history.specs.Spoken.{bytes_of_messages, bytes_of_scene, told_with}
-use Rattle.nv_halves.specs.inside.Taking.{bytes_of_taken}
+use Rattle.nv_history.specs.Spoken.{bytes_of_scene, told_with}
 
-scene_plain : (told : Told) (scene : Option Scene) → spoken_scene told scene ≡ bytes_of_scene told scene
+pub scene_plain : (told : Told) (scene : Option Scene) → spoken_scene told scene ≡ bytes_of_scene told scene
 scene_plain told None = refl
 scene_plain told (Some scene) = refl
-
--- the bytes of a scene behind those of messages
-pub scene_behind : (bytes : List ℕ) (sent : List Sent) (told : Told) (scene : Option Scene)
-    → bytes ≡ bytes_of_messages sent → bytes ++ spoken_scene told scene ≡ bytes_of_taken told sent scene
-scene_behind bytes sent told scene e = ap₂ (λ (a b : List ℕ). a ++ b) e (scene_plain told scene)
 
 -- what the client was told then
 pub told_alike : (p : Painting) (scene : Option Scene) → (painting_after p scene).told ≡ told_with p.told scene

@@ -19,7 +19,7 @@ use Rattle.nv_model.specs.Stage.{Stage}
 use Rattle.nv_model.specs.Seen.{Seen, SeenBuffer, sealed_undo}
 use Rattle.nv_model.specs.Operations.{Operation, name_put, modifiable_put, modified_put, listed_put, tabstop_put, shown, namespace_made, group_made, group_put, mark_set, mark_removed, cursor_put, wish_put, spliced, spliced_back, stepped, buffer_made, buffer_dropped}
 use Rattle.nv_model.specs.Answers.{Answer, refused, replied, unless, or_refused, on_buffer, on_window, on_tabpage, Fact, leg_operations, undo_operations}
-use Rattle.nv_model.specs.Answering.{fault_or, reply_of, splice_answer}
+use Rattle.nv_model.specs.Answering.{fault_or, reply_of, splice_answer, removal_operations}
 use Rattle.nv_model.specs.Rows.{Row}
 use Rattle.nv_model.proofs.AnswersTell.{chosen, keeps_unless, keeps_or_refused, keeps_barred}
 use Rattle.nv_api_buf.specs.TextRows.{nvim_buf_line_count, nvim_buf_get_changedtick, nvim_buf_get_offset, nvim_buf_get_lines, nvim_buf_get_text, nvim_buf_set_lines, nvim_buf_set_text}
@@ -29,7 +29,7 @@ use Rattle.nv_api_buf.specs.Metadata.{nvim_get_api_info, nvim_set_client_info}
 use Rattle.nv_api_mark.specs.Namespaces.{namespace_answer, nvim_create_namespace, nvim_get_namespaces}
 use Rattle.nv_api_mark.specs.Groups.{group_operations, groups_with}
 use Rattle.nv_api_mark.specs.MarkRows.{wanted_group_operations, removal_answer, nvim_buf_set_extmark, nvim_buf_del_extmark, nvim_buf_get_extmark_by_id}
-use Rattle.nv_api_mark.specs.Listing.{removal_operations, nvim_buf_get_extmarks, nvim_buf_clear_namespace}
+use Rattle.nv_api_mark.specs.Listing.{nvim_buf_get_extmarks, nvim_buf_clear_namespace}
 use Rattle.nv_api_mark.specs.GroupRows.{link_operations, groups_operations as all_made, nvim_set_hl, nvim_get_hl, nvim_get_hl_id_by_name}
 use Rattle.nv_api_win.specs.WindowRows.{nvim_list_wins, nvim_get_current_win, nvim_win_is_valid, nvim_win_get_buf, nvim_win_set_buf, nvim_win_get_cursor, nvim_win_set_cursor, nvim_win_get_height, nvim_win_get_width, nvim_win_set_height, nvim_win_set_width, nvim_win_get_position, nvim_win_get_tabpage}
 use Rattle.nv_api_win.specs.TabpageRows.{nvim_list_tabpages, nvim_get_current_tabpage, nvim_tabpage_is_valid, nvim_tabpage_list_wins, nvim_tabpage_get_win, nvim_tabpage_get_number}

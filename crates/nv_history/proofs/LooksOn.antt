@@ -21,7 +21,7 @@ use Rattle.nv_screen.specs.declared.scene.Pane.{Pane}
 use Rattle.nv_screen.specs.declared.scene.Scene.{Scene}
 use Rattle.nv_screen.specs.declared.scene.SceneLine.{SceneLine}
 use Rattle.nv_places.specs.declared.place.Pos.{Pos}
-use Rattle.nv_model.specs.Buffers.{ModelBuffer, text_of, marks_of, with_seal, fresh_buffer}
+use Rattle.nv_model.specs.Buffers.{ModelBuffer, text_of, marks_of, part_next, with_seal, fresh_buffer}
 use Rattle.nv_model.specs.Editors.{ModelEditor, at_handle}
 use Rattle.nv_model.specs.Operations.{sealed_in, buffer_made, namespace_made, group_made, ui_put, top_put, after_operation}
 use Rattle.nv_model.specs.Seen.{SeenBuffer, seen_buffer, seen_of}
@@ -164,11 +164,15 @@ looks_ui_put m ui old stands is wide high =
     }
 
 -- ---- buffers as they are seen
-seen_part : (b d : ModelBuffer) → seen_buffer (record b { undo = d.undo; unsealed = d.unsealed }) ≡ record (seen_buffer b) { undo = d.undo; unsealed = d.unsealed }
+-- what is seen of a buffer, with the changes of another one
+abbrev with_changes : SeenBuffer → ModelBuffer → SeenBuffer
+with_changes b d = record b { undo = d.undo; unsealed = d.unsealed; next = part_next d }
+
+seen_part : (b d : ModelBuffer) → seen_buffer (record b { undo = d.undo; unsealed = d.unsealed }) ≡ with_changes (seen_buffer b) d
 unfolding text_of marks_of
 seen_part b d = refl
 
-same_seen : (b d : ModelBuffer) → d ≡ record b { undo = d.undo; unsealed = d.unsealed } → seen_buffer d ≡ record (seen_buffer b) { undo = d.undo; unsealed = d.unsealed }
+same_seen : (b d : ModelBuffer) → d ≡ record b { undo = d.undo; unsealed = d.unsealed } → seen_buffer d ≡ with_changes (seen_buffer b) d
 same_seen b d e = ap seen_buffer e ∙ seen_part b d
 
 -- ---- spans, lines and panes
@@ -208,7 +212,7 @@ module _ (m later : ModelEditor) (looks : LooksOn m later) where
   )
 
   lines_in : (b : SeenBuffer) (d : ModelBuffer) (row : ℕ) (lines : List SceneLine) → AreLinesOf later.stage.groups b row lines
-      → AreLinesOf later.stage.groups (record b { undo = d.undo; unsealed = d.unsealed }) row lines
+      → AreLinesOf later.stage.groups (with_changes b d) row lines
   lines_in b d row [] are = tt
   lines_in b d row (line ∷ lines) are = (
     record { row_is = are.0.row_is; bytes_are = are.0.bytes_are; spans_are = are.0.spans_are },
@@ -216,7 +220,7 @@ module _ (m later : ModelEditor) (looks : LooksOn m later) where
   )
 
   pane_on : (w : Window) (b : SeenBuffer) (d : ModelBuffer) (rect : Rect) (p : Pane) → IsPaneOf (seen_of m) w b rect p
-      → IsPaneOf (seen_of later) w (record b { undo = d.undo; unsealed = d.unsealed }) rect p
+      → IsPaneOf (seen_of later) w (with_changes b d) rect p
   pane_on w b d rect p is = record {
     window = is.window;
     buffer = is.buffer;
@@ -288,7 +292,7 @@ module _ (m later : ModelEditor) (looks : LooksOn m later) where
       }
 
   -- ---- settled windows
-  top_part : (w : Window) (area : Option Rect) (b : SeenBuffer) (d : ModelBuffer) → top_by w area (Some (record b { undo = d.undo; unsealed = d.unsealed })) ≡ top_by w area (Some b)
+  top_part : (w : Window) (area : Option Rect) (b : SeenBuffer) (d : ModelBuffer) → top_by w area (Some (with_changes b d)) ≡ top_by w area (Some b)
   top_part w None b d = refl
   top_part w (Some area) b d = refl
 

@@ -1,4 +1,4 @@
--- After each entry of a history the marks stand where the splices moved them.
+-- After each entry of a history the marks stand where the splices left them.
 use Rattle.std.proofs.Common.{◌≡◌, ◌⊎◌, inl, inr, ℕ, ℤ, pos, ◌≤◌, List, [], ◌∷◌, ◌++◌, length, refl, ap, sym, ◌∙◌, subst, Bool, true, false, cond, Option, Some, None}
 use Rattle.std.specs.Prelude.{option_and_then, ◌||◌}
 use Rattle.std.specs.List.{list_any}

@@ -9,13 +9,13 @@ use Rattle.std.proofs.lemmas.List.Kept.{AllPairs-filter}
 use Rattle.std.proofs.lemmas.Map.Keys.{IsDistinct-cons, IsDistinct-from_apart, IsDistinct-IsPermutation, apart_from_distinct}
 use Rattle.nv_marks.specs.Sound.{same_name}
 use Rattle.nv_marks.proofs.NameLemmas.{same_name-flips}
-use Rattle.nv_model.specs.Buffers.{SetMark, ModelBuffer, mark_of, marks_of, is_set, without_set, with_mark, without_mark, with_seal, with_splice, with_splice_back, fresh_buffer}
+use Rattle.nv_model.specs.Buffers.{SetMark, ModelBuffer, mark_of, marks_there, marks_of, is_set, without_set, with_mark, without_mark, with_seal, with_splice, with_splice_back, fresh_buffer}
 use Rattle.nv_model.specs.Editors.{ModelEditor, at_handle, updated_at}
 use Rattle.nv_model.specs.Operations.{Operation, spliced, spliced_back, stepped, sealed_in, mark_set, mark_removed, name_put, modifiable_put, modified_put, listed_put, tabstop_put, buffer_made, buffer_dropped, set_now, after_operation, after_operations, uis_dropped}
 use Rattle.nv_model.specs.Seen.{seen_buffer, seen_of}
 use Rattle.nv_model.specs.Standing.{same_set}
 use Rattle.nv_model.specs.declared.parts.Limits.{Limits}
-use Rattle.nv_model.proofs.MarkOrders.{marks_are_in_order, names_apart}
+use Rattle.nv_model.proofs.MarkOrders.{marks_are_in_order, there_apart}
 use Rattle.nv_undo.specs.Tree.{tree_after_leg}
 use Rattle.nv_scene.specs.Laws.{AreNamedApart}
 use Rattle.nv_scene.specs.Settling.{settle_operations}
@@ -147,7 +147,7 @@ at_apart n (e ∷ es) h = step (int_eq e.0 n) (at_apart n es h.1)
 
 marks_apart : (b : ModelBuffer) → AreApart b → IsDistinct same_name (marks_of b)
 marks_apart b is =
-    IsDistinct-IsPermutation same_name same_name-flips (map (mark_of b) b.marks) (marks_of b) (marks_are_in_order b).same_marks (names_apart b b.marks is)
+    IsDistinct-IsPermutation same_name same_name-flips (map (mark_of b) (marks_there b)) (marks_of b) (marks_are_in_order b).same_marks (there_apart b is)
 
 seen_step : (o : Option ModelBuffer) → IfSome o AreApart → IfSome (option_map seen_buffer o) (λ b. IsDistinct same_name b.marks)
 seen_step None h = tt

@@ -1,60 +1,32 @@
 -- What operations make of the marks of a buffer.
-use Rattle.std.proofs.Common.{◌≡◌, ◌⊎◌, inl, inr, ℕ, ℤ, ◌≤◌, List, [], ◌∷◌, ◌++◌, length, fold, drop, refl, ap, sym, ◌∙◌, subst, length-append, drop_of_length-le, arith, Bool, true, false, not, cond, filter, Option, Some, None}
-use Rattle.std.specs.Prelude.{option_map, ◌&&◌, IfSome}
+use Rattle.std.proofs.Common.{◌≡◌, ◌⊎◌, inl, inr, ℕ, ℤ, ◌≤◌, List, [], ◌∷◌, ◌++◌, length, fold, drop, refl, ap, sym, ◌∙◌, subst, length-append, arith, Bool, true, false, not, cond, filter, Option, Some, None}
+use Rattle.std.specs.Prelude.{map, option_map, ◌&&◌}
 use Rattle.std.specs.Option.{option_or}
 use Rattle.std.specs.Ordering.{int_eq}
-use Rattle.std.proofs.lemmas.List.{drop-append-le}
 use Rattle.std.proofs.lemmas.Option.{none-some, same_Some}
 use Rattle.nv_marks.specs.declared.extmark.Mark.{Mark}
-use Rattle.nv_model.specs.Buffers.{Splice, SetFar, SetMark, ModelBuffer, moved_by, offset_now, is_set, without_set, with_mark, without_mark, with_seal, with_splice, with_splice_back, fresh_buffer}
+use Rattle.nv_model.specs.Buffers.{Splice, SetMark, MarkState, ModelBuffer, keys_of, reach_of, state_after, state_set, state_now, state_behind, is_set, without_set, with_mark, without_mark, with_seal, with_splice, with_splice_back, fresh_buffer}
 use Rattle.nv_model.specs.Editors.{ModelEditor, at_handle, updated_at}
 use Rattle.nv_model.specs.Operations.{Operation, spliced, spliced_back, stepped, sealed_in, mark_set, mark_removed, name_put, modifiable_put, modified_put, listed_put, tabstop_put, buffer_made, buffer_dropped, set_now, after_operation, after_operations}
 use Rattle.nv_model.specs.Laws.{IsGrown, splices_in}
 use Rattle.nv_model.proofs.Lookups.{same_int, at_updated, at_append, at_dropped}
 use Rattle.nv_model.proofs.Growing.{operations_add_splices}
-use Rattle.nv_model.proofs.Telling.{fold-append}
-use Rattle.nv_history.specs.MarkPlaces.{start_offset, stop_offset, offset_moved, StandsMoved, IsMarkAmong, names_mark}
+use Rattle.nv_model.proofs.Behind.{behind_grown, behind_now}
+use Rattle.nv_history.specs.MarkPlaces.{StandsAfter, IsMarkAmong, names_mark}
 
--- ---- offsets
-pub offset_grown : (ss more : List Splice) (since : ℕ) (right : Bool) (offset : ℕ) → since ≤ length ss
-    → offset_now (ss ++ more) since right offset ≡ offset_moved more right (offset_now ss since right offset)
-unfolding offset_now
-offset_grown ss more since right offset low =
-    ap (fold (moved_by right) offset) (drop-append-le since ss more low) ∙ fold-append (moved_by right) offset (drop since ss) more
-
-pub offset_set : (ss : List Splice) (right : Bool) (offset : ℕ) → offset_now ss (length ss) right offset ≡ offset
-unfolding offset_now
-offset_set ss right offset =
-    let low : length ss ≤ length ss = omega arith in ap (fold (moved_by right) offset) (drop_of_length-le ss low)
-
+-- ---- where marks stand
 pub stands_moved : (b d : ModelBuffer) (splices : List Splice) (k : SetMark) → d.splices ≡ b.splices ++ splices → k.since ≤ length b.splices
-    → StandsMoved d splices k (start_offset b k) (stop_offset b k)
-stands_moved b d splices k grown low = record {
-  start_is = ap (λ (l : List Splice). offset_now l k.since k.right k.offset) grown ∙ offset_grown b.splices splices k.since k.right k.offset low;
-  stop_is = by_stop k.stop;
-}
-  where
-    by_stop : (stop : Option SetFar) → IfSome stop (λ far. stop_offset d k far ≡ offset_moved splices far.right (stop_offset b k far))
-    by_stop None = tt
-    by_stop (Some far) = ap (λ (l : List Splice). offset_now l k.since far.right far.offset) grown ∙ offset_grown b.splices splices k.since far.right far.offset low
+    → StandsAfter d splices k (state_now b k)
+stands_moved b d splices k grown low =
+    ap (λ (l : List Splice). state_behind k (drop k.since l)) grown ∙ behind_grown b.splices splices k low
 
 pub stands_set : (b d : ModelBuffer) (splices : List Splice) (k : SetMark) → d.splices ≡ b.splices ++ splices → k.since ≡ length b.splices
-    → StandsMoved d splices k k.offset (λ far. far.offset)
-stands_set b d splices k grown now = record {
-  start_is = moved k.right k.offset;
-  stop_is = by_stop k.stop;
-}
-  where
-    moved : (right : Bool) (offset : ℕ) → offset_now d.splices k.since right offset ≡ offset_moved splices right offset
-    moved right offset =
-        ap (λ (l : List Splice). offset_now l k.since right offset) grown
-        ∙ offset_grown b.splices splices k.since right offset (omega (arith, now))
-        ∙ ap (λ (j : ℕ). offset_moved splices right (offset_now b.splices j right offset)) now
-        ∙ ap (offset_moved splices right) (offset_set b.splices right offset)
-
-    by_stop : (stop : Option SetFar) → IfSome stop (λ far. stop_offset d k far ≡ offset_moved splices far.right far.offset)
-    by_stop None = tt
-    by_stop (Some far) = moved far.right far.offset
+    → StandsAfter d splices k (state_set k)
+stands_set b d splices k grown now =
+    ap (λ (l : List Splice). state_behind k (drop k.since l)) grown
+    ∙ behind_grown b.splices splices k (omega (arith, now))
+    ∙ ap (λ (x : MarkState). fold (state_after (keys_of k)) x (map reach_of splices))
+    (ap (λ (j : ℕ). state_behind k (drop j b.splices)) now ∙ behind_now b.splices k)
 
 -- ---- marks among others
 among_less : (k : SetMark) (ns id : ℕ) (ms : List SetMark) → IsMarkAmong k (without_set ns id ms) → IsMarkAmong k ms

@@ -31,7 +31,7 @@ pub fn due_laws()
     ensures texts { TextsAtTicksStay }
 {}
 
-/// After each entry of a history the marks of a buffer that is live stand where its splices moved
+/// After each entry of a history the marks of a buffer that is live stand where its splices left
 /// them: each of those that the entry doesn't set or remove is there, from where it stood before,
 /// and one that it sets from where it was set.
 pub fn mark_law()

@@ -1,5 +1,5 @@
 -- Lemmas on rows and offsets in one chunk, and in the whole text.
-use Rattle.std.proofs.Common.{◌≡◌, ℕ, ◌+◌, ◌-◌, ◌<◌, ◌≤◌, List, [], ◌++◌, length, take, drop, get_or, sym, ap, ◌∙◌, arith, length-append, inl, inr, slice_get, Option, Some, None, IsSome, option_copied, Bor, rules}
+use Rattle.std.proofs.Common.{◌≡◌, ℕ, ◌+◌, ◌-◌, ◌<◌, ◌≤◌, List, [], ◌++◌, length, take, drop, get_or, sym, ap, ◌∙◌, arith, length-append, inl, inr, slice_get, Option, Some, None, IsSome, IfSome, MatchOption, option_copied, Bor, rules}
 use Rattle.std.proofs.lemmas.Bool.{cases_lt}
 use Rattle.std.proofs.lemmas.List.{take_all, take-append-le, get_or-append_right, get_or_append_left}
 use Rattle.std.proofs.lemmas.Option.{slice_get-get_or}
@@ -102,6 +102,25 @@ pub offset_sum_fits : (cs : List Chunk) (s : Start) (c : Chunk) (n : ℕ) → Is
     → n ≤ length c.lines → s.offset + row_start c.lines n ≤ length (flat (chunk_lines cs))
 offset_sum_fits cs s c n is within looked inside =
     omega (arith, row_start_in_chunk cs s c n is within looked inside, row_start-le (chunk_lines cs) (s.row + n))
+
+-- the bytes of rows in a chunk are those in the whole text
+pub span_in_chunk : (cs : List Chunk) (s : Start) (c : Chunk) (from to : ℕ) (o : Option ℕ) → IsStart cs s → s.chunk < length cs
+    → c ≡ get_or cs s.chunk c → s.row ≤ from → from ≤ to
+    → MatchOption o (length c.lines < to - s.row)
+    (λ n. (to - s.row ≤ length c.lines) × (row_start c.lines (from - s.row) + n ≡ row_start c.lines (to - s.row)))
+    → IfSome o (λ n. row_start (chunk_lines cs) from + n ≡ row_start (chunk_lines cs) to)
+span_in_chunk cs s c from to None is within looked begins order found = tt
+span_in_chunk cs s c from to (Some n) is within looked begins order found =
+    let first : s.row + (from - s.row) ≡ from = omega (arith, begins) in
+    let last : s.row + (to - s.row) ≡ to = omega (arith, begins, order) in
+    omega (
+      arith,
+      found.1,
+      row_start_in_chunk cs s c (from - s.row) is within looked (omega (arith, order, found.0)),
+      row_start_in_chunk cs s c (to - s.row) is within looked found.0,
+      ap (row_start (chunk_lines cs)) first,
+      ap (row_start (chunk_lines cs)) last,
+    )
 
 -- what a reference lends is there
 pub some_copied : {T : Type 0} (r : Option (Bor T)) (x : T) → option_copied r ≡ Some x → IsSome r

@@ -11,3 +11,5 @@ pub mod Cuts
 pub mod Anew
 pub mod Shifts
 pub mod Tables
+pub mod TableLemmas
+pub mod ListLines

@@ -114,17 +114,3 @@ row_passed x xs before start end start_next end_next list all is parts passed e 
 -- how many rows of one list are moved is what they add
 pub length-gathered : (list rest all : List (List ℕ)) → list ++ rest ≡ all → length list + length rest ≡ length all
 length-gathered list rest all is = omega (arith, ap length is, length-append list rest)
-
--- one chunk more of the rows that are moved
-pub chunk_moved : (c : Chunk) (rest before : List Chunk) (start end start_next end_next : ℕ) (list list_next all : List (List ℕ))
-    → list ++ slice_range (chunk_lines before) start end ≡ all → before ≡ c ∷ rest → list_next ≡ list ++ slice_range c.lines start end
-    → start_next ≡ start - length c.lines → end_next ≡ end - length c.lines
-    → list_next ++ slice_range (chunk_lines rest) start_next end_next ≡ all
-chunk_moved c rest before start end start_next end_next list list_next all is parts more e f =
-    ap (λ l. l ++ slice_range (chunk_lines rest) start_next end_next) more
-    ∙ append_assoc list (slice_range c.lines start end) (slice_range (chunk_lines rest) start_next end_next)
-    ∙ ap (λ m. list ++ (slice_range c.lines start end ++ slice_range (chunk_lines rest) m end_next)) e
-    ∙ ap (λ m. list ++ (slice_range c.lines start end ++ slice_range (chunk_lines rest) (start - length c.lines) m)) f
-    ∙ ap (λ l. list ++ l) (sym (slice_range-append c.lines (chunk_lines rest) start end))
-    ∙ ap (λ (l : List Chunk). list ++ slice_range (chunk_lines l) start end) (sym parts)
-    ∙ is

@@ -1,3 +1,4 @@
 pub mod Text
 pub mod Chunks
+pub mod Excerpts
 pub mod inside

@@ -1,3 +1,4 @@
 pub mod Starts
 pub mod Edits
 pub mod Held
+pub mod Tables

@@ -43,7 +43,7 @@ fn next_chunk(alloc: Global, rest: &mut IntoIter<Line>, count: usize) -> Result<
     let mut lines = Vec::with_capacity(alloc, 64)?;
     move_next(&mut lines, rest, count);
     let bytes = flat_len(&lines);
-    let lines = LineList::from_vec(lines);
+    let lines = LineList::from_vec(lines).in_common()?;
     Ok(Chunk { lines, bytes })
 }
 

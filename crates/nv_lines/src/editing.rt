@@ -8,7 +8,6 @@ ghost use Rattle.nv_lines.specs.inside.Edits.{IsRegion, IsCutIntoChunks, rows_af
 
 use crate::chunk::Chunk;
 use crate::cutting::cut;
-use crate::exchange::exchange;
 use crate::finding::Start;
 use crate::gathering::{add_rows, rows_taken};
 use crate::listing::LineList;
@@ -16,6 +15,7 @@ use crate::measuring::flat_len;
 use crate::region::{Region, region_of};
 use crate::single::Line;
 use crate::starting::{Shift, make_starts, shift_starts};
+use crate::taking::exchange_chunks;
 use std::alloc::{AllocError, Global};
 
 // The rows of chunks with `new` in place of those from `from` up to before `to`.
@@ -73,7 +73,7 @@ fn put_across(
     let lines = lines_after(alloc, &chunks[first.chunk..end.chunk], from, to, rows, new)?;
     let made = cut(alloc, lines)?;
     let taken = Vec::with_capacity(alloc, to - from)?;
-    let gone = exchange(chunks, first.chunk, end.chunk, made)?;
+    let gone = exchange_chunks(chunks, first.chunk, end.chunk, made)?;
     Ok(LineList::from_vec(rows_taken(taken, gone, from, to)))
 }
 

@@ -1,10 +1,10 @@
 // Lines that are gathered in a vector.
 ghost use Rattle.std.specs.Prelude.{◌≡◌, ◌+◌, ◌-◌, ◌<◌, ◌≤◌, ◌⊎◌, ◌++◌, length, MatchBool, OnOk, vec_len, vec_capacity, slice_range};
 ghost use Rattle.nv_lines.specs.Chunks.{chunk_lines};
+ghost use Rattle.nv_lines.specs.inside.Tables.{table_lines};
 
 use crate::chunk::Chunk;
-use crate::held::Held;
-use crate::listing::LineList;
+use crate::excerpt::Excerpt;
 use crate::single::Line;
 use std::alloc::AllocError;
 
@@ -18,8 +18,8 @@ pub fn add_shared(list: &mut Vec<Line>, lines: &[Line]) -> Result<(), AllocError
     Ok(())
 }
 
-// Those of the rows from `from` up to before `to` that there are.
-fn rows_within(lines: &[Line], from: usize, to: usize) -> &[Line]
+/// Those of the rows from `from` up to before `to` that there are.
+pub fn rows_within(lines: &[Line], from: usize, to: usize) -> &[Line]
     ensures { result.now ≡ slice_range lines.now from to }
 {
     let to = to.min(lines.len());
@@ -49,6 +49,32 @@ pub fn add_rows(
         add_shared(list, rows_within(lines, start, end))?;
         start = start.saturating_sub(lines.len());
         end = end.saturating_sub(lines.len());
+    }
+    Ok(())
+}
+
+/// Adds the rows from `from` up to before `to` of chunks at the end, in lists that share their
+/// tables.
+pub fn add_lists(
+    excerpt: &mut Excerpt,
+    chunks: &[Chunk],
+    from: usize,
+    to: usize,
+) -> Result<(), AllocError>
+    ensures { OnOk result (excerpt.new ≡ excerpt.old
+        ++ slice_range (chunk_lines chunks.now) from to) }
+{
+    let mut start = from;
+    let mut end = to;
+    for chunk in chunks {
+        if end == 0 {
+            return Ok(());
+        }
+        let list = chunk.lines.share_part(start, end)?;
+        excerpt.push(list)?;
+        let len = chunk.lines.len();
+        start = start.saturating_sub(len);
+        end = end.saturating_sub(len);
     }
     Ok(())
 }
@@ -87,32 +113,17 @@ fn move_many(into: &mut Vec<Line>, mut lines: Vec<Line>, from: usize, to: usize)
     }
 }
 
-// The same of a list.
-fn move_rows(into: &mut Vec<Line>, lines: LineList, from: usize, to: usize)
-    requires room { vec_len into.old + length (slice_range lines from to) ≤ vec_capacity into.old }
-    ensures items { into.new.items ≡ into.old.items ++ slice_range lines from to }
-    ensures capacity { vec_capacity into.old ≤ vec_capacity into.new }
-{
-    match lines.into_held() {
-        Held::One(line, _) => {
-            if begins_inside(from, to) {
-                into.push_reserved(line);
-            }
-        }
-        Held::Many(lines) => move_many(into, lines, from, to),
-    }
-}
-
-/// The rows from `from` up to before `to` of chunks, moved into a list with room for them.
-pub fn rows_taken(mut taken: Vec<Line>, chunks: Vec<Chunk>, from: usize, to: usize) -> Vec<Line>
+/// The rows from `from` up to before `to` of tables one after another, moved into a list with room
+/// for them.
+pub fn rows_taken(mut taken: Vec<Line>, tables: Vec<Vec<Line>>, from: usize, to: usize) -> Vec<Line>
     requires room { vec_len taken + (to - from) ≤ vec_capacity taken }
-    ensures { result.items ≡ taken.items ++ slice_range (chunk_lines chunks.items) from to }
+    ensures { result.items ≡ taken.items ++ slice_range (table_lines tables.items) from to }
 {
     let mut start = from;
     let mut end = to;
-    for chunk in chunks {
-        let len = chunk.lines.len();
-        move_rows(&mut taken, chunk.lines, start, end);
+    for table in tables {
+        let len = table.len();
+        move_many(&mut taken, table, start, end);
         start = start.saturating_sub(len);
         end = end.saturating_sub(len);
     }

@@ -5,6 +5,7 @@
 mod chunk;
 mod cutting;
 mod editing;
+mod excerpt;
 mod exchange;
 mod finding;
 mod gathering;
@@ -15,9 +16,11 @@ mod reading;
 mod region;
 mod single;
 mod starting;
+mod taking;
 mod whole;
 
 pub use chunk::Chunk;
+pub use excerpt::Excerpt;
 pub use listing::LineList;
 pub use single::{Line, is_line};
 pub use whole::Lines;

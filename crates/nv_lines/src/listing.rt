@@ -4,8 +4,8 @@ ghost use Rattle.std.specs.List.{splice};
 ghost use Rattle.nv_places.specs.Flat.{flat, IsLine};
 ghost use Rattle.nv_lines.specs.inside.Held.{held_lines};
 
-use crate::gathering::add_shared;
-use crate::held::Held;
+use crate::gathering::rows_within;
+use crate::held::{Held, shares};
 use crate::measuring::checked_flat_len;
 use crate::single::Line;
 use std::alloc::{AllocError, AllocFailed, Global};
@@ -28,15 +28,6 @@ impl Model for LineList {
     ghost view = { λ list. held_lines list.held };
 
     ghost invariant = { λ list. All IsLine (held_lines list.held) };
-}
-
-// Shares of lines, in a table.
-fn shared(alloc: Global, lines: &[Line]) -> Result<Vec<Line>, AllocError>
-    ensures { IfOk result (λ list. list.items ≡ lines.now) }
-{
-    let mut list = Vec::with_capacity(alloc, lines.len())?;
-    add_shared(&mut list, lines)?;
-    Ok(list)
 }
 
 impl LineList {
@@ -79,11 +70,23 @@ impl LineList {
         self.held.into_vec()
     }
 
-    // As it is held.
-    pub(crate) fn into_held(self) -> Held
-        ensures { held_lines result ≡ self }
+    // The lines in a table of their own. Where memory is wanting they come back.
+    pub(crate) fn into_table(self) -> Result<Vec<Line>, LineList>
+        ensures ok { IfOk result (λ lines. lines.items ≡ self) }
+        ensures err { IfErr result (λ list. list ≡ self) }
     {
-        self.held
+        match self.held.into_table() {
+            Ok(lines) => Ok(lines),
+            Err(held) => Err(LineList { held }),
+        }
+    }
+
+    // The same lines, in a table that its shares have in common.
+    pub(crate) fn in_common(self) -> Result<LineList, AllocError>
+        ensures { IfOk result (λ list. list ≡ self) }
+    {
+        let held = self.held.in_common()?;
+        Ok(LineList { held })
     }
 
     /// Adds a line at the end.
@@ -96,17 +99,24 @@ impl LineList {
         self.held.push(line)
     }
 
-    /// The same lines, shared: one owner more of each, and no bytes copied.
+    /// The same lines, shared: no bytes are copied, and no table of those of a text's chunk.
     pub fn share(&self) -> Result<LineList, AllocError>
         ensures { IfOk result (λ list. list ≡ self.now) }
     {
-        let alloc = self.held.alloc();
-        let lines = self.held.as_slice();
-        if lines.len() == 1 {
-            return Ok(LineList::one(alloc, lines[0].share()?));
+        let held = self.held.share()?;
+        Ok(LineList { held })
+    }
+
+    // Those of the lines from `from` up to before `to` that there are, shared.
+    pub(crate) fn share_part(&self, from: usize, to: usize) -> Result<LineList, AllocError>
+        ensures { IfOk result (λ list. list ≡ slice_range self.now from to) }
+    {
+        if from == 0 && self.held.len() <= to {
+            return self.share();
         }
-        let lines = shared(alloc, lines)?;
-        Ok(LineList::from_vec(lines))
+        let lines = rows_within(self.held.as_slice(), from, to);
+        let held = shares(self.held.alloc(), lines)?;
+        Ok(LineList { held })
     }
 
     /// The number of lines.
@@ -149,7 +159,7 @@ impl LineList {
         ensures err { OnErr result (self.new ≡ self.old) }
     {
         if from == 0 && to == self.len() {
-            return Ok(mem::replace(self, new));
+            return Ok(mem::replace(self, new.in_common()?));
         }
         let held = self.held.replace(from, to, new.held)?;
         Ok(LineList { held })

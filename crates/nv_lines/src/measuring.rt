@@ -1,6 +1,6 @@
 // The length of flat text, and the rows in it.
 ghost use Rattle.std.specs.Prelude.{◌≡◌, ◌+◌, ◌^◌, ◌<◌, ◌≤◌, length, SomeIff, MatchOption};
-ghost use Rattle.nv_places.specs.Flat.{flat};
+ghost use Rattle.nv_places.specs.Flat.{flat, row_start};
 ghost use Rattle.nv_lines.specs.Text.{IsRowAt};
 
 use crate::single::Line;
@@ -15,6 +15,21 @@ pub fn flat_len(lines: &[Line]) -> u64
         bytes += line.len() as u64 + 1;
     }
     bytes
+}
+
+/// The number of bytes of the flat text of the lines from `from` up to before `to`. `None` exactly
+/// where `to` is past the last.
+pub fn flat_len_within(lines: &[Line], from: usize, to: usize) -> Option<u64>
+    requires order { from ≤ to }
+    requires small { length (flat lines.now) < 2 ^ 64 }
+    ensures { MatchOption result (length lines.now < to) (λ n. (to ≤ length lines.now)
+        × (row_start lines.now from + n ≡ row_start lines.now to)) }
+{
+    let count = lines.len();
+    if to > count {
+        return None;
+    }
+    Some(flat_len(&lines[from..to]))
 }
 
 // So many bytes, and those of one more line with its end. `None` exactly where they don't fit.

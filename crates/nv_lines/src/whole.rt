@@ -1,5 +1,5 @@
 // The lines of a buffer.
-ghost use Rattle.std.specs.Prelude.{◌≡◌, ◌+◌, ◌^◌, ◌<◌, ◌≤◌, ◌↔◌, [], ◌∷◌, length, All, IsSome, IfSome, OnOk, OnErr, IfOk, option_map, option_copied, slice_get, slice_range};
+ghost use Rattle.std.specs.Prelude.{◌≡◌, ◌+◌, ◌^◌, ◌<◌, ◌≤◌, ◌↔◌, [], ◌∷◌, ◌++◌, length, All, IsSome, IfSome, OnOk, OnErr, IfOk, option_map, option_copied, slice_get, slice_range};
 ghost use Rattle.std.specs.List.{splice};
 ghost use Rattle.nv_places.specs.Flat.{flat, IsLine, row_start};
 ghost use Rattle.nv_lines.specs.Text.{IsText, IsRowAt};
@@ -7,10 +7,11 @@ ghost use Rattle.nv_lines.specs.Chunks.{chunk_lines, chunk_sizes, IsChunk, AreFu
 
 use crate::chunk::Chunk;
 use crate::editing::put_rows;
+use crate::excerpt::Excerpt;
 use crate::finding::Start;
 use crate::listing::LineList;
 use crate::measuring::flat_len;
-use crate::reading::{line_in, offset_in, row_in, rows_in};
+use crate::reading::{add_rows_in, line_in, offset_in, row_in, rows_in, span_in};
 use crate::single::Line;
 use std::alloc::{AllocError, Global};
 use std::marker::Model;
@@ -102,6 +103,28 @@ impl Lines {
         )
     }
 
+    /// Adds the lines of the rows from `from` up to before `to` at the end of an excerpt, in lists
+    /// that share the tables of the text: no bytes are copied, and lines are gone over at the two
+    /// ends alone.
+    pub fn add_rows(&self, excerpt: &mut Excerpt, from: usize, to: usize) -> Result<(), AllocError>
+        requires order { from ≤ to }
+        requires within { to ≤ length self.now }
+        ensures { OnOk result (excerpt.new ≡ excerpt.old ++ slice_range self.now from to) }
+    {
+        add_rows_in(excerpt, &self.chunks, &self.starts, from, to)
+    }
+
+    /// The lines of the rows from `from` up to before `to`, in such lists.
+    pub fn excerpt(&self, from: usize, to: usize) -> Result<Excerpt, AllocError>
+        requires order { from ≤ to }
+        requires within { to ≤ length self.now }
+        ensures { IfOk result (λ rows. rows ≡ slice_range self.now from to) }
+    {
+        let mut rows = Excerpt::with_room(*self.chunks.allocator(), (to - from) / 48 + 1)?;
+        self.add_rows(&mut rows, from, to)?;
+        Ok(rows)
+    }
+
     /// The number of lines.
     pub fn count(&self) -> usize
         ensures value { result ≡ length self.now }
@@ -138,7 +161,25 @@ impl Lines {
         if from == to {
             return 0;
         }
-        self.offset(to) - self.offset(from)
+        self.flat_span(from, to).1
+    }
+
+    /// The offset at which the row `from` begins, and the number of bytes of the flat text of the
+    /// rows from it up to before `to`.
+    pub fn flat_span(&self, from: usize, to: usize) -> (u64, u64)
+        requires order { from ≤ to }
+        requires within { to ≤ length self.now }
+        ensures start { result.0 ≡ row_start self.now from }
+        ensures len { row_start self.now from + result.1 ≡ row_start self.now to }
+    {
+        if from >= self.rows {
+            return (self.bytes, 0);
+        }
+        let (start, len) = span_in(&self.chunks, &self.starts, from, to);
+        match len {
+            Some(len) => (start, len),
+            None => (start, self.offset(to) - start),
+        }
     }
 
     /// The row in which an offset lies. The end of the flat text gives the count.

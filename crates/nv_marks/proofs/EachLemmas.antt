@@ -1,8 +1,10 @@
 -- Lemmas on what holds of each element, and on lists in order.
-use Rattle.std.proofs.Common.{◌≡◌, ◌≤◌, ◌<◌, ◌+◌, List, [], ◌∷◌, ◌++◌, ℕ, zero, suc, refl, sym, length, take, drop, get_or, map, arith, All, Bool, true, false, cond, subst}
+use Rattle.std.proofs.Common.{◌≡◌, ◌≤◌, ◌<◌, ◌+◌, ◌-◌, List, [], ◌∷◌, ◌++◌, ℕ, zero, suc, refl, ap, sym, ◌∙◌, length, take, drop, get_or, set, map, arith, All, Bool, true, false, cond, subst}
 use Rattle.std.specs.Prelude.{IsPermutation, IsSortedBy, filter}
 use Rattle.std.proofs.lemmas.Bool.{both_ways}
 use Rattle.std.specs.Cmp.{IsStrictWeakOrder}
+use Rattle.std.proofs.lemmas.List.{get_or-append_right, get_or-drop, length-map, length-take-le, get_or_default}
+use Rattle.std.proofs.lemmas.List.Edits.{map_over_more}
 use Rattle.std.proofs.lemmas.List.Elements.{All-nil, All-cons, All-head, All-tail}
 use Rattle.std.proofs.lemmas.List.Sorted.{All-permutation, sorted_far}
 use Rattle.std.specs.List.Sorted.{IsPartitionPoint, IsPartitionedBy}
@@ -156,3 +158,22 @@ module _ {X : Type 0} (t : X → Bool) where
       (point.1 0 x (omega arith) (omega arith), point_rest xs zero (λ k d low within. absurd (omega arith), λ k d low within. point.1 (suc k) d (omega arith) (omega arith)))
   point_rest (x ∷ xs) (suc n) point =
       point_rest xs n (λ k d low within. point.0 (suc k) d (omega arith) (omega arith), λ k d low within. point.1 (suc k) d (omega arith) (omega arith))
+
+-- ---- a map in place
+module _ {X : Type 0} (f : X → X) (xs ys : List X) (i : ℕ) (within : i < length xs) (is : ys ≡ map f (take i xs) ++ drop i xs) where
+  -- the element that it comes to next is as it was
+  pub next_in_place : (d : X) → get_or ys i d ≡ get_or xs i d
+  next_in_place d =
+      let len : length (map f (take i xs)) ≡ i = length-map (take i xs) f ∙ length-take-le i xs (omega arith) in
+      let here : i - i ≡ 0 = omega arith in
+      let there : i + 0 ≡ i = omega arith in
+      ap (λ (l : List X). get_or l i d) is
+      ∙ get_or-append_right (map f (take i xs)) (drop i xs) i i d len (omega arith)
+      ∙ ap (λ (n : ℕ). get_or (drop i xs) n d) here
+      ∙ get_or-drop i xs 0 d
+      ∙ ap (λ (n : ℕ). get_or xs n d) there
+
+  pub more_in_place : (d changed : X) → i < length ys → changed ≡ f (get_or ys i d) → set ys i changed ≡ map f (take (i + 1) xs) ++ drop (i + 1) xs
+  more_in_place d changed room goes =
+      ap (λ (x : X). set ys i x) goes
+      ∙ map_over_more f xs ys i (get_or ys i d) within is (get_or_default ys i d (get_or ys i d) room)

@@ -5,7 +5,7 @@ use Rattle.std.proofs.lemmas.List.{get_or-map, take_all}
 use Rattle.std.proofs.lemmas.List.Elements.{All-head, All-tail}
 use Rattle.std.proofs.lemmas.List.Quantifiers.{position-Some}
 use Rattle.nv_marks.specs.declared.record.Record.{Record}
-use Rattle.nv_marks.specs.declared.record.Kept.{Kept}
+use Rattle.nv_marks.specs.declared.record.Relative.{Relative}
 use Rattle.nv_marks.specs.inside.Records.{ForEach, has_key, is_key}
 use Rattle.nv_marks.specs.inside.Chunks.{Piece, placed_record, records_of, spread_records, held_records, IsFoundAt}
 use Rattle.nv_marks.proofs.NameLemmas.{find-none, find_at, fail_from_position}
@@ -27,20 +27,20 @@ find-front t (x ∷ xs) ys m found = by_case (find-front t xs ys m) (t x) found
     by_case rest false found = rest found
 
 -- what a chunk's own search says of its records
-pub not_among : (ns id : ℕ) (end : Bool) (p : Piece) → position (λ (k : Kept). is_key ns id end k.info) p.kept ≡ None
+pub not_among : (ns id : ℕ) (end : Bool) (p : Piece) → position (λ (k : Relative). is_key ns id end k.info) p.kept ≡ None
     → ForEach (λ r. has_key ns id end r ≡ false) (records_of p)
-not_among ns id end p nowhere = all p.kept (fail_from_position (λ (k : Kept). is_key ns id end k.info) p.kept nowhere)
+not_among ns id end p nowhere = all p.kept (fail_from_position (λ (k : Relative). is_key ns id end k.info) p.kept nowhere)
   where
-    all : (ks : List Kept) → All (λ (k : Kept). is_key ns id end k.info ≡ false) ks → ForEach (λ r. has_key ns id end r ≡ false) (map (placed_record p.base) ks)
+    all : (ks : List Relative) → All (λ (k : Relative). is_key ns id end k.info ≡ false) ks → ForEach (λ r. has_key ns id end r ≡ false) (map (placed_record p.base) ks)
     all [] each = tt
     all (k ∷ ks) each =
-        (All-head (λ (k : Kept). is_key ns id end k.info ≡ false) k ks each, all ks (All-tail (λ (k : Kept). is_key ns id end k.info ≡ false) k ks each))
+        (All-head (λ (k : Relative). is_key ns id end k.info ≡ false) k ks each, all ks (All-tail (λ (k : Relative). is_key ns id end k.info ≡ false) k ks each))
 
-pub is_among : (ns id : ℕ) (end : Bool) (p : Piece) (i : ℕ) (d : Record) → position (λ (k : Kept). is_key ns id end k.info) p.kept ≡ Some i
+pub is_among : (ns id : ℕ) (end : Bool) (p : Piece) (i : ℕ) (d : Record) → position (λ (k : Relative). is_key ns id end k.info) p.kept ≡ Some i
     → (i < length (records_of p)) × (find (has_key ns id end) (records_of p) ≡ Some (get_or (records_of p) i d))
 is_among ns id end p i d there =
-    let k0 : Kept = record { by = record { rows = 0; cols = 0 }; info = d.info } in
-    let first = position-Some (λ (k : Kept). is_key ns id end k.info) p.kept i k0 there in
+    let k0 : Relative = record { by = record { rows = 0; cols = 0 }; info = d.info } in
+    let first = position-Some (λ (k : Relative). is_key ns id end k.info) p.kept i k0 there in
     let len = length-records p in
     let within : i < length (records_of p) = omega (arith, first.0, len) in
     let at : (j : ℕ) → j < length p.kept → get_or (records_of p) j d ≡ placed_record p.base (get_or p.kept j k0) = λ j fits. get_or-map (placed_record p.base) p.kept j k0 d fits in (
@@ -51,7 +51,7 @@ is_among ns id end p i d there =
     )
 
 pub found_there : (ns id : ℕ) (end : Bool) (ps : List Piece) (n i : ℕ) (p : Piece) → n < length ps → p ≡ get_or ps n p
-    → ForEach (λ r. has_key ns id end r ≡ false) (spread_records (take n ps)) → position (λ (k : Kept). is_key ns id end k.info) p.kept ≡ Some i
+    → ForEach (λ r. has_key ns id end r ≡ false) (spread_records (take n ps)) → position (λ (k : Relative). is_key ns id end k.info) p.kept ≡ Some i
     → IsFoundAt (has_key ns id end) ps n i
 found_there ns id end ps n i p within here before there =
     let one : held_records n 1 ps ≡ records_of p = held_one ps n p within ∙ ap records_of (sym here) in
@@ -69,10 +69,10 @@ found_there ns id end ps n i p within here before there =
     }
   where
     no_record : Record
-    no_record = record { pos = record { row = 0; col = 0 }; info = record { ns = 0; id = 0; right = false; is_end = false; has_end = false; paint = None; priority = 0 } }
+    no_record = record { pos = record { row = 0; col = 0 }; info = record { ns = 0; id = 0; right = false; is_end = false; has_end = false; paint = None; priority = 0; restore = false; invalidate = false; hidden = false; set = 0 } }
 
 pub not_yet_more : (ns id : ℕ) (end : Bool) (ps : List Piece) (n : ℕ) (p : Piece) → n < length ps → p ≡ get_or ps n p
-    → ForEach (λ r. has_key ns id end r ≡ false) (spread_records (take n ps)) → position (λ (k : Kept). is_key ns id end k.info) p.kept ≡ None
+    → ForEach (λ r. has_key ns id end r ≡ false) (spread_records (take n ps)) → position (λ (k : Relative). is_key ns id end k.info) p.kept ≡ None
     → ForEach (λ r. has_key ns id end r ≡ false) (spread_records (take (n + 1) ps))
 not_yet_more ns id end ps n p within here before nowhere =
     subst (λ (l : List Record). ForEach (λ r. has_key ns id end r ≡ false) l)

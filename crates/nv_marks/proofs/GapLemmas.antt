@@ -10,7 +10,7 @@ use Rattle.nv_places.specs.declared.place.Extent.{Extent}
 use Rattle.nv_places.specs.Places.{further, is_before}
 use Rattle.nv_places.specs.Moves.{moved_place}
 use Rattle.nv_marks.specs.declared.record.Record.{Record}
-use Rattle.nv_marks.specs.declared.record.Kept.{Kept}
+use Rattle.nv_marks.specs.declared.record.Relative.{Relative}
 use Rattle.nv_marks.specs.inside.Records.{ForEach, Sort, precedes, moved_record}
 use Rattle.nv_marks.specs.inside.Chunks.{Piece, IsGap, IsMovedPart, placed_record, kept_from, records_of, spread_records, base_of, refilled_piece, written_piece, piece_written_from, refit_pieces, IsFit, IsBased, IsLaid, held_records, pieces_edited_at}
 use Rattle.nv_marks.proofs.EachLemmas.{Each-weaker, Each-map, Each-get_or, Each-take, Each-drop, point_front, point_rest}
@@ -22,7 +22,7 @@ use Rattle.nv_marks.proofs.RemoveLemmas.{three}
 use Rattle.nv_marks.proofs.InPlaceLemmas.{parts_of, parts_kept, front_back, rest_back, refilled_as, edited_as, lent_piece}
 
 -- ---- where no record stands in the replaced part
-pub kept_to_row : (base : Pos) (row : ℕ) (ks : List Kept) → Sort (map (placed_record base) ks) → IsPartitionedBy (λ k. leb (further base k.by).row row) ks
+pub kept_to_row : (base : Pos) (row : ℕ) (ks : List Relative) → Sort (map (placed_record base) ks) → IsPartitionedBy (λ k. leb (further base k.by).row row) ks
 kept_to_row base row ks up = parts_kept (placed_record base) (λ r. leb r.pos.row row) ks (parts_of (λ r. leb r.pos.row row) down (map (placed_record base) ks) up)
   where
     earlier_too : (p q : Pos) → is_before q p ≡ false → leb q.row row ≡ true → leb p.row row ≡ true
@@ -38,7 +38,7 @@ not_so false is = absurd (cc)
 not_up_to : (row at : ℕ) → leb at row ≡ false → row < at
 not_up_to row at is = grind (arith, nat_tests)
 
-pub gap_is : (start end base : Pos) (ks rest : List Kept) (n held m : ℕ) → rest ≡ drop n ks → n ≤ length ks → m ≤ length rest → 0 < n → held ≡ 0
+pub gap_is : (start end base : Pos) (ks rest : List Relative) (n held m : ℕ) → rest ≡ drop n ks → n ≤ length ks → m ≤ length rest → 0 < n → held ≡ 0
     → IsPartitionPoint (λ k. is_before (further base k.by) start ≡ true) (λ k. is_before (further base k.by) start ≡ false) ks n
     → IsPartitionPoint (λ k. not (is_before end (further base k.by)) ≡ true) (λ k. not (is_before end (further base k.by)) ≡ false) rest held
     → IsPartitionPoint (λ k. leb (further base k.by).row end.row ≡ true) (λ k. leb (further base k.by).row end.row ≡ false) rest m
@@ -56,11 +56,11 @@ gap_is start end base ks rest n held m rest_is fits fits_rest some none front ba
           (Each-map (λ r. is_before r.pos start ≡ true) (placed_record base) (take n ks) (point_front (λ k. is_before (further base k.by) start) ks n front));
       behind = subst (λ (l : List Record). ForEach (λ r. is_before end r.pos ≡ true) l) mapped
           (Each-map (λ r. is_before end r.pos ≡ true) (placed_record base) rest
-          (Each-weaker (λ (k : Kept). not (is_before end (further base k.by)) ≡ false) (λ (k : Kept). is_before end (further base k.by) ≡ true)
+          (Each-weaker (λ (k : Relative). not (is_before end (further base k.by)) ≡ false) (λ (k : Relative). is_before end (further base k.by) ≡ true)
           (λ k is. not_so (is_before end (further base k.by)) is) rest far));
       later = subst (λ (l : List Record). ForEach (λ r. end.row < r.pos.row) l) (sym (drop-map (placed_record base) m rest) ∙ ap (drop m) mapped)
           (Each-map (λ r. end.row < r.pos.row) (placed_record base) (drop m rest)
-          (Each-weaker (λ (k : Kept). leb (further base k.by).row end.row ≡ false) (λ (k : Kept). end.row < (further base k.by).row)
+          (Each-weaker (λ (k : Relative). leb (further base k.by).row end.row ≡ false) (λ (k : Relative). end.row < (further base k.by).row)
           (λ k is. not_up_to end.row (further base k.by).row is) (drop m rest) (point_rest (λ k. leb (further base k.by).row end.row) rest m row)));
     }
 
@@ -109,11 +109,11 @@ module _ (start : Pos) (old new : Extent) (rs : List Record) (n m : ℕ) (gap : 
       ∙ ap (λ (l : List Record). map (moved_record start old new) (take m (drop n rs)) ++ l) (map_later start old new (drop m (drop n rs)) same gap.later))
 
 -- the records from a place on as they are kept
-midst_back : (base : Pos) (ks : List Kept) (n m : ℕ) → map (kept_from base) (drop m (drop n (map (placed_record base) ks))) ≡ drop m (drop n ks)
+midst_back : (base : Pos) (ks : List Relative) (n m : ℕ) → map (kept_from base) (drop m (drop n (map (placed_record base) ks))) ≡ drop m (drop n ks)
 midst_back base ks n m = ap (map (kept_from base)) (ap (drop m) (drop-map (placed_record base) n ks)) ∙ rest_back base (drop n ks) m
 
 -- the first record stays, so the base does
-first_before : (start : Pos) (base : Pos) (ks : List Kept) (fs rest : List Record) (n : ℕ) → base_of (map (placed_record base) ks) ≡ base → 0 < n
+first_before : (start : Pos) (base : Pos) (ks : List Relative) (fs rest : List Record) (n : ℕ) → base_of (map (placed_record base) ks) ≡ base → 0 < n
     → 0 < length ks → fs ≡ take n (map (placed_record base) ks) → base_of (fs ++ rest) ≡ base
 first_before start base [] fs rest n based later some is = absurd (omega arith)
 first_before start base (k ∷ ks) fs rest zero based later some is = absurd (omega arith)
@@ -134,16 +134,16 @@ module _ (start : Pos) (old new : Extent) (p : Piece) (n m : ℕ) (based : IsBas
       length-take-le m (drop n p.kept) (omega (arith, length-drop n p.kept))
       ∙ sym (length-map (take m (drop n rs)) f ∙ length-take-le m (drop n rs) (omega (arith, length-drop n rs))) in
       let parts : p.kept ≡ take n p.kept ++ (take m (drop n p.kept) ++ drop m (drop n p.kept)) =
-      sym (ap (λ (l : List Kept). take n p.kept ++ l) (take-append-drop m (drop n p.kept)) ∙ take-append-drop n p.kept) in
+      sym (ap (λ (l : List Relative). take n p.kept ++ l) (take-append-drop m (drop n p.kept)) ∙ take-append-drop n p.kept) in
       let thirds : map f rs ≡ take n rs ++ (ms ++ drop m (drop n rs)) = moved_thirds start old new rs n m gap same in
       let base_is : base_of (map f rs) ≡ p.base =
       ap base_of thirds ∙ first_before start p.base p.kept (take n rs) (ms ++ drop m (drop n rs)) n based gap.some fit.some refl in
       let kept_is : map (kept_from p.base) (map f rs) ≡ take n p.kept ++ (map (kept_from p.base) ms ++ drop m (drop n p.kept)) =
       ap (map (kept_from p.base)) thirds ∙ map-append (kept_from p.base) (take n rs) (ms ++ drop m (drop n rs))
-      ∙ ap (λ (l : List Kept). l ++ map (kept_from p.base) (ms ++ drop m (drop n rs))) (front_back p.base p.kept n)
-      ∙ ap (λ (l : List Kept). take n p.kept ++ l) (map-append (kept_from p.base) ms (drop m (drop n rs))
-      ∙ ap (λ (l : List Kept). map (kept_from p.base) ms ++ l) (midst_back p.base p.kept n m)) in
-      ap (λ (l : List Kept). piece_written_from n p.base ms (record { base = p.base; kept = l; room = p.room })) parts
+      ∙ ap (λ (l : List Relative). l ++ map (kept_from p.base) (ms ++ drop m (drop n rs))) (front_back p.base p.kept n)
+      ∙ ap (λ (l : List Relative). take n p.kept ++ l) (map-append (kept_from p.base) ms (drop m (drop n rs))
+      ∙ ap (λ (l : List Relative). map (kept_from p.base) ms ++ l) (midst_back p.base p.kept n m)) in
+      ap (λ (l : List Relative). piece_written_from n p.base ms (record { base = p.base; kept = l; room = p.room })) parts
       ∙ written-midst (take n p.kept) (take m (drop n p.kept)) (drop m (drop n p.kept)) p.base p.room n ms front middle
       ∙ refilled_as p.base (take n p.kept ++ (map (kept_from p.base) ms ++ drop m (drop n p.kept))) p (map f rs) (sym kept_is) base_is
 

@@ -13,7 +13,7 @@ use Rattle.nv_places.specs.declared.place.Pos.{Pos}
 use Rattle.nv_places.specs.Places.{IsNarrow, further, is_before}
 use Rattle.nv_marks.specs.Order.{is_within}
 use Rattle.nv_marks.specs.declared.record.Record.{Record}
-use Rattle.nv_marks.specs.declared.record.Kept.{Kept}
+use Rattle.nv_marks.specs.declared.record.Relative.{Relative}
 use Rattle.nv_marks.specs.inside.Records.{ForEach, Sort, precedes}
 use Rattle.nv_marks.specs.inside.Chunks.{Piece, placed_record, kept_from, reach, records_of, spread_records, base_of, refilled_piece, IsBased, IsLaid, held_records, pieces_edited_at, starts_before, with_inserted, with_removed, has_place}
 use Rattle.nv_marks.proofs.EachLemmas.{Each-get_or, Each-weaker, Each-take, Each-drop, Each-unmap, Each-map, Rises-left, Rises-right, lower_parts, sorted_from_rises, Rises-from_sorted, point_front, point_rest}
@@ -31,7 +31,7 @@ pub parts_of : (t : Record → Bool) → ((r q : Record) → precedes q r ≡ fa
 parts_of t down rs up i j d in_order within passes =
     down (get_or rs i d) (get_or rs j d) (sorted_far precedes record_ranks rs (sorted_from_rises precedes rs up) i j d in_order within) passes
 
-pub parts_kept : (f : Kept → Record) (t : Record → Bool) (ks : List Kept) → IsPartitionedBy t (map f ks) → IsPartitionedBy (λ k. t (f k)) ks
+pub parts_kept : (f : Relative → Record) (t : Record → Bool) (ks : List Relative) → IsPartitionedBy t (map f ks) → IsPartitionedBy (λ k. t (f k)) ks
 parts_kept f t ks parted i j d in_order within passes =
     let here : get_or (map f ks) i (f d) ≡ f (get_or ks i d) = get_or-map f ks i d (f d) (omega arith) in
     let there : get_or (map f ks) j (f d) ≡ f (get_or ks j d) = get_or-map f ks j d (f d) within in
@@ -39,7 +39,7 @@ parts_kept f t ks parted i j d in_order within passes =
     (parted i j (f d) in_order (omega (arith, length-map ks f)) (subst (λ (r : Record). t r ≡ true) (sym there) passes))
 
 -- the records before a place, or up to it, come first
-pub kept_before : (base at : Pos) (ks : List Kept) → Sort (map (placed_record base) ks) → IsPartitionedBy (λ k. is_before (further base k.by) at) ks
+pub kept_before : (base at : Pos) (ks : List Relative) → Sort (map (placed_record base) ks) → IsPartitionedBy (λ k. is_before (further base k.by) at) ks
 kept_before base at ks up = parts_kept (placed_record base) (λ r. is_before r.pos at) ks (parts_of (λ r. is_before r.pos at) down (map (placed_record base) ks) up)
   where
     earlier_too : (p q : Pos) → is_before q p ≡ false → is_before q at ≡ true → is_before p at ≡ true
@@ -48,7 +48,7 @@ kept_before base at ks up = parts_kept (placed_record base) (λ r. is_before r.p
     down : (r q : Record) → precedes q r ≡ false → is_before q.pos at ≡ true → is_before r.pos at ≡ true
     down r q later before = earlier_too r.pos q.pos (follows q r later) before
 
-pub kept_up_to : (base at : Pos) (ks : List Kept) → Sort (map (placed_record base) ks) → IsPartitionedBy (λ k. not (is_before at (further base k.by))) ks
+pub kept_up_to : (base at : Pos) (ks : List Relative) → Sort (map (placed_record base) ks) → IsPartitionedBy (λ k. not (is_before at (further base k.by))) ks
 kept_up_to base at ks up = parts_kept (placed_record base) (λ r. not (is_before at r.pos)) ks (parts_of (λ r. not (is_before at r.pos)) down (map (placed_record base) ks) up)
   where
     earlier_too : (p q : Pos) → is_before q p ≡ false → not (is_before at q) ≡ true → not (is_before at p) ≡ true
@@ -57,45 +57,45 @@ kept_up_to base at ks up = parts_kept (placed_record base) (λ r. not (is_before
     down : (r q : Record) → precedes q r ≡ false → not (is_before at q.pos) ≡ true → not (is_before at r.pos) ≡ true
     down r q later before = earlier_too r.pos q.pos (follows q r later) before
 
-pub kept_below : (base : Pos) (r : Record) (ks : List Kept) → Sort (map (placed_record base) ks) → IsPartitionedBy (λ k. precedes (placed_record base k) r) ks
+pub kept_below : (base : Pos) (r : Record) (ks : List Relative) → Sort (map (placed_record base) ks) → IsPartitionedBy (λ k. precedes (placed_record base k) r) ks
 kept_below base r ks up =
     parts_kept (placed_record base) (λ q. precedes q r) ks
     (lower_parts precedes record_ranks r (map (placed_record base) ks) (sorted_from_rises precedes (map (placed_record base) ks) up))
 
 -- where one that stands before a place was looked at, those before it do too
-pub front_from : (base at : Pos) (ks : List Kept) (n m : ℕ) (e : Kept) → Sort (map (placed_record base) ks) → n < length ks → m ≤ n + 1
+pub front_from : (base at : Pos) (ks : List Relative) (n m : ℕ) (e : Relative) → Sort (map (placed_record base) ks) → n < length ks → m ≤ n + 1
     → is_before (further base (get_or ks n e).by) at ≡ true → AllWithin (λ k. is_before (further base k.by) at ≡ true) ks 0 m
 front_from base at ks n m e up within fits before = λ k d low high.
-    kept_before base at ks up k n d (omega arith) within (subst (λ (x : Kept). is_before (further base x.by) at ≡ true) (get_or_default ks n e d within) before)
+    kept_before base at ks up k n d (omega arith) within (subst (λ (x : Relative). is_before (further base x.by) at ≡ true) (get_or_default ks n e d within) before)
 
 -- where they come first up to one that doesn't, or up to the end, that is all of them
-pub point_at : (base at : Pos) (ks : List Kept) (n : ℕ) (e : Kept) → Sort (map (placed_record base) ks)
+pub point_at : (base at : Pos) (ks : List Relative) (n : ℕ) (e : Relative) → Sort (map (placed_record base) ks)
     → AllWithin (λ k. is_before (further base k.by) at ≡ true) ks 0 n
     → (n < length ks → is_before (further base (get_or ks n e).by) at ≡ false)
     → IsPartitionPoint (λ k. is_before (further base k.by) at ≡ true) (λ k. is_before (further base k.by) at ≡ false) ks n
 point_at base at ks n e up front stops = (front, λ k d low high. by_case k low high (is_before (further base (get_or ks k d).by) at) d refl)
   where
-    by_case : (k : ℕ) → n ≤ k → k < length ks → (b : Bool) (d : Kept) → is_before (further base (get_or ks k d).by) at ≡ b
+    by_case : (k : ℕ) → n ≤ k → k < length ks → (b : Bool) (d : Relative) → is_before (further base (get_or ks k d).by) at ≡ b
         → is_before (further base (get_or ks k d).by) at ≡ false
     by_case k low high true d is =
         let here : is_before (further base (get_or ks n d).by) at ≡ true = kept_before base at ks up n k d low high is in
         absurd (both_ways (is_before (further base (get_or ks n d).by) at)
-        (subst (λ (x : Kept). is_before (further base x.by) at ≡ false) (get_or_default ks n e d (omega arith)) (stops (omega arith))) here)
+        (subst (λ (x : Relative). is_before (further base x.by) at ≡ false) (get_or_default ks n e d (omega arith)) (stops (omega arith))) here)
     by_case k low high false d is = is
 
 -- ---- the part of a chunk within two places
-pub Sort-rest : (base : Pos) (ks rest : List Kept) (n : ℕ) → rest ≡ drop n ks → Sort (map (placed_record base) ks) → Sort (map (placed_record base) rest)
+pub Sort-rest : (base : Pos) (ks rest : List Relative) (n : ℕ) → rest ≡ drop n ks → Sort (map (placed_record base) ks) → Sort (map (placed_record base) rest)
 Sort-rest base ks rest n is up =
-    subst (λ (l : List Kept). Sort (map (placed_record base) l)) (sym is)
+    subst (λ (l : List Relative). Sort (map (placed_record base) l)) (sym is)
     (Rises-right precedes (map (placed_record base) (take n ks)) (map (placed_record base) (drop n ks))
     (subst (λ (l : List Record). Sort l) (sym (ap (map (placed_record base)) (take-append-drop n ks)) ∙ map-append (placed_record base) (take n ks) (drop n ks)) up))
 
 -- the records of a chunk that don't stand before a place
-module _ (from base : Pos) (ks rest : List Kept) (n : ℕ) (rest_is : rest ≡ drop n ks)
+module _ (from base : Pos) (ks rest : List Relative) (n : ℕ) (rest_is : rest ≡ drop n ks)
     (front : IsPartitionPoint (λ k. is_before (further base k.by) from ≡ true) (λ k. is_before (further base k.by) from ≡ false) ks n) where
   pub rest_not_before : ForEach (λ r. is_before r.pos from ≡ false) (map (placed_record base) rest)
   rest_not_before =
-      subst (λ (l : List Kept). ForEach (λ r. is_before r.pos from ≡ false) (map (placed_record base) l)) (sym rest_is)
+      subst (λ (l : List Relative). ForEach (λ r. is_before r.pos from ≡ false) (map (placed_record base) l)) (sym rest_is)
       (Each-map (λ r. is_before r.pos from ≡ false) (placed_record base) (drop n ks) (point_rest (λ k. is_before (further base k.by) from) ks n front))
 
   pub rest_within : (to : Pos) → filter (λ r. is_within from to r.pos) (map (placed_record base) rest) ≡ filter (λ r. is_within from to r.pos) (map (placed_record base) ks)
@@ -103,7 +103,7 @@ module _ (from base : Pos) (ks rest : List Kept) (n : ℕ) (rest_is : rest ≡ d
       let t : Record → Bool = λ r. is_within from to r.pos in
       let fs : List Record = map (placed_record base) (take n ks) in
       let bs : List Record = map (placed_record base) (drop n ks) in
-      ap (λ (l : List Kept). filter (λ (r : Record). is_within from to r.pos) (map (placed_record base) l)) rest_is
+      ap (λ (l : List Relative). filter (λ (r : Record). is_within from to r.pos) (map (placed_record base) l)) rest_is
       ∙ sym (ap (filter t) (sym (ap (map (placed_record base)) (take-append-drop n ks)) ∙ map-append (placed_record base) (take n ks) (drop n ks))
       ∙ filter-append t fs bs
       ∙ ap (λ (l : List Record). l ++ filter t bs)
@@ -112,7 +112,7 @@ module _ (from base : Pos) (ks rest : List Kept) (n : ℕ) (rest_is : rest ≡ d
 
   pub rest_each : (P : Record → Type 0) → ForEach P (map (placed_record base) ks) → ForEach P (map (placed_record base) rest)
   rest_each P each =
-      subst (λ (l : List Kept). ForEach P (map (placed_record base) l)) (sym rest_is)
+      subst (λ (l : List Relative). ForEach P (map (placed_record base) l)) (sym rest_is)
       (Each-map P (placed_record base) (drop n ks) (Each-drop (λ k. P (placed_record base k)) n ks (Each-unmap P (placed_record base) ks each)))
 
 pub is_inside : (from to p : Pos) → is_before p from ≡ false → is_before to p ≡ false → is_within from to p ≡ true
@@ -122,20 +122,20 @@ is_inside from to p after before = grind (arith, nat_tests)
 later_too : (to p q : Pos) → is_before q p ≡ false → is_before to p ≡ true → is_before to q ≡ true
 later_too to p q later before = grind (arith, nat_tests)
 
-pub behind_too : (to base : Pos) (ks : List Kept) (i : ℕ) (d : Kept) → i < length ks → Sort (map (placed_record base) ks)
+pub behind_too : (to base : Pos) (ks : List Relative) (i : ℕ) (d : Relative) → i < length ks → Sort (map (placed_record base) ks)
     → is_before to (further base (get_or ks i d).by) ≡ true → ForEach (λ r. is_before to r.pos ≡ true) (map (placed_record base) (drop i ks))
 behind_too to base ks i d within up behind =
-    let k : Kept = get_or ks i d in
+    let k : Relative = get_or ks i d in
     let next : drop i ks ≡ k ∷ drop (i + 1) ks = drop_more ks i d within in
     let rises : Sort (placed_record base k ∷ map (placed_record base) (drop (i + 1) ks)) =
-    subst (λ (l : List Kept). Sort (map (placed_record base) l)) next (Sort-rest base ks (drop i ks) i refl up) in
-    subst (λ (l : List Kept). ForEach (λ r. is_before to r.pos ≡ true) (map (placed_record base) l)) (sym next) (
+    subst (λ (l : List Relative). Sort (map (placed_record base) l)) next (Sort-rest base ks (drop i ks) i refl up) in
+    subst (λ (l : List Relative). ForEach (λ r. is_before to r.pos ≡ true) (map (placed_record base) l)) (sym next) (
       behind,
       Each-weaker (λ r. precedes r (placed_record base k) ≡ false) (λ r. is_before to r.pos ≡ true)
           (λ r later. later_too to (further base k.by) r.pos (follows r (placed_record base k) later) behind) (map (placed_record base) (drop (i + 1) ks)) rises.0,
     )
 
-pub none_within_behind : (from to base : Pos) (ks : List Kept) (i : ℕ) → ForEach (λ r. is_before to r.pos ≡ true) (map (placed_record base) (drop i ks))
+pub none_within_behind : (from to base : Pos) (ks : List Relative) (i : ℕ) → ForEach (λ r. is_before to r.pos ≡ true) (map (placed_record base) (drop i ks))
     → filter (λ r. is_within from to r.pos) (map (placed_record base) ks) ≡ filter (λ r. is_within from to r.pos) (map (placed_record base) (take i ks))
 none_within_behind from to base ks i behind =
     let t : Record → Bool = λ r. is_within from to r.pos in
@@ -146,10 +146,10 @@ none_within_behind from to base ks i behind =
     ∙ ap (λ (l : List Record). filter t fs ++ l) (filter_skips t bs (not_to from to bs behind))
     ∙ append-nil (filter t fs)
 
-pub part_each : (P : Record → Type 0) (base : Pos) (ks rest lent : List Kept) (n m : ℕ) → rest ≡ drop n ks → lent ≡ take m rest
+pub part_each : (P : Record → Type 0) (base : Pos) (ks rest lent : List Relative) (n m : ℕ) → rest ≡ drop n ks → lent ≡ take m rest
     → ForEach P (map (placed_record base) ks) → ForEach P (map (placed_record base) lent)
 part_each P base ks rest lent n m rest_is lent_is each =
-    subst (λ (l : List Kept). ForEach P (map (placed_record base) l)) (sym (lent_is ∙ ap (take m) rest_is))
+    subst (λ (l : List Relative). ForEach P (map (placed_record base) l)) (sym (lent_is ∙ ap (take m) rest_is))
     (Each-map P (placed_record base) (take m (drop n ks))
     (Each-take (λ k. P (placed_record base k)) m (drop n ks) (Each-drop (λ k. P (placed_record base k)) n ks (Each-unmap P (placed_record base) ks each))))
 
@@ -160,35 +160,35 @@ each_sorted (p ∷ ps) up =
     (Rises-left precedes (records_of p) (spread_records ps) up, each_sorted ps (Rises-right precedes (records_of p) (spread_records ps) up))
 
 -- ---- a record put behind the first of a chunk, or taken out behind it
-kept_back : (base : Pos) (k : Kept) → kept_from base (placed_record base k) ≡ k
+kept_back : (base : Pos) (k : Relative) → kept_from base (placed_record base k) ≡ k
 kept_back base k =
     let rows : (reach base (further base k.by)).rows ≡ k.by.rows = grind (arith, nat_tests) in
     let cols : (reach base (further base k.by)).cols ≡ k.by.cols = grind (arith, nat_tests) in
     λ i. record { by = record { rows = rows i; cols = cols i }; info = k.info }
 
-all_back : (base : Pos) (ks : List Kept) → map (kept_from base) (map (placed_record base) ks) ≡ ks
+all_back : (base : Pos) (ks : List Relative) → map (kept_from base) (map (placed_record base) ks) ≡ ks
 all_back base [] = refl
 all_back base (k ∷ ks) =
-    ap (λ (x : Kept). x ∷ map (kept_from base) (map (placed_record base) ks)) (kept_back base k) ∙ ap (λ (l : List Kept). k ∷ l) (all_back base ks)
+    ap (λ (x : Relative). x ∷ map (kept_from base) (map (placed_record base) ks)) (kept_back base k) ∙ ap (λ (l : List Relative). k ∷ l) (all_back base ks)
 
-pub front_back : (base : Pos) (ks : List Kept) (n : ℕ) → map (kept_from base) (take n (map (placed_record base) ks)) ≡ take n ks
+pub front_back : (base : Pos) (ks : List Relative) (n : ℕ) → map (kept_from base) (take n (map (placed_record base) ks)) ≡ take n ks
 front_back base ks n = ap (map (kept_from base)) (take-map (placed_record base) n ks) ∙ all_back base (take n ks)
 
-pub rest_back : (base : Pos) (ks : List Kept) (n : ℕ) → map (kept_from base) (drop n (map (placed_record base) ks)) ≡ drop n ks
+pub rest_back : (base : Pos) (ks : List Relative) (n : ℕ) → map (kept_from base) (drop n (map (placed_record base) ks)) ≡ drop n ks
 rest_back base ks n = ap (map (kept_from base)) (drop-map (placed_record base) n ks) ∙ all_back base (drop n ks)
 
-insert_back : (base : Pos) (ks : List Kept) (n : ℕ) (r : Record)
+insert_back : (base : Pos) (ks : List Relative) (n : ℕ) (r : Record)
     → insert ks n (kept_from base r) ≡ map (kept_from base) (insert (map (placed_record base) ks) n r)
 insert_back base ks n r =
     sym (map-append (kept_from base) (take n (map (placed_record base) ks)) (r ∷ drop n (map (placed_record base) ks))
-    ∙ ap (λ (l : List Kept). l ++ kept_from base r ∷ map (kept_from base) (drop n (map (placed_record base) ks))) (front_back base ks n)
-    ∙ ap (λ (l : List Kept). take n ks ++ kept_from base r ∷ l) (rest_back base ks n))
+    ∙ ap (λ (l : List Relative). l ++ kept_from base r ∷ map (kept_from base) (drop n (map (placed_record base) ks))) (front_back base ks n)
+    ∙ ap (λ (l : List Relative). take n ks ++ kept_from base r ∷ l) (rest_back base ks n))
 
-remove_back : (base : Pos) (ks : List Kept) (n : ℕ) → remove ks n ≡ map (kept_from base) (remove (map (placed_record base) ks) n)
+remove_back : (base : Pos) (ks : List Relative) (n : ℕ) → remove ks n ≡ map (kept_from base) (remove (map (placed_record base) ks) n)
 remove_back base ks n =
     sym (map-append (kept_from base) (take n (map (placed_record base) ks)) (drop (suc n) (map (placed_record base) ks))
-    ∙ ap (λ (l : List Kept). l ++ map (kept_from base) (drop (suc n) (map (placed_record base) ks))) (front_back base ks n)
-    ∙ ap (λ (l : List Kept). take n ks ++ l) (rest_back base ks (suc n)))
+    ∙ ap (λ (l : List Relative). l ++ map (kept_from base) (drop (suc n) (map (placed_record base) ks))) (front_back base ks n)
+    ∙ ap (λ (l : List Relative). take n ks ++ l) (rest_back base ks (suc n)))
 
 -- what is behind the first record doesn't change the base
 base_inserted : (rs : List Record) (n : ℕ) (r : Record) → 0 < n → 0 < length rs → base_of (insert rs n r) ≡ base_of rs
@@ -201,10 +201,10 @@ base_removed rs zero later = absurd (omega arith)
 base_removed [] (suc n) later = refl
 base_removed (x ∷ xs) (suc n) later = refl
 
-pub refilled_as : (base : Pos) (ks : List Kept) (p : Piece) (rs : List Record) → ks ≡ map (kept_from base) rs → base_of rs ≡ base
+pub refilled_as : (base : Pos) (ks : List Relative) (p : Piece) (rs : List Record) → ks ≡ map (kept_from base) rs → base_of rs ≡ base
     → (let q : Piece = record { base = base; kept = ks; room = p.room } in q) ≡ refilled_piece rs p
 refilled_as base ks p rs kept_is base_is =
-    ap (λ (l : List Kept). let q : Piece = record { base = base; kept = l; room = p.room } in q) kept_is
+    ap (λ (l : List Relative). let q : Piece = record { base = base; kept = l; room = p.room } in q) kept_is
     ∙ sym (ap (λ (b : Pos). let q : Piece = record { base = b; kept = map (kept_from b) rs; room = p.room } in q) base_is)
 
 inserted_is : (n : ℕ) (r : Record) (p : Piece) → IsBased p → 0 < n → 0 < length p.kept → with_inserted n r p ≡ refilled_piece (insert (records_of p) n r) p
@@ -236,7 +236,7 @@ pub has_room : (r : Record) (p : Piece) → has_place r p ≡ true → length p.
 has_room r p has = grind (arith, nat_tests, (both_true (ltb (length p.kept) 64) (starts_before r p) has).0)
 
 -- where a record goes behind the first of a chunk
-behind_first : (r : Record) (base : Pos) (ks : List Kept) (n : ℕ) → base_of (map (placed_record base) ks) ≡ base → starts_before r (record { base = base; kept = ks; room = 0 }) ≡ true
+behind_first : (r : Record) (base : Pos) (ks : List Relative) (n : ℕ) → base_of (map (placed_record base) ks) ≡ base → starts_before r (record { base = base; kept = ks; room = 0 }) ≡ true
     → IsPartitionPoint (λ q. precedes q r ≡ true) (λ q. precedes q r ≡ false) (map (placed_record base) ks) n → (0 < n) × (0 < length ks)
 behind_first r base [] n based starts point = absurd (cc)
 behind_first r base (k ∷ ks) (suc n) based starts point = (omega arith, omega arith)
@@ -245,7 +245,7 @@ behind_first r base (k ∷ ks) zero based starts point =
     absurd (both_ways (precedes (placed_record base k) r) (point.1 0 (placed_record base k) (omega arith) (omega arith)) first)
 
 -- the place that was found among the kept records is that among the records
-pub point_placed : (base : Pos) (r : Record) (ks : List Kept) (n : ℕ) → n ≤ length ks
+pub point_placed : (base : Pos) (r : Record) (ks : List Relative) (n : ℕ) → n ≤ length ks
     → IsPartitionPoint (λ k. precedes (placed_record base k) r ≡ true) (λ k. precedes (placed_record base k) r ≡ false) ks n
     → IsPartitionPoint (λ q. precedes q r ≡ true) (λ q. precedes q r ≡ false) (map (placed_record base) ks) n
 point_placed base r ks n within point = (
@@ -255,8 +255,8 @@ point_placed base r ks n within point = (
       subst (λ (q : Record). precedes q r ≡ false) (sym (get_or-map (placed_record base) ks k no_kept d fits)) (point.1 k no_kept low fits),
 )
   where
-    no_kept : Kept
-    no_kept = record { by = record { rows = 0; cols = 0 }; info = record { ns = 0; id = 0; right = false; is_end = false; has_end = false; paint = None; priority = 0 } }
+    no_kept : Relative
+    no_kept = record { by = record { rows = 0; cols = 0 }; info = record { ns = 0; id = 0; right = false; is_end = false; has_end = false; paint = None; priority = 0; restore = false; invalidate = false; hidden = false; set = 0 } }
 
 pub put_in_place : (ps qs : List Piece) (n i : ℕ) (r : Record) → IsLaid ps → n < length ps → has_place r (get_or ps n no_piece) ≡ true
     → ForEach (λ x. precedes r x ≡ false) (held_records 0 n ps) → ForEach (λ x. precedes x r ≡ false) (spread_records (drop (n + 1) ps)) → IsNarrow r.pos

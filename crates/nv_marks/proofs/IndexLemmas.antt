@@ -1,7 +1,14 @@
 -- The names in an index.
-use Rattle.std.proofs.Common.{◌≡◌, ◌∙◌, refl, ap, sym, ℕ, List, [], ◌∷◌, Bool, true, false, not, ◌&&◌, ◌||◌, cond, arith, Option, Some, None}
-use Rattle.std.specs.Prelude.{is_some, option_map}
+use Rattle.std.proofs.Common.{◌≡◌, ◌∙◌, refl, ap, sym, ℕ, zero, suc, List, [], ◌∷◌, ◌++◌, take, Bool, true, false, not, ◌&&◌, ◌||◌, cond, eqb, arith, Option, Some, None}
+use Rattle.std.specs.Prelude.{IsSome, filter, is_some, option_map}
+use Rattle.std.specs.Ordering.{is_gt, is_lt}
+use Rattle.std.proofs.lemmas.Bool.{both_ways}
+use Rattle.std.proofs.lemmas.List.{append-nil}
+use Rattle.nv_places.specs.Places.{is_before}
+use Rattle.nv_marks.specs.Queries.{is_meant, is_selected, stops_from}
+use Rattle.nv_marks.specs.declared.query.Query.{Query}
 use Rattle.std.specs.BTreeMap.{BTreeMap, get, is_at, keys}
+use Rattle.std.specs.Map.{keys_of}
 use Rattle.std.proofs.lemmas.Map.Made.{is_some-lookup}
 use Rattle.std.proofs.lemmas.Grind.{common_steps}
 use Rattle.std.proofs.lemmas.Bool.Decides.{nat_tests}
@@ -10,7 +17,7 @@ use Rattle.nv_marks.specs.Marks.{is_named, mark_at, without}
 use Rattle.nv_marks.specs.declared.extmark.Mark.{Mark}
 use Rattle.nv_marks.specs.declared.index.Home.{Home}
 use Rattle.nv_marks.specs.inside.Chunks.{Piece, spread_records}
-use Rattle.nv_marks.specs.inside.Records.{marks_among}
+use Rattle.nv_marks.specs.inside.Records.{ForEach, marks_among}
 use Rattle.nv_marks.specs.inside.Names.{name_of, name_order, is_indexed, is_one_name, IsIndexOf}
 
 one_name : (ns id n i : ℕ) → is_at (name_order (name_of ns id)) (name_of n i) ≡ is_one_name ns id n i
@@ -132,3 +139,91 @@ left_again names more again ns id false was entered forgot same n i =
             let i_is : i ≡ id = grind (arith, nat_tests) in
             ap (λ (k : ℕ). is_indexed names k i) n_is ∙ ap (λ (k : ℕ). is_indexed names ns k) i_is ∙ was
     by_case false is = refl
+
+-- ---- a namespace that has no mark
+no_later : (ns id : ℕ) → is_gt (name_order (name_of ns id) (name_of ns 0)) ≡ false
+no_later ns id = grind (arith, common_steps, nat_tests)
+
+-- no name comes up to the last of the namespace
+pub none_up_to : (m : BTreeMap (ℕ × Reverse ℕ) Home) (ns : ℕ)
+    → ((q : ℕ × Reverse ℕ) → is_gt (name_order q (name_of ns 0)) ≡ false → get name_order m q ≡ None) → (id : ℕ) → is_indexed (keys m) ns id ≡ false
+none_up_to m ns none id = sym (known m ns id) ∙ ap is_some (none (name_of ns id) (no_later ns id))
+
+-- the last one that does is of another namespace
+pub last_other : (m : BTreeMap (ℕ × Reverse ℕ) Home) (ns : ℕ) (last : ℕ × Reverse ℕ) → eqb last.0 ns ≡ false → is_gt (name_order last (name_of ns 0)) ≡ false
+    → ((q : ℕ × Reverse ℕ) → is_gt (name_order q (name_of ns 0)) ≡ false → IsSome (get name_order m q) → is_lt (name_order last q) ≡ false)
+    → (id : ℕ) → is_indexed (keys m) ns id ≡ false
+last_other m ns last other upto greatest id = by_case (is_some (get name_order m (name_of ns id))) refl
+  where
+    before : is_lt (name_order last (name_of ns id)) ≡ true
+    before = grind (arith, common_steps, nat_tests)
+
+    by_case : (b : Bool) → is_some (get name_order m (name_of ns id)) ≡ b → is_indexed (keys m) ns id ≡ false
+    by_case true is = absurd (both_ways (is_lt (name_order last (name_of ns id))) (greatest (name_of ns id) (no_later ns id) is) before)
+    by_case false is = sym (known m ns id) ∙ is
+
+pub none_meant : (names : List (ℕ × Reverse ℕ)) (ms : List Mark) (ns : ℕ) → ((id : ℕ) → is_indexed names ns id ≡ false) → IsIndexOf names ms
+    → ForEach (λ m. eqb m.ns ns ≡ false) ms
+none_meant names ms ns none index = each ms (λ id. sym (index ns id) ∙ none id)
+  where
+    rest : (m : Mark) (ks : List Mark) (id : ℕ) (b : Bool) → is_some (cond b (Some m) (mark_at ks ns id)) ≡ false → is_some (mark_at ks ns id) ≡ false
+    rest m ks id true nothing = absurd cc
+    rest m ks id false nothing = nothing
+
+    other : (m : Mark) (ks : List Mark) → is_some (mark_at (m ∷ ks) ns m.id) ≡ false → (b : Bool) → eqb m.ns ns ≡ b → eqb m.ns ns ≡ false
+    other m ks nothing false is = is
+    other m ks nothing true is =
+        let here : is_named ns m.id m ≡ true = grind (arith, nat_tests) in
+        absurd (both_ways (is_some (mark_at (m ∷ ks) ns m.id)) nothing (ap (λ (b : Bool). is_some (cond b (Some m) (mark_at ks ns m.id))) here))
+
+    each : (ks : List Mark) → ((id : ℕ) → is_some (mark_at ks ns id) ≡ false) → ForEach (λ m. eqb m.ns ns ≡ false) ks
+    each [] nowhere = tt
+    each (m ∷ ks) nowhere =
+        (other m ks (nowhere m.id) (eqb m.ns ns) refl, each ks (λ id. rest m ks id (is_named ns id m) (nowhere id)))
+
+pub none_selected : (q : Query) (ms : List Mark) → ForEach (λ m. is_meant q.ns m.ns ≡ false) ms → filter (is_selected q) ms ≡ []
+none_selected q [] each = refl
+none_selected q (m ∷ ms) each =
+    ap (λ (b : Bool). cond (b && (not (is_before q.to m.start) && (not (is_before m.start q.from) || (q.reaching && stops_from q.from m.stop)))) (m ∷ filter (is_selected q) ms) (filter (is_selected q) ms)) each.0
+    ∙ none_selected q ms each.1
+
+pub select_none : (q : Query) (limit : ℕ) (ms had : List Mark) → ForEach (λ m. is_meant q.ns m.ns ≡ false) ms → had ≡ had ++ take limit (filter (is_selected q) ms)
+select_none q limit ms had each = sym (ap (λ (l : List Mark). had ++ take limit l) (none_selected q ms each) ∙ by_case limit)
+  where
+    by_case : (n : ℕ) → had ++ take {A = Mark} n [] ≡ had
+    by_case zero = append-nil had
+    by_case (suc n) = append-nil had
+
+-- ---- names of some namespaces
+pub kept_names : (q : ℕ → Bool) (m n : BTreeMap (ℕ × Reverse ℕ) Home) → n.entries ≡ filter (λ (e : (ℕ × Reverse ℕ) × Home). q e.0.0) m.entries
+    → (a i : ℕ) → is_indexed (keys n) a i ≡ (q a && is_indexed (keys m) a i)
+kept_names q m n is a i = ap (λ (es : List ((ℕ × Reverse ℕ) × Home)). is_indexed (keys_of es) a i) is ∙ of_entries m.entries
+  where
+    none : (b : Bool) → false ≡ (b && false)
+    none true = refl
+    none false = refl
+
+    same : (e : (ℕ × Reverse ℕ) × Home) → is_at (name_order (name_of a i)) e.0 ≡ true → q a ≡ q e.0.0
+    same e hit =
+        let one : is_one_name a i e.0.0 e.0.1.0 ≡ true = sym (one_name a i e.0.0 e.0.1.0) ∙ hit in
+        let ns_is : a ≡ e.0.0 = grind (arith, nat_tests, one) in
+        ap q ns_is
+
+    step : (e : (ℕ × Reverse ℕ) × Home) (es : List ((ℕ × Reverse ℕ) × Home))
+        → is_indexed (keys_of (filter (λ (f : (ℕ × Reverse ℕ) × Home). q f.0.0) es)) a i ≡ (q a && is_indexed (keys_of es) a i)
+        → (b : Bool) → q e.0.0 ≡ b → (c : Bool) → is_at (name_order (name_of a i)) e.0 ≡ c
+        → is_indexed (keys_of (cond b (e ∷ filter (λ (f : (ℕ × Reverse ℕ) × Home). q f.0.0) es) (filter (λ (f : (ℕ × Reverse ℕ) × Home). q f.0.0) es))) a i
+        ≡ (q a && (c || is_indexed (keys_of es) a i))
+    step e es rest true is_b true is_c =
+        ap (λ (x : Bool). x || is_indexed (keys_of (filter (λ (f : (ℕ × Reverse ℕ) × Home). q f.0.0) es)) a i) is_c
+        ∙ sym (ap (λ (x : Bool). x && true) (same e is_c ∙ is_b))
+    step e es rest true is_b false is_c =
+        ap (λ (x : Bool). x || is_indexed (keys_of (filter (λ (f : (ℕ × Reverse ℕ) × Home). q f.0.0) es)) a i) is_c ∙ rest
+    step e es rest false is_b true is_c =
+        rest ∙ ap (λ (x : Bool). x && is_indexed (keys_of es) a i) (same e is_c ∙ is_b) ∙ sym (ap (λ (x : Bool). x && true) (same e is_c ∙ is_b))
+    step e es rest false is_b false is_c = rest
+
+    of_entries : (es : List ((ℕ × Reverse ℕ) × Home))
+        → is_indexed (keys_of (filter (λ (e : (ℕ × Reverse ℕ) × Home). q e.0.0) es)) a i ≡ (q a && is_indexed (keys_of es) a i)
+    of_entries [] = none (q a)
+    of_entries (e ∷ es) = step e es (of_entries es) (q e.0.0) refl (is_at (name_order (name_of a i)) e.0) refl

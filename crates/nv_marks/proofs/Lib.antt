@@ -9,6 +9,7 @@ pub mod PlacesLemmas
 pub mod SpreadLemmas
 pub mod SpliceLemmas
 pub mod EditLemmas
+pub mod EmptyLemmas
 pub mod RemoveLemmas
 pub mod FindLemmas
 pub mod SwapLemmas
@@ -18,3 +19,11 @@ pub mod StoredLemmas
 pub mod IndexLemmas
 pub mod InPlaceLemmas
 pub mod GapLemmas
+pub mod RestoreLemmas
+pub mod StrikeLemmas
+pub mod KeepLemmas
+pub mod BandLemmas
+pub mod ListLemmas
+pub mod LooseLemmas
+pub mod LeftLemmas
+pub mod PackLemmas

@@ -1,5 +1,5 @@
 -- Marks and their records.
-use Rattle.std.proofs.Common.{◌≡◌, ◌≤◌, ◌<◌, ◌+◌, ◌-◌, ◌*◌, inl, inr, List, [], ◌∷◌, ◌++◌, ℕ, zero, suc, refl, ap, sym, ◌∙◌, append_assoc, length, length-append, get_or, map, arith, Bool, true, false, not, ◌&&◌, cond, eqb, subst, Option, Some, None}
+use Rattle.std.proofs.Common.{◌≡◌, ◌≤◌, ◌<◌, ◌+◌, ◌-◌, ◌*◌, inl, inr, List, [], ◌∷◌, ◌++◌, ℕ, zero, suc, refl, ap, sym, ◌∙◌, append_assoc, length, length-append, get_or, map, arith, Bool, true, false, not, ◌&&◌, ◌||◌, cond, eqb, subst, Option, Some, None}
 use Rattle.std.specs.Prelude.{IsPermutation, take, drop, filter, find, position, option_map, option_to_list, is_some, IfSome}
 use Rattle.std.specs.List.{IsDistinct}
 use Rattle.std.specs.Ordering.{is_lt}
@@ -13,7 +13,7 @@ use Rattle.std.proofs.lemmas.Map.Keys.{IsDistinct-head, IsDistinct-tail, IsDisti
 use Rattle.std.proofs.lemmas.List.Sorted.{IsPermutation-refl, IsPermutation-trans, IsPermutation-sym, IsPermutation-map, IsPermutation-cons, IsPermutation-append_comm, IsPermutation-append_right}
 use Rattle.nv_places.specs.declared.place.Pos.{Pos}
 use Rattle.nv_places.specs.declared.place.Extent.{Extent}
-use Rattle.nv_places.specs.Places.{IsNarrow}
+use Rattle.nv_places.specs.Places.{IsNarrow, is_before}
 use Rattle.nv_places.specs.Moves.{moved_place}
 use Rattle.nv_marks.specs.Marks.{is_named, mark_at, without}
 use Rattle.nv_marks.specs.Order.{mark_order, IsInOrder, is_within, starts_within}
@@ -24,12 +24,14 @@ use Rattle.nv_marks.specs.declared.extmark.Far.{Far}
 use Rattle.nv_marks.specs.declared.extmark.Mark.{Mark}
 use Rattle.nv_marks.specs.declared.record.Record.{Record}
 use Rattle.nv_marks.specs.inside.Records.{ForEach, Rises, Sort, place, precedes, moved_record, MovesInRange, has_key, is_key, same_key, belongs_to, is_start, far_in, end_among, mark_among, marks_among, start_record, end_record, records_of_mark, records_of_marks}
-use Rattle.nv_marks.specs.inside.Stored.{IsEndKnown, extended_list, listed_marks}
+use Rattle.nv_marks.specs.declared.query.Query.{Query}
+use Rattle.nv_marks.specs.Queries.{is_meant, is_selected, stops_from}
+use Rattle.nv_marks.specs.inside.Stored.{IsEndKnown, extended_list, first_start, listed_marks}
 use Rattle.nv_marks.proofs.NameLemmas.{find-All, find-map, find-permutation, find-none, filter-all, none_passes, others_fail, named_once}
 use Rattle.nv_marks.proofs.EachLemmas.{Each-append, Each-weaker, Each-always, Each-map, Each-permutation, Each-filter, All-from_each, Each-from_all, sorted_from_rises}
 use Rattle.nv_marks.proofs.SwapLemmas.{IsPermutation-flat, IsPermutation-filter}
-use Rattle.nv_marks.specs.declared.record.Kept.{Kept}
-use Rattle.nv_marks.specs.inside.Chunks.{Piece, records_of, spread_records, held_records, IsFoundAt}
+use Rattle.nv_marks.specs.declared.record.Relative.{Relative}
+use Rattle.nv_marks.specs.inside.Chunks.{Piece, records_of, spread_records, held_records, text_start, IsFoundAt}
 use Rattle.nv_marks.proofs.SpreadLemmas.{spread-append}
 use Rattle.nv_marks.proofs.EditLemmas.{at_split, held_one}
 use Rattle.nv_marks.proofs.FindLemmas.{find-behind, find-front, is_among}
@@ -234,7 +236,7 @@ twice_at_most (m ∷ ms) = omega (arith, twice_at_most ms, length-append (record
     of_mark (Some far) = omega arith
 
 -- ---- a mark goes
-find-kept : (u t : Record → Bool) → ((x : Record) → t x ≡ true → u x ≡ true) → (rs : List Record) → find t (filter u rs) ≡ find t rs
+pub find-kept : (u t : Record → Bool) → ((x : Record) → t x ≡ true → u x ≡ true) → (rs : List Record) → find t (filter u rs) ≡ find t rs
 find-kept u t passes [] = refl
 find-kept u t passes (r ∷ rs) = by_case (find-kept u t passes rs) (u r) refl (t r) refl
   where
@@ -591,19 +593,22 @@ filled-filled n had ys zs = elim (cases_lt (n - length had) (length ys)) [
       ∙ sym (ap (λ (l : List Mark). had ++ l) (ap (λ (k : ℕ). take k (ys ++ zs)) sum ∙ take-append-add ys zs (n - length had - length ys)))
 ]
 
-listed-append : (rs : List Record) (from to : Pos) (xs ys : List Record) → listed_marks rs from to (xs ++ ys) ≡ listed_marks rs from to xs ++ listed_marks rs from to ys
-listed-append rs from to xs ys =
-    ap (map (mark_among rs)) (filter-append (λ r. is_start r && is_within from to r.pos) xs ys)
-    ∙ map-append (mark_among rs) (filter (λ r. is_start r && is_within from to r.pos) xs) (filter (λ r. is_start r && is_within from to r.pos) ys)
+-- what is listed of two lists of records, one after the other
+listed-append : (rs : List Record) (q : Query) (xs ys : List Record) → listed_marks rs q (xs ++ ys) ≡ listed_marks rs q xs ++ listed_marks rs q ys
+listed-append rs q xs ys =
+    let t : Record → Bool = λ r. is_start r && is_within (first_start q) q.to r.pos in
+    ap (λ (l : List Record). filter (is_selected q) (map (mark_among rs) l)) (filter-append t xs ys)
+    ∙ ap (filter (is_selected q)) (map-append (mark_among rs) (filter t xs) (filter t ys))
+    ∙ filter-append (is_selected q) (map (mark_among rs) (filter t xs)) (map (mark_among rs) (filter t ys))
 
 -- a loop's step: what is listed_marks of some records and then of more
-pub list_more : (n : ℕ) (rs : List Record) (from to : Pos) (had now next : List Mark) (xs ys both : List Record)
-    → now ≡ extended_list n had (listed_marks rs from to xs) → next ≡ extended_list n now (listed_marks rs from to ys) → both ≡ xs ++ ys
-    → next ≡ extended_list n had (listed_marks rs from to both)
-list_more n rs from to had now next xs ys both so_far more is =
-    more ∙ ap (λ (l : List Mark). extended_list n l (listed_marks rs from to ys)) so_far
-    ∙ filled-filled n had (listed_marks rs from to xs) (listed_marks rs from to ys)
-    ∙ sym (ap (λ (l : List Record). extended_list n had (listed_marks rs from to l)) is ∙ ap (extended_list n had) (listed-append rs from to xs ys))
+pub list_more : (n : ℕ) (rs : List Record) (q : Query) (had now next : List Mark) (xs ys both : List Record)
+    → now ≡ extended_list n had (listed_marks rs q xs) → next ≡ extended_list n now (listed_marks rs q ys) → both ≡ xs ++ ys
+    → next ≡ extended_list n had (listed_marks rs q both)
+list_more n rs q had now next xs ys both so_far more is =
+    more ∙ ap (λ (l : List Mark). extended_list n l (listed_marks rs q ys)) so_far
+    ∙ filled-filled n had (listed_marks rs q xs) (listed_marks rs q ys)
+    ∙ sym (ap (λ (l : List Record). extended_list n had (listed_marks rs q l)) is ∙ ap (extended_list n had) (listed-append rs q xs ys))
 
 pub list_none : (n : ℕ) (had : List Mark) → had ≡ extended_list n had []
 list_none n had = by_case (n - length had)
@@ -617,13 +622,13 @@ list_full n had more full =
     let none : n - length had ≡ 0 = omega arith in
     sym (ap (λ (k : ℕ). had ++ take k more) none ∙ append-nil had)
 
-pub list_stop : (n : ℕ) (rs : List Record) (from to : Pos) (had now : List Mark) (xs ys all : List Record) → now ≡ extended_list n had (listed_marks rs from to xs)
-    → n ≤ length now → all ≡ xs ++ ys → now ≡ extended_list n had (listed_marks rs from to all)
-list_stop n rs from to had now xs ys all is full parts =
-    list_full n now (listed_marks rs from to ys) full
-    ∙ ap (λ (l : List Mark). extended_list n l (listed_marks rs from to ys)) is
-    ∙ filled-filled n had (listed_marks rs from to xs) (listed_marks rs from to ys)
-    ∙ ap (λ (l : List Mark). extended_list n had l) (sym (listed-append rs from to xs ys) ∙ ap (listed_marks rs from to) (sym parts))
+pub list_stop : (n : ℕ) (rs : List Record) (q : Query) (had now : List Mark) (xs ys all : List Record) → now ≡ extended_list n had (listed_marks rs q xs)
+    → n ≤ length now → all ≡ xs ++ ys → now ≡ extended_list n had (listed_marks rs q all)
+list_stop n rs q had now xs ys all is full parts =
+    list_full n now (listed_marks rs q ys) full
+    ∙ ap (λ (l : List Mark). extended_list n l (listed_marks rs q ys)) is
+    ∙ filled-filled n had (listed_marks rs q xs) (listed_marks rs q ys)
+    ∙ ap (λ (l : List Mark). extended_list n had l) (sym (listed-append rs q xs ys) ∙ ap (listed_marks rs q) (sym parts))
 
 pub list_push : (n : ℕ) (had : List Mark) (m : Mark) → length had < n → had ++ m ∷ [] ≡ extended_list n had (m ∷ [])
 list_push n had m room =
@@ -636,11 +641,11 @@ list_push n had m room =
 
 -- the marks within two places are the starts within them
 starts_listed : (rs : List Record) (from to : Pos) (xs : List Record)
-    → filter (starts_within from to) (map (mark_among rs) (filter is_start xs)) ≡ listed_marks rs from to xs
+    → filter (starts_within from to) (map (mark_among rs) (filter is_start xs)) ≡ map (mark_among rs) (filter (λ r. is_start r && is_within from to r.pos) xs)
 starts_listed rs from to [] = refl
 starts_listed rs from to (x ∷ xs) = by_case (starts_listed rs from to xs) x.info.is_end (is_within from to x.pos) refl
   where
-    by_case : filter (starts_within from to) (map (mark_among rs) (filter is_start xs)) ≡ listed_marks rs from to xs → (b c : Bool) → is_within from to x.pos ≡ c
+    by_case : filter (starts_within from to) (map (mark_among rs) (filter is_start xs)) ≡ map (mark_among rs) (filter (λ r. is_start r && is_within from to r.pos) xs) → (b c : Bool) → is_within from to x.pos ≡ c
         → filter (starts_within from to) (map (mark_among rs) (cond (not b) (x ∷ filter is_start xs) (filter is_start xs)))
         ≡ map (mark_among rs) (cond (not b && c) (x ∷ filter (λ r. is_start r && is_within from to r.pos) xs) (filter (λ r. is_start r && is_within from to r.pos) xs))
     by_case rest true c is = rest
@@ -662,15 +667,88 @@ two_tests from to (x ∷ xs) = by_case (two_tests from to xs) x.info.is_end refl
         rw start (ap (λ (l : List Record). x ∷ l) rest)
     by_case rest false is false = rest
 
-pub list_all : (rs : List Record) (from to : Pos) (xs ys : List Record)
-    → filter (λ r. is_within from to r.pos) xs ≡ filter (λ r. is_within from to r.pos) ys
-    → listed_marks rs from to xs ≡ filter (starts_within from to) (map (mark_among rs) (filter is_start ys))
-list_all rs from to xs ys same =
-    ap (map (mark_among rs)) (two_tests from to xs ∙ ap (filter is_start) same ∙ sym (two_tests from to ys)) ∙ sym (starts_listed rs from to ys)
+-- a mark that is asked for starts where it may
+selected_within : (q : Query) (m : Mark) → is_selected q m ≡ true → starts_within (first_start q) q.to m ≡ true
+selected_within q m is = by_case q.reaching is
+  where
+    none_before : (p : Pos) → is_before p text_start ≡ false
+    none_before p = grind (arith, nat_tests)
 
-pub list_same : (rs : List Record) (from to : Pos) (xs ys : List Record)
-    → filter (λ r. is_within from to r.pos) xs ≡ filter (λ r. is_within from to r.pos) ys → listed_marks rs from to xs ≡ listed_marks rs from to ys
-list_same rs from to xs ys same = list_all rs from to xs ys same ∙ sym (list_all rs from to ys ys refl)
+    up_to : (a b c : Bool) → (a && (not b && c)) ≡ true → not b ≡ true
+    up_to true true c holds = absurd cc
+    up_to true false c holds = refl
+    up_to false b c holds = absurd cc
+
+    from_up_to : (a b c : Bool) → (a && (not b && (not c || false))) ≡ true → (not c && not b) ≡ true
+    from_up_to true true c holds = absurd cc
+    from_up_to true false true holds = absurd cc
+    from_up_to true false false holds = refl
+    from_up_to false b c holds = absurd cc
+
+    by_case : (g : Bool)
+        → (is_meant q.ns m.ns && (not (is_before q.to m.start) && (not (is_before m.start q.from) || (g && stops_from q.from m.stop)))) ≡ true
+        → is_within (cond g text_start q.from) q.to m.start ≡ true
+    by_case true holds =
+        ap (λ (b : Bool). not b && not (is_before q.to m.start)) (none_before m.start)
+        ∙ up_to (is_meant q.ns m.ns) (is_before q.to m.start) (not (is_before m.start q.from) || stops_from q.from m.stop) holds
+    by_case false holds = from_up_to (is_meant q.ns m.ns) (is_before q.to m.start) (is_before m.start q.from) holds
+
+filter_implied : {X : Type 0} (p t : X → Bool) → ((x : X) → p x ≡ true → t x ≡ true) → (xs : List X) → filter p (filter t xs) ≡ filter p xs
+filter_implied p t implies [] = refl
+filter_implied p t implies (x ∷ xs) = by_case (filter_implied p t implies xs) (t x) refl (p x) refl
+  where
+    by_case : filter p (filter t xs) ≡ filter p xs → (b : Bool) → t x ≡ b → (c : Bool) → p x ≡ c
+        → filter p (cond b (x ∷ filter t xs) (filter t xs)) ≡ cond c (x ∷ filter p xs) (filter p xs)
+    by_case rest true is_b true is_c = rw is_c (ap (λ l. x ∷ l) rest)
+    by_case rest true is_b false is_c = rw is_c rest
+    by_case rest false is_b true is_c = absurd (both_ways (t x) is_b (implies x is_c))
+    by_case rest false is_b false is_c = rest
+
+pub list_all : (rs : List Record) (q : Query) (from : Pos) (xs ys : List Record) → from ≡ first_start q
+    → filter (λ r. is_within from q.to r.pos) xs ≡ filter (λ r. is_within from q.to r.pos) ys
+    → listed_marks rs q xs ≡ filter (is_selected q) (map (mark_among rs) (filter is_start ys))
+list_all rs q from xs ys is same =
+    let low : Pos = first_start q in
+    let alike : filter (λ r. is_within low q.to r.pos) xs ≡ filter (λ r. is_within low q.to r.pos) ys =
+    subst (λ (p : Pos). filter (λ (r : Record). is_within p q.to r.pos) xs ≡ filter (λ (r : Record). is_within p q.to r.pos) ys) is same in
+    ap (filter (is_selected q))
+    (ap (map (mark_among rs)) (two_tests low q.to xs ∙ ap (filter is_start) alike ∙ sym (two_tests low q.to ys)) ∙ sym (starts_listed rs low q.to ys))
+    ∙ filter_implied (is_selected q) (starts_within low q.to) (selected_within q) (map (mark_among rs) (filter is_start ys))
+
+pub list_same : (rs : List Record) (q : Query) (from : Pos) (xs ys : List Record) → from ≡ first_start q
+    → filter (λ r. is_within from q.to r.pos) xs ≡ filter (λ r. is_within from q.to r.pos) ys → listed_marks rs q xs ≡ listed_marks rs q ys
+list_same rs q from xs ys is same = list_all rs q from xs ys is same ∙ sym (list_all rs q from ys ys is refl)
+
+-- what is listed of one record
+module _ (n : ℕ) (rs : List Record) (q : Query) (had : List Mark) (r : Record) where
+  pub list_end : r.info.is_end ≡ true → had ≡ extended_list n had (listed_marks rs q (r ∷ []))
+  list_end is =
+      list_none n had
+      ∙ ap (λ (b : Bool). extended_list n had (filter (is_selected q) (map (mark_among rs) (cond (not b && is_within (first_start q) q.to r.pos) (r ∷ []) [])))) (sym is)
+
+  pub list_other : is_meant q.ns r.info.ns ≡ false → had ≡ extended_list n had (listed_marks rs q (r ∷ []))
+  list_other other = list_none n had ∙ ap (extended_list n had) (sym (by_case (is_start r && is_within (first_start q) q.to r.pos)))
+    where
+      unasked : is_selected q (mark_among rs r) ≡ false
+      unasked = ap (λ (b : Bool). b && (not (is_before q.to r.pos) && (not (is_before r.pos q.from) || (q.reaching && stops_from q.from (end_among rs r.info.ns r.info.id))))) other
+
+      by_case : (b : Bool) → filter (is_selected q) (map (mark_among rs) (cond b (r ∷ []) [])) ≡ []
+      by_case true = rw unasked refl
+      by_case false = refl
+
+  pub list_start : r.info.is_end ≡ false → is_within (first_start q) q.to r.pos ≡ true → (m : Mark) → m ≡ mark_among rs r → length had < n → (now : List Mark)
+      → now ≡ had ++ filter (is_selected q) (m ∷ []) → now ≡ extended_list n had (listed_marks rs q (r ∷ []))
+  list_start start within m is room now put =
+      put ∙ by_case (is_selected q m)
+      ∙ ap (λ (k : Mark). extended_list n had (filter (is_selected q) (k ∷ []))) is
+      ∙ ap (λ (b : Bool). extended_list n had (filter (is_selected q) (map (mark_among rs) (cond b (r ∷ []) [])))) (sym tests)
+    where
+      tests : is_start r && is_within (first_start q) q.to r.pos ≡ true
+      tests = ap (λ (b : Bool). not b && is_within (first_start q) q.to r.pos) start ∙ within
+
+      by_case : (b : Bool) → had ++ cond b (m ∷ []) [] ≡ extended_list n had (cond b (m ∷ []) [])
+      by_case true = list_push n had m room
+      by_case false = append-nil had ∙ list_none n had
 
 pub list_limit : (held limit : ℕ) (had more : List Mark) → held ≡ length had → extended_list (held + limit) had more ≡ had ++ take limit more
 list_limit held limit had more is =
@@ -685,7 +763,7 @@ filled_longer n had more now is = omega (arith, ap length is, length-append had 
 
 -- ---- a record looked for in one chunk
 pub found_here : (ns id : ℕ) (end : Bool) (ps : List Piece) (n : ℕ) (p : Piece) → n < length ps → p ≡ get_or ps n p → IsDistinct same_key (spread_records ps)
-    → (o : Option ℕ) → o ≡ position (λ (k : Kept). is_key ns id end k.info) p.kept → IfSome o (λ i. IsFoundAt (has_key ns id end) ps n i)
+    → (o : Option ℕ) → o ≡ position (λ (k : Relative). is_key ns id end k.info) p.kept → IfSome o (λ i. IsFoundAt (has_key ns id end) ps n i)
 found_here ns id end ps n p within here apart None is = tt
 found_here ns id end ps n p within here apart (Some i) is =
     let t : Record → Bool = has_key ns id end in
@@ -709,4 +787,4 @@ found_here ns id end ps n p within here apart (Some i) is =
     }
   where
     no_record : Record
-    no_record = record { pos = record { row = 0; col = 0 }; info = record { ns = 0; id = 0; right = false; is_end = false; has_end = false; paint = None; priority = 0 } }
+    no_record = record { pos = record { row = 0; col = 0 }; info = record { ns = 0; id = 0; right = false; is_end = false; has_end = false; paint = None; priority = 0; restore = false; invalidate = false; hidden = false; set = 0 } }

@@ -13,7 +13,7 @@ use Rattle.nv_places.specs.Moves.{moved_place}
 use Rattle.nv_marks.specs.Order.{is_within}
 use Rattle.nv_marks.specs.Cost.{count_within}
 use Rattle.nv_marks.specs.declared.record.Record.{Record}
-use Rattle.nv_marks.specs.declared.record.Kept.{Kept}
+use Rattle.nv_marks.specs.declared.record.Relative.{Relative}
 use Rattle.nv_marks.specs.inside.Records.{ForEach, Sort, place, precedes, moved_record, MovesInRange}
 use Rattle.nv_marks.specs.inside.Chunks.{Piece, IsTouched, placed_record, records_of, spread_records, base_of, IsFit, IsBased, Ample, IsLaid, starts_before, refilled_pieces, refit_pieces, carried_piece, pieces_carried_from}
 use Rattle.nv_marks.proofs.EachLemmas.{each_from, Each-append, Each-left, Each-right, Each-weaker, Each-map, Each-permutation, Each-take, Each-drop, Rises-left, Rises-right, Rises-cross}
@@ -21,11 +21,11 @@ use Rattle.nv_marks.proofs.PlacesLemmas.{follows, at_least, moved-before, moved-
 use Rattle.nv_marks.proofs.SpreadLemmas.{spread-append, length-records, from_base, spread_carried, all_carried_based, behind_all, refit_parts, carried_parts, spread_refilled, refills_based, sizes, rooms, fit_same, ample_same, sizes_refilled, rooms_refilled, sizes_carried, rooms_carried, in_order_again}
 
 -- ---- the first records of chunks
-abbrev pub heads : Pos → List Kept → Record → Record
+abbrev pub heads : Pos → List Relative → Record → Record
 heads base [] d = d
 heads base (k ∷ ks) d = record { pos = base; info = k.info }
 
-head_fact : (P : Record → Type 0) (base : Pos) (ks : List Kept) → 0 < length ks → base_of (map (placed_record base) ks) ≡ base
+head_fact : (P : Record → Type 0) (base : Pos) (ks : List Relative) → 0 < length ks → base_of (map (placed_record base) ks) ≡ base
     → ForEach P (map (placed_record base) ks) → (d : Record) → P (heads base ks d)
 head_fact P base [] some is each d = absurd (omega arith)
 head_fact P base (k ∷ ks) some is each d =
@@ -75,7 +75,7 @@ module _ (t : Piece → Bool)
       parts_by ps fit.1 based.1 (Rises-right precedes (records_of p) (spread_records ps) up) i j d (omega arith) (omega arith) passes
 
 -- what the heads say of the bases
-base_rises : (b b' : Pos) (ks ks' : List Kept) (d : Record) → 0 < length ks → 0 < length ks'
+base_rises : (b b' : Pos) (ks ks' : List Relative) (d : Record) → 0 < length ks → 0 < length ks'
     → precedes (heads b' ks' d) (heads b ks d) ≡ false → is_before b' b ≡ false
 base_rises b b' [] ks' d some some' not_before = absurd (omega arith)
 base_rises b b' (k ∷ ks) [] d some some' not_before = absurd (omega arith)
@@ -83,7 +83,7 @@ base_rises b b' (k ∷ ks) (k' ∷ ks') d some some' not_before =
     follows (record { pos = b'; info = k'.info }) (record { pos = b; info = k.info }) not_before
 
 default_record : Record
-default_record = record { pos = record { row = 0; col = 0 }; info = record { ns = 0; id = 0; right = false; is_end = false; has_end = false; paint = None; priority = 0 } }
+default_record = record { pos = record { row = 0; col = 0 }; info = record { ns = 0; id = 0; right = false; is_end = false; has_end = false; paint = None; priority = 0; restore = false; invalidate = false; hidden = false; set = 0 } }
 
 pub parts_before : (at : Pos) (ps : List Piece) → IsLaid ps → IsPartitionedBy (λ p. is_before p.base at) ps
 parts_before at ps laid = parts_by (λ p. is_before p.base at) down ps laid.fit laid.based laid.in_order
@@ -135,7 +135,7 @@ parts_to_row row ps laid = parts_by (λ p. leb p.base.row row) down ps laid.fit 
 starts_at : (r : Record) (p : Piece) (d : Record) → 0 < length p.kept → starts_before r p ≡ precedes (heads p.base p.kept d) r
 starts_at r p d some = by_kept p.kept some
   where
-    by_kept : (ks : List Kept) → 0 < length ks → starts_before r (record p { kept = ks }) ≡ precedes (heads p.base ks d) r
+    by_kept : (ks : List Relative) → 0 < length ks → starts_before r (record p { kept = ks }) ≡ precedes (heads p.base ks d) r
     by_kept [] some = absurd (omega arith)
     by_kept (k ∷ ks) some = refl
 
@@ -156,7 +156,7 @@ parts_below r ps laid = parts_by (λ p. starts_before r p) down ps laid.fit laid
             (sym (starts_at r q default_record fit_q.some) ∙ before))
 
 -- ---- which records lie where
-next_base : (base : Pos) (ks : List Kept) (rest : List Record) (x : Record) → 0 < length ks → base_of (map (placed_record base) ks) ≡ base
+next_base : (base : Pos) (ks : List Relative) (rest : List Record) (x : Record) → 0 < length ks → base_of (map (placed_record base) ks) ≡ base
     → ForEach (λ y. precedes y x ≡ false) (map (placed_record base) ks ++ rest) → is_before base x.pos ≡ false
 next_base base [] rest x some is each = absurd (omega arith)
 next_base base (k ∷ ks) rest x some is each =
@@ -343,7 +343,7 @@ module _ (start : Pos) (old new : Extent) (fs ms bs : List Piece) (rs : List Rec
       (Each-right (MovesInRange start old new) (spread_records ms) (spread_records bs) (Each-right (MovesInRange start old new) (spread_records fs) (spread_records ms ++ spread_records bs)
       (subst (λ (l : List Record). ForEach (MovesInRange start old new) l) (spread_parts fs ms bs) narrow)))
     where
-      one : (base : Pos) (ks : List Kept) → is_before (further start old) base ≡ true → 0 < length ks → base_of (map (placed_record base) ks) ≡ base
+      one : (base : Pos) (ks : List Relative) → is_before (further start old) base ≡ true → 0 < length ks → base_of (map (placed_record base) ks) ≡ base
           → ForEach (MovesInRange start old new) (map (placed_record base) ks) → IsNarrow (moved_place true start old new base)
       one base [] far some is fits = absurd (omega arith)
       one base (k ∷ ks) far some is fits =
@@ -559,7 +559,7 @@ module _ (start : Pos) (old new : Extent) (ps : List Piece) (from to : ℕ) (lai
       )
 
 -- ---- the place of one more record
-starts_before_it : (r x : Record) (base : Pos) (ks : List Kept) (rest : List Record) → 0 < length ks → base_of (map (placed_record base) ks) ≡ base
+starts_before_it : (r x : Record) (base : Pos) (ks : List Relative) (rest : List Record) → 0 < length ks → base_of (map (placed_record base) ks) ≡ base
     → starts_before r (record { base = base; kept = ks; room = 0 }) ≡ true → ForEach (λ y. precedes y x ≡ false) (map (placed_record base) ks ++ rest)
     → precedes r x ≡ false
 starts_before_it r x base [] rest some is starts each = absurd (omega arith)
@@ -588,7 +588,7 @@ place_front r ps (suc n) within laid before =
     subst (λ (k : ℕ). ForEach (λ x. precedes r x ≡ false) (spread_records (take k ps))) (sym less)
     (place_front_of r ps n within laid.fit laid.based laid.in_order before)
 
-behind_chunk : (r : Record) (base : Pos) (ks : List Kept) → base_of (map (placed_record base) ks) ≡ base
+behind_chunk : (r : Record) (base : Pos) (ks : List Relative) → base_of (map (placed_record base) ks) ≡ base
     → starts_before r (record { base = base; kept = ks; room = 0 }) ≡ false → Sort (map (placed_record base) ks)
     → ForEach (λ x. precedes x r ≡ false) (map (placed_record base) ks)
 behind_chunk r base [] is starts up = tt

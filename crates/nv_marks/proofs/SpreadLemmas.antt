@@ -7,7 +7,7 @@ use Rattle.nv_places.specs.declared.place.Extent.{Extent}
 use Rattle.nv_places.specs.Places.{further, is_before}
 use Rattle.nv_places.specs.Moves.{moved_place}
 use Rattle.nv_marks.specs.declared.record.Record.{Record}
-use Rattle.nv_marks.specs.declared.record.Kept.{Kept}
+use Rattle.nv_marks.specs.declared.record.Relative.{Relative}
 use Rattle.nv_marks.specs.inside.Records.{ForEach, Sort, precedes, moved_record}
 use Rattle.nv_marks.specs.inside.Chunks.{Piece, placed_record, kept_from, records_of, spread_records, base_of, refilled_piece, IsFit, IsBased, Ample, written_piece, refit_pieces, refilled_pieces, carried_piece, pieces_carried_from}
 use Rattle.nv_marks.proofs.EachLemmas.{Each-append, Each-left, Each-right, Each-weaker, Each-permutation, Rises-left, Rises-right, Rises-cross, Rises-append}
@@ -43,7 +43,7 @@ pub refilled_based : (p : Piece) (rs : List Record) → Sort rs → IsBased (ref
 refilled_based p rs up = ap base_of (read_back p rs up)
 
 -- ---- a base that moves carries its records along
-carry_each : (start : Pos) (old new : Extent) (base : Pos) (ks : List Kept) → is_before (further start old) base ≡ true
+carry_each : (start : Pos) (old new : Extent) (base : Pos) (ks : List Relative) → is_before (further start old) base ≡ true
     → map (placed_record (moved_place true start old new base)) ks ≡ map (moved_record start old new) (map (placed_record base) ks)
 carry_each start old new base [] behind = refl
 carry_each start old new base (k ∷ ks) behind =
@@ -60,7 +60,7 @@ spread_carried start old new (p ∷ ps) behind =
     ∙ ap (λ (l : List Record). map (moved_record start old new) (records_of p) ++ l) (spread_carried start old new ps behind.1)
     ∙ sym (map-append (moved_record start old new) (records_of p) (spread_records ps))
 
-carried_based : (start : Pos) (old new : Extent) (base : Pos) (ks : List Kept) → is_before (further start old) base ≡ true → 0 < length ks
+carried_based : (start : Pos) (old new : Extent) (base : Pos) (ks : List Relative) → is_before (further start old) base ≡ true → 0 < length ks
     → base_of (map (placed_record base) ks) ≡ base
     → base_of (map (placed_record (moved_place true start old new base)) ks) ≡ moved_place true start old new base
 carried_based start old new base [] behind some is = absurd (omega arith)
@@ -79,7 +79,7 @@ behind_all at [] behind = tt
 behind_all at (p ∷ ps) behind =
     Each-append (λ r. is_before at r.pos ≡ true) (records_of p) (spread_records ps) (of_chunk p.kept) (behind_all at ps behind.1)
   where
-    of_chunk : (ks : List Kept) → ForEach (λ r. is_before at r.pos ≡ true) (map (placed_record p.base) ks)
+    of_chunk : (ks : List Relative) → ForEach (λ r. is_before at r.pos ≡ true) (map (placed_record p.base) ks)
     of_chunk [] = tt
     of_chunk (k ∷ ks) = (behind_base at p.base k.by behind.0, of_chunk ks)
 
@@ -269,3 +269,8 @@ spread_front ps n =
       ap length (ap spread_records (sym (take-append-drop n ps)) ∙ spread-append (take n ps) (drop n ps)),
       length-append (spread_records (take n ps)) (spread_records (drop n ps)),
     )
+
+-- the records of a chunk by its two parts
+pub by_parts : (p q : Piece) (base : Pos) (ks : List Relative) → p ≡ q → base ≡ p.base → ks ≡ p.kept → records_of q ≡ map (placed_record base) ks
+by_parts p q base ks is base_is ks_is =
+    sym (ap (λ (b : Pos). map (placed_record b) ks) base_is ∙ ap (λ (l : List Relative). map (placed_record p.base) l) ks_is ∙ ap records_of is)

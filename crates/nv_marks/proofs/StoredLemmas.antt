@@ -172,6 +172,9 @@ pub room_with : (b : Bool) (marks now space : ℕ) → now ≡ cond b marks (mar
 room_with true marks now space is room = omega arith
 room_with false marks now space is room = omega arith
 
+pub room_less : (marks now space : ℕ) → now ≤ marks → scratch_room marks ≤ space → scratch_room now ≤ space
+room_less marks now space fewer room = omega (arith, fewer, room)
+
 -- the chunk that was found for a new mark stays the one, since nothing was taken out before
 pub chunk_stays : (chunk : Option ℕ) (found : Option Mark) (r : Record) (ps qs : List Piece) → IfSome chunk (λ at. (found ≡ None) × IsChunkFor r ps at)
     → (found ≡ None → qs ≡ ps) → IfSome chunk (λ at. IsChunkFor r qs at)

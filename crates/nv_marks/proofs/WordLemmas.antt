@@ -6,7 +6,7 @@ use Rattle.nv_places.specs.declared.place.Pos.{Pos}
 use Rattle.nv_places.specs.declared.place.Extent.{Extent}
 use Rattle.nv_places.specs.Moves.{moved_place}
 use Rattle.nv_marks.specs.declared.record.Record.{Record}
-use Rattle.nv_marks.specs.declared.record.Kept.{Kept}
+use Rattle.nv_marks.specs.declared.record.Relative.{Relative}
 use Rattle.nv_marks.specs.inside.Records.{ForEach}
 use Rattle.nv_marks.proofs.EachLemmas.{Each-drop}
 use Rattle.nv_marks.specs.inside.Chunks.{Piece, kept_from, refilled_piece, with_base, with_kept, pieces_edited_at, piece_written_from, written_piece, refit_pieces, pieces_carried_from}
@@ -72,31 +72,31 @@ write_none n [] ps none = sym (edited-same n (written_piece []) ps (λ p. refl))
 write_none n (r ∷ rs) ps none = absurd (omega arith)
 
 -- a chunk's records written_piece behind those that were written_piece
-written-parts : (done old : List Kept) (base : Pos) (room at : ℕ) (rs : List Record) → length done ≡ at → length old ≡ length rs
+written-parts : (done old : List Relative) (base : Pos) (room at : ℕ) (rs : List Record) → length done ≡ at → length old ≡ length rs
     → piece_written_from at base rs (record { base = base; kept = done ++ old; room = room })
     ≡ (let p : Piece = record { base = base; kept = done ++ map (kept_from base) rs; room = room } in p)
 written-parts done [] base room at [] is same = refl
 written-parts done [] base room at (r ∷ rs) is same = absurd (omega arith)
 written-parts done (k ∷ old) base room at [] is same = absurd (omega arith)
 written-parts done (k ∷ old) base room at (r ∷ rs) is same =
-    ap (λ (l : List Kept). piece_written_from (at + 1) base rs (record { base = base; kept = l; room = room }))
+    ap (λ (l : List Relative). piece_written_from (at + 1) base rs (record { base = base; kept = l; room = room }))
     (set_at done k old (kept_from base r) at is ∙ sym (append_assoc done (kept_from base r ∷ []) old))
     ∙ written-parts (done ++ kept_from base r ∷ []) old base room (at + 1) rs (omega (arith, length-append done (kept_from base r ∷ []))) (omega arith)
-    ∙ ap (λ (l : List Kept). let p : Piece = record { base = base; kept = l; room = room } in p)
+    ∙ ap (λ (l : List Relative). let p : Piece = record { base = base; kept = l; room = room } in p)
     (append_assoc done (kept_from base r ∷ []) (map (kept_from base) rs))
 
 -- the same where others stand behind
-pub written-midst : (done old rest : List Kept) (base : Pos) (room at : ℕ) (rs : List Record) → length done ≡ at → length old ≡ length rs
+pub written-midst : (done old rest : List Relative) (base : Pos) (room at : ℕ) (rs : List Record) → length done ≡ at → length old ≡ length rs
     → piece_written_from at base rs (record { base = base; kept = done ++ (old ++ rest); room = room })
     ≡ (let p : Piece = record { base = base; kept = done ++ (map (kept_from base) rs ++ rest); room = room } in p)
 written-midst done [] rest base room at [] is same = refl
 written-midst done [] rest base room at (r ∷ rs) is same = absurd (omega arith)
 written-midst done (k ∷ old) rest base room at [] is same = absurd (omega arith)
 written-midst done (k ∷ old) rest base room at (r ∷ rs) is same =
-    ap (λ (l : List Kept). piece_written_from (at + 1) base rs (record { base = base; kept = l; room = room }))
+    ap (λ (l : List Relative). piece_written_from (at + 1) base rs (record { base = base; kept = l; room = room }))
     (set_at done k (old ++ rest) (kept_from base r) at is ∙ sym (append_assoc done (kept_from base r ∷ []) (old ++ rest)))
     ∙ written-midst (done ++ kept_from base r ∷ []) old rest base room (at + 1) rs (omega (arith, length-append done (kept_from base r ∷ []))) (omega arith)
-    ∙ ap (λ (l : List Kept). let p : Piece = record { base = base; kept = l; room = room } in p)
+    ∙ ap (λ (l : List Relative). let p : Piece = record { base = base; kept = l; room = room } in p)
     (append_assoc done (kept_from base r ∷ []) (map (kept_from base) rs ++ rest))
 
 pub written_is : (rs : List Record) (p : Piece) → 0 < length rs → length p.kept ≡ length rs → written_piece rs p ≡ refilled_piece rs p
@@ -183,7 +183,7 @@ refit_last n to ps whole rs past so_far =
 pub part_fits : (rs part : List Record) (at size : ℕ) → at ≤ length rs → part ≡ take size (drop at rs) → at + length part ≤ length rs
 part_fits rs part at size within is = omega (arith, ap length is, length-take size (drop at rs), length-drop at rs)
 
-pub write_step : (n first at : ℕ) (base : Pos) (rs : List Record) (ps qs whole : List Piece) (d : Record) (k : Kept) → at < length rs
+pub write_step : (n first at : ℕ) (base : Pos) (rs : List Record) (ps qs whole : List Piece) (d : Record) (k : Relative) → at < length rs
     → k ≡ kept_from base (get_or rs at d) → qs ≡ pieces_edited_at n (with_kept (first + at) k) ps
     → pieces_edited_at n (piece_written_from (first + at) base (drop at rs)) ps ≡ whole
     → pieces_edited_at n (piece_written_from (first + (at + 1)) base (drop (at + 1) rs)) qs ≡ whole
@@ -191,7 +191,7 @@ write_step n first at base rs ps qs whole d k within kept put so_far =
     let next : first + (at + 1) ≡ first + at + 1 = omega arith in
     ap (λ (i : ℕ). pieces_edited_at n (piece_written_from i base (drop (at + 1) rs)) qs) next
     ∙ ap (λ (l : List Piece). pieces_edited_at n (piece_written_from (first + at + 1) base (drop (at + 1) rs)) l)
-    (put ∙ ap (λ (x : Kept). pieces_edited_at n (with_kept (first + at) x) ps) kept)
+    (put ∙ ap (λ (x : Relative). pieces_edited_at n (with_kept (first + at) x) ps) kept)
     ∙ write_more n first at base rs ps (get_or rs at d) within (get_or_default rs at d (get_or rs at d) within)
     ∙ so_far
 

@@ -1,8 +1,11 @@
 pub mod Bounds
 pub mod Cost
+pub mod Keeping
 pub mod Laws
 pub mod Marks
 pub mod Moves
 pub mod Order
+pub mod Queries
 pub mod Sound
+pub mod Striking
 pub mod inside

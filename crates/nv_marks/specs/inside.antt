@@ -2,3 +2,5 @@ pub mod Records
 pub mod Chunks
 pub mod Stored
 pub mod Names
+pub mod Restoring
+pub mod Bands

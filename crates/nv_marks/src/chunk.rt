@@ -1,12 +1,12 @@
 //! A chunk of records, with their places relative to the first of them.
 
-ghost use Rattle.nv_marks.specs.inside.Chunks.{IsGap, base_of, has_place, kept_from, placed_record, records_of, refilled_piece, starts_before, with_base, with_inserted, with_kept, with_removed};
+ghost use Rattle.nv_marks.specs.inside.Chunks.{IsGap, base_of, has_place, kept_from, placed_record, records_of, refilled_piece, starts_before, with_base, with_inserted, with_kept, with_record, with_removed, rebased_from};
 ghost use Rattle.nv_marks.specs.inside.Records.{ForEach, Sort, is_key, precedes};
 ghost use Rattle.nv_places.specs.Places.{IsNarrow};
 ghost use Rattle.std.specs.List.Sorted.{IsPartitionPoint};
 ghost use Rattle.std.specs.Prelude.{◌≡◌, ◌+◌, ◌<◌, ◌≤◌, ◌++◌, [], IfOk, IfSome, drop, false, length, map, position, slice_index_or, take, true, vec_capacity, vec_len};
 
-use crate::record::{Info, Kept, Record};
+use crate::record::{Info, Record, Relative};
 use nv_places::Pos;
 use std::alloc::{AllocError, Global};
 use std::marker::Model;
@@ -27,7 +27,7 @@ pub(crate) struct Chunk {
     /// By this an index names the chunk.
     number: usize,
     base: Pos,
-    kept: Vec<Kept>,
+    kept: Vec<Relative>,
 }
 
 impl Model for Chunk {
@@ -71,7 +71,7 @@ impl Chunk {
     }
 
     /// The records, as they are kept behind the base.
-    pub(crate) fn kept(&self) -> &[Kept]
+    pub(crate) fn kept(&self) -> &[Relative]
         ensures { result.now ≡ self.now.kept }
     {
         &self.kept
@@ -161,11 +161,25 @@ impl Chunk {
     }
 
     /// Puts a record in the place of the one that stands there.
-    pub(crate) fn put_kept(&mut self, at: usize, kept: Kept)
+    pub(crate) fn put_kept(&mut self, at: usize, kept: Relative)
         ensures { self.new ≡ with_kept at kept self.old }
     {
         if at < self.kept.len() {
             self.kept[at] = kept;
+        }
+    }
+
+    /// Puts a record, which may stand anywhere, in the place of the one that stands there. All are
+    /// kept behind the first place of a text then.
+    pub(crate) fn put_record(&mut self, at: usize, one: Record)
+        requires narrow { ForEach (λ r. IsNarrow r.pos) (records_of self.old) }
+        ensures { self.new ≡ with_record at one self.old }
+    {
+        let kept = self.kept.as_mut_slice();
+        rebase_all(self.base, kept);
+        self.base = Pos { row: 0, col: 0 };
+        if at < self.kept.len() {
+            self.kept[at] = one.kept_from(self.base);
         }
     }
 
@@ -217,7 +231,7 @@ impl Chunk {
 }
 
 /// How many records that are kept behind a base stand before `one` in order: these come first.
-fn count_below(base: Pos, kept: &[Kept], one: &Record) -> usize
+fn count_below(base: Pos, kept: &[Relative], one: &Record) -> usize
     requires in_order { Sort (map (placed_record base) kept.now) }
     ensures bound { result ≤ length kept.now }
     ensures point { IsPartitionPoint (λ r. precedes r one.now ≡ true)
@@ -228,7 +242,7 @@ fn count_below(base: Pos, kept: &[Kept], one: &Record) -> usize
 
 /// How many records that are kept behind a base stand before `start`, and how many behind `end` in
 /// its row, where none stands from `start` to `end` and the first one stays.
-fn gap_among(base: Pos, kept: &[Kept], start: Pos, end: Pos) -> Option<Gap>
+fn gap_among(base: Pos, kept: &[Relative], start: Pos, end: Pos) -> Option<Gap>
     requires in_order { Sort (map (placed_record base) kept.now) }
     ensures { IfSome result
         (λ g. IsGap start end (map (placed_record base) kept.now) g.first g.count) }
@@ -254,7 +268,7 @@ fn first_place(records: &[Record]) -> Pos
 }
 
 /// Puts records that are kept behind a base, with their places, behind what is in `into`.
-fn place_all(base: Pos, kept: &[Kept], into: &mut Vec<Record>)
+fn place_all(base: Pos, kept: &[Relative], into: &mut Vec<Record>)
     requires narrow { ForEach (λ r. IsNarrow r.pos) (map (placed_record base) kept.now) }
     requires room { vec_len into.old + length kept.now ≤ vec_capacity into.old }
     ensures items { into.new.items ≡ into.old.items ++ map (placed_record base) kept.now }
@@ -266,8 +280,18 @@ fn place_all(base: Pos, kept: &[Kept], into: &mut Vec<Record>)
     }
 }
 
+/// Keeps records that are kept behind a base behind the first place of a text.
+fn rebase_all(base: Pos, kept: &mut [Relative])
+    requires narrow { ForEach (λ r. IsNarrow r.pos) (map (placed_record base) kept.old) }
+    ensures { kept.new ≡ map (rebased_from base) kept.old }
+{
+    for one in kept.iter_mut() {
+        *one = one.placed(base).kept_from(Pos { row: 0, col: 0 });
+    }
+}
+
 /// Puts records, as they are kept behind a base, behind what is in `into`.
-fn keep_all(base: Pos, records: &[Record], into: &mut Vec<Kept>)
+fn keep_all(base: Pos, records: &[Record], into: &mut Vec<Relative>)
     requires room { vec_len into.old + length records.now ≤ vec_capacity into.old }
     ensures items { into.new.items ≡ into.old.items ++ map (kept_from base) records.now }
     ensures room { vec_capacity into.new ≡ vec_capacity into.old }

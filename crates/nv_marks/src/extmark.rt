@@ -31,4 +31,13 @@ pub struct Mark {
     pub paint: Option<Paint>,
     /// Of the marks that paint one place the one with the greatest priority counts most.
     pub priority: u32,
+    /// Whether undo and redo put it back where it stood.
+    pub restore: bool,
+    /// Whether it is struck when the text from its start to its end is removed: hidden with
+    /// `restore`, and else gone.
+    pub invalidate: bool,
+    /// Whether it was struck and not put back since.
+    pub hidden: bool,
+    /// The number of this setting among all of the set; `MarkSet::set` fills it in.
+    pub set: u64,
 }

@@ -1,9 +1,11 @@
 //! In which chunks the starts and ends of marks stand, by namespace and id.
 
+ghost use Rattle.nv_marks.specs.Queries.{is_meant};
 ghost use Rattle.nv_marks.specs.inside.Names.{is_indexed, is_one_name};
-ghost use Rattle.std.specs.Prelude.{◌≡◌, ◌&&◌, ◌||◌, ℕ, [], OnErr, OnOk, is_some, not};
+ghost use Rattle.std.specs.Prelude.{◌≡◌, ◌&&◌, ◌||◌, ℕ, [], OnErr, OnOk, false, is_some, not};
 
 use crate::chunk::Chunk;
+use crate::query::is_meant;
 use crate::record::{Info, Record};
 use std::alloc::{AllocError, Global};
 use std::cmp::Reverse;
@@ -75,6 +77,28 @@ impl Index {
         }
     }
 
+    /// Whether a namespace has a mark.
+    pub(crate) fn has_any(&self, ns: u32) -> bool
+        ensures { result ≡ false → (id : ℕ) → is_indexed self.now ns id ≡ false }
+    {
+        match self.homes.range(..=(ns, Reverse(0))).next_back() {
+            Some((name, _)) => name.0 == ns,
+            None => false,
+        }
+    }
+
+    /// Whether a namespace, or all, may have more than so many marks.
+    pub(crate) fn has_many(&self, meant: Option<u32>, most: usize) -> bool {
+        match meant {
+            Some(ns) => {
+                let first = (ns, Reverse(u32::MAX));
+                let last = (ns, Reverse(0));
+                self.homes.range(first..=last).nth(most).is_some()
+            }
+            None => true,
+        }
+    }
+
     /// Gives a namespace and id a home.
     pub(crate) fn enter(&mut self, ns: u32, id: u32, start: usize) -> Result<(), AllocError>
         ensures ok { OnOk result ((n i : ℕ) → is_indexed self.new n i
@@ -92,6 +116,14 @@ impl Index {
             ≡ (not (is_one_name ns id n i) && is_indexed self.old n i) }
     {
         let _ = self.homes.remove(&(ns, Reverse(id)));
+    }
+
+    /// Takes the homes of a namespace, or of all, away.
+    pub(crate) fn forget_all(&mut self, meant: Option<u32>)
+        ensures { (n i : ℕ) → is_indexed self.new n i
+            ≡ (not (is_meant meant n) && is_indexed self.old n i) }
+    {
+        self.homes.retain(|name, _| !is_meant(meant, name.0));
     }
 
     /// Notes that the chunk of a number has a start or an end.

@@ -67,6 +67,18 @@ pub(crate) fn mark_of(store: &Store, start: Record, near: usize) -> Mark
     mark_with_stop(start, stop)
 }
 
+/// The mark of a start, with its end if it has one.
+pub(crate) fn mark_from(store: &Store, index: &Index, start: Record) -> Mark
+    requires laid { IsLaid store.now.chunks.items }
+    requires once { IsDistinct same_key (spread_records store.now.chunks.items) }
+    requires end { start.info.has_end
+        ≡ is_some (end_among (spread_records store.now.chunks.items) start.info.ns start.info.id) }
+    ensures { result ≡ mark_among (spread_records store.now.chunks.items) start }
+{
+    let near = index.place_of(start.info.ns, start.info.id, true);
+    mark_of(store, start, near)
+}
+
 /// The mark of a start, with an end that was found.
 pub(crate) fn mark_with_stop(start: Record, stop: Option<Far>) -> Mark
     ensures { result ≡ mark_with_stop start stop }
@@ -79,6 +91,10 @@ pub(crate) fn mark_with_stop(start: Record, stop: Option<Far>) -> Mark
         stop,
         paint: start.info.paint,
         priority: start.info.priority,
+        restore: start.info.restore,
+        invalidate: start.info.invalidate,
+        hidden: start.info.hidden,
+        set: start.info.set,
     }
 }
 
@@ -267,6 +283,10 @@ fn start_record(mark: &Mark) -> Record
             has_end: mark.stop.is_some(),
             paint: mark.paint,
             priority: mark.priority,
+            restore: mark.restore,
+            invalidate: mark.invalidate,
+            hidden: mark.hidden,
+            set: mark.set,
         },
     }
 }
@@ -285,6 +305,10 @@ fn end_record(mark: &Mark, far: Far) -> Record
             has_end: false,
             paint: None,
             priority: 0,
+            restore: false,
+            invalidate: false,
+            hidden: false,
+            set: 0,
         },
     }
 }

@@ -2,10 +2,12 @@
 
 ghost use Rattle.nv_marks.specs.inside.Chunks.{kept_from, placed_record, reach};
 ghost use Rattle.nv_marks.specs.inside.Records.{MovesInRange, is_key, moved_record, precedes};
+ghost use Rattle.nv_marks.specs.inside.Restoring.{record_put_back};
 ghost use Rattle.nv_places.specs.Places.{IsNarrow, further, is_before};
 ghost use Rattle.std.specs.Prelude.{◌≡◌, nat_le};
 
-use crate::extmark::{Far, Mark, Paint};
+use crate::extmark::Paint;
+use crate::keeping::Kept;
 use nv_places::{Extent, Pos};
 
 /// What a splice leaves as it is in a record.
@@ -20,6 +22,11 @@ pub(crate) struct Info {
     pub has_end: bool,
     pub paint: Option<Paint>,
     pub priority: u32,
+    /// At a start, as the three below: what the mark has under these names.
+    pub restore: bool,
+    pub invalidate: bool,
+    pub hidden: bool,
+    pub set: u64,
 }
 
 /// A record with its place.
@@ -31,7 +38,7 @@ pub(crate) struct Record {
 
 /// A record as a chunk keeps it, with its distance from the chunk's base.
 #[derive(Clone, Copy, Debug, PartialEq, Eq)]
-pub(crate) struct Kept {
+pub(crate) struct Relative {
     pub by: Extent,
     pub info: Info,
 }
@@ -88,18 +95,42 @@ impl Record {
         }
     }
 
+    /// This record with what was kept of its mark put back, if it is of that mark.
+    pub(crate) fn put_back(self, kept: &Kept) -> Record
+        ensures put { result ≡ record_put_back kept.now self }
+        ensures narrow { IsNarrow result.pos }
+    {
+        let Info { ns, id, is_end, .. } = self.info;
+        if ns != kept.ns || id != kept.id {
+            return self;
+        }
+        let place = if is_end { kept.stop } else { kept.start };
+        let hidden = if is_end {
+            self.info.hidden
+        } else {
+            kept.hidden
+        };
+        Record {
+            pos: place.unwrap_or(self.pos),
+            info: Info {
+                hidden,
+                ..self.info
+            },
+        }
+    }
+
     /// This record as a chunk keeps it that begins at `base`.
-    pub(crate) fn kept_from(self, base: Pos) -> Kept
+    pub(crate) fn kept_from(self, base: Pos) -> Relative
         ensures { result ≡ kept_from base self }
     {
-        Kept {
+        Relative {
             by: distance(base, self.pos),
             info: self.info,
         }
     }
 }
 
-impl Kept {
+impl Relative {
     /// This record, kept by a chunk that begins at `base`, with its place.
     pub(crate) fn placed(self, base: Pos) -> Record
         requires { IsNarrow (further base self.by) }
@@ -113,7 +144,7 @@ impl Kept {
 
     /// Row and column of this record, kept by a chunk that begins at `base`, as numbers that have
     /// room for each sum.
-    fn wide_place(&self, base: Pos) -> (u64, u64)
+    pub(crate) fn wide_place(&self, base: Pos) -> (u64, u64)
         ensures row { result.0 ≡ (further base self.now.by).row }
         ensures col { result.1 ≡ (further base self.now.by).col }
     {

@@ -1,7 +1,6 @@
 -- Edits of rows as splices of the flat text, told and taken back alike.
 use Rattle.std.proofs.Common.{◌≡◌, ℕ, ℤ, pos, ◌+◌, ◌-◌, ◌+ℤ◌, List, [], ◌∷◌, ◌++◌, length, take, drop, fold, refl, ap, sym, ◌∙◌, arith, All, Bool, cond, subst}
 use Rattle.std.proofs.lemmas.Int.{ints}
-use Rattle.std.proofs.lemmas.Bool.Decides.{nat_tests}
 use Rattle.std.proofs.lemmas.List.{length-take, length-drop, drop-drop, take-append-drop, reverse-append}
 use Rattle.std.proofs.lemmas.List.Elements.{All-append, All-take, All-drop}
 use Rattle.nv_places.specs.Flat.{flat, IsLine, lines_of}
@@ -9,14 +8,14 @@ use Rattle.nv_places.specs.Places.{place_of, end_of, extent_of, row_count}
 use Rattle.nv_places.proofs.FlatLemmas.{lines_of-flat}
 use Rattle.nv_places.proofs.PlaceLemmas.{row_count-append, row_count-flat}
 use Rattle.nv_buffer.specs.Content.{event_at, events_from}
-use Rattle.nv_buffer.specs.Changes.{Replaces, each_inverse, lines_after, inverse_edit, inverse_edits}
+use Rattle.nv_buffer.specs.Changes.{turned_part, Replaces, each_inverse, lines_after, inverse_edit, inverse_edits}
 use Rattle.nv_buffer.specs.declared.edit.Edit.{Edit}
 use Rattle.nv_buffer.specs.declared.buffer.Spliced.{Spliced}
 use Rattle.nv_buffer.proofs.WayBack.{splice-back, length-spliced}
 use Rattle.nv_model.specs.Buffers.{Splice, text_after, inverse_splice, inverse_splices, splice_event, splice_events}
 use Rattle.nv_model.specs.Standing.{splice_of, splices_of, IsWithin, AreWithin, IsEditOf, AreEditsOf}
 use Rattle.nv_model.proofs.Telling.{fold-append}
-use Rattle.nv_model.proofs.Splicing.{splices-push, edits-push, lines_put}
+use Rattle.nv_model.proofs.BytesPut.{splices-push, edits-push, lines_put}
 
 -- ---- the flat text after an edit
 pub flat-edit : (t : List (List ℕ)) (e : Edit) → IsEditOf t e → flat (lines_after t e) ≡ text_after (flat t) (splice_of t e)
@@ -80,6 +79,7 @@ told-edit t e z tick z_is lines is =
         removed = removed i;
         put = reach i;
         rows = e.rows;
+        part = e.part;
       };
     }
   where
@@ -125,7 +125,7 @@ inverse-splice t e lines is =
     ∙ ap (λ (n : ℕ). take n (drop e.at (flat t))) (omega arith) in
     let until : e.at + e.new ≡ e.at + length (take e.new (drop e.at (flat (lines_after t e)))) =
     omega (arith, is.bytes.put, length-take e.new (drop e.at (flat (lines_after t e))), length-drop e.at (flat (lines_after t e))) in
-    λ i. record { from = e.at; until = until i; bytes = bytes i; rows = e.rows }
+    λ i. record { from = e.at; until = until i; bytes = bytes i; rows = e.rows; part = turned_part e.part }
 
 -- the row behind, of the bytes and of an inverse
 row_behind_told : (rows : Bool) (last row : ℕ) → last ≡ row + cond rows 0 1 → (behind after : ℕ) → after + last ≡ behind + row

@@ -1,88 +1,72 @@
 -- A leg in the tree of a buffer keeps what stands for it.
-use Rattle.std.proofs.Common.{◌≡◌, ℕ, ℤ, suc, pos, ◌+◌, ◌-◌, ◌+ℤ◌, ◌<◌, List, [], ◌∷◌, ◌++◌, length, take, drop, map, fold, refl, ap, sym, ◌∙◌, append_assoc, length-append, arith, All, true, subst, Option, Some}
+use Rattle.std.proofs.Common.{◌≡◌, ℕ, ℤ, suc, pos, ◌+◌, ◌-◌, ◌+ℤ◌, ◌<◌, ◌≤◌, List, [], ◌∷◌, ◌++◌, length, take, drop, map, filter, fold, refl, ap, sym, ◌∙◌, append_assoc, length-append, arith, All, true, subst, Option, Some}
 use Rattle.std.specs.Option.{option_map_or}
-use Rattle.std.specs.Prelude.{option_map, slice_set, unwrap_or}
+use Rattle.std.specs.Prelude.{option_map, option_to_list, slice_set, unwrap_or}
 use Rattle.std.proofs.lemmas.Int.{ints}
 use Rattle.std.proofs.lemmas.List.{append-nil}
 use Rattle.nv_places.specs.Flat.{flat, IsLine}
-use Rattle.nv_places.specs.Places.{extent_of}
-use Rattle.nv_marks.specs.Marks.{Marks, greatest_id}
-use Rattle.nv_marks.specs.Moves.{moved_mark}
+use Rattle.nv_places.specs.Places.{extent_of, place_of}
+use Rattle.nv_marks.specs.Marks.{greatest_id}
 use Rattle.nv_marks.specs.Order.{IsInOrder}
-use Rattle.nv_buffer.specs.Marks.{marks_in_order, marks_after}
-use Rattle.nv_buffer.proofs.MarkOrders.{in_order_is}
-use Rattle.nv_marks.specs.declared.extmark.Mark.{Mark}
-use Rattle.nv_undo.specs.Tree.{Undo, tree_of, IsTree, parent_of, change_of, tree_after_leg}
+use Rattle.nv_marks.specs.declared.keeping.Kept.{Kept as KeptMark}
+use Rattle.nv_undo.specs.Tree.{Undo, tree_of, IsTree, last, numbered, parent_of, change_of, tree_after_leg}
 use Rattle.nv_undo.specs.declared.legs.Leg.{Leg}
 use Rattle.nv_undo.specs.declared.legs.Leg.TheVariants.{Back, Ahead}
-use Rattle.nv_undo.proofs.NumberLemmas.{numbered_same}
+use Rattle.nv_undo.proofs.NumberLemmas.{numbered_same, parent_some, some_numbered}
 use Rattle.nv_undo.proofs.StepLemmas.{back_tree, child_tree}
-use Rattle.nv_buffer.specs.Content.{Content, events_from}
+use Rattle.nv_buffer.specs.Content.{Content, after_edit, events_from}
 use Rattle.nv_buffer.specs.Changes.{text_at, first_text, leg_edits, lines_after}
+use Rattle.nv_buffer.specs.KeptMarks.{kept_at}
 use Rattle.nv_undo.specs.Ways.{origin, IsNext}
+use Rattle.nv_buffer.specs.declared.edit.ChangePart.{ChangePart}
 use Rattle.nv_buffer.specs.declared.edit.Edit.{Edit}
 use Rattle.nv_buffer.proofs.KeptTexts.{text_at-same}
-use Rattle.nv_model.specs.Buffers.{Splice, SetMark, Kept, ModelBuffer, text_after, inverse_splice, splice_events, text_of, tick_of, kept_text, with_splice_back}
-use Rattle.nv_model.specs.Undoing.{leg_splices}
-use Rattle.nv_model.specs.Standing.{splice_of, splices_of, IsEditOf, kept_changes, kept_undo, AreWithin, LeadTo, IsSetIn, IsValid, AreEditsOf, IsChangeOf, StandsFor}
+use Rattle.nv_model.specs.Buffers.{Splice, SetMark, Kept, KeptState, ModelBuffer, text_after, inverse_splice, splice_events, text_of, tick_of, last_kept, state_now, mark_of, marks_there, kept_text, with_splice_back}
+use Rattle.nv_model.specs.Undoing.{leg_splices, splices_at}
+use Rattle.nv_model.specs.Standing.{splice_of, splices_of, IsEditOf, kept_changes, kept_undo, AreNumbered, AreWithin, IsKeptBy, LeadTo, IsSetIn, IsValid, AreEditsOf, IsChangeOf, StandsFor, is_kept_of, kept_mark_of, text_met}
 use Rattle.nv_model.specs.Keeping.{IsLegGone, with_leg, LegIsKept}
 use Rattle.nv_model.proofs.Telling.{fold-append}
-use Rattle.nv_model.proofs.MarkOrders.{order_through}
-use Rattle.nv_model.proofs.Moving.{mark_in, move, marks-more, all-in-more}
-use Rattle.nv_model.proofs.Edits.{flat-edit, flat-edits, within-edits, told-edits}
-use Rattle.nv_model.proofs.Trees.{parent-kept, text-kept, length-splices, IsLeg, leg_is, lines-at}
+use Rattle.nv_model.proofs.Edits.{flat-edit, flat-edits, lines-edit, within-edits, told-edits}
+use Rattle.nv_model.proofs.LegGone.{IsLegMet, leg_met_ahead, leg_met_back, parts-of}
+use Rattle.nv_model.proofs.LegParts.{AllMeet, AreParts, all_meet}
+use Rattle.nv_model.proofs.Stepping.{IsStep, MarksAlike, marks_stand, standing_marks}
+use Rattle.nv_model.proofs.Trees.{parent-kept, text-kept, IsLeg, is_at, leg_is, length-splices, lines-at}
 
--- ---- marks after splices one after another
--- marks moved by a splice of this text
-pub record AreMoved (text : List ℕ) (s : Splice) (before later : Marks) : Type 0 where
-  pub marks : IsInOrder (map (move text s) before.marks) later.marks
-  pub greatest : later.greatest ≡ before.greatest
-
--- and by splices made one after another from this text on
-abbrev pub AreMovedBy : List ℕ → List Splice → Marks → Marks → Type 0
-AreMovedBy text [] before later = later ≡ before
-AreMovedBy text (s ∷ ss) before later =
-    (middle : Marks) × AreMoved text s before middle × AreMovedBy (text_after text s) ss middle later
-
-moved-edit : (t : List (List ℕ)) (e : Edit) (marks : Marks) → IsEditOf t e → AreMoved (flat t) (splice_of t e) marks (marks_after marks e)
-moved-edit t e marks is =
-    let moves : List Mark = map (move (flat t) (splice_of t e)) marks.marks in
+-- ---- marks after edits one after another
+-- an edit of a buffer is a step
+step-edit : (b : Content) (m : ModelBuffer) (e : Edit) → MarksAlike b m → IsEditOf b.text e
+    → ((k : SetMark) (x : KeptState) → last_kept e.part (state_now m k).kept ≡ Some x
+    → text_met e.part [] m.first m.splices ≡ text_after (text_of m) (splice_of b.text e))
+    → IsStep b m (splice_of b.text e) e
+step-edit b m e is of met =
     let count : e.old ≡ e.at + e.old - e.at = omega arith in
-    let removed : e.removed ≡ extent_of (inverse_splice (flat t) (splice_of t e)).bytes =
-    is.placed.removed ∙ ap (λ (n : ℕ). extent_of (take n (drop e.at (flat t)))) count in
-    let same : marks_in_order moves ≡ (marks_after marks e).marks =
-    λ i. marks_in_order (map (moved_mark (sym is.placed.start i) (sym removed i) (sym is.placed.put i)) marks.marks) in record {
-      marks = subst (λ (l : List Mark). IsInOrder moves l) same (in_order_is moves);
-      greatest = refl;
+    let removed : e.removed ≡ extent_of (inverse_splice (flat b.text) (splice_of b.text e)).bytes =
+    of.placed.removed ∙ ap (λ (n : ℕ). extent_of (take n (drop e.at (flat b.text)))) count in
+    record {
+      within = record { order = omega arith; within = omega (arith, of.bytes.removed, ap length is.text) };
+      start = of.placed.start ∙ ap (λ (t : List ℕ). place_of t e.at) is.text;
+      removed = removed ∙ ap (λ (t : List ℕ). extent_of (inverse_splice t (splice_of b.text e)).bytes) is.text;
+      put = of.placed.put;
+      part = refl;
+      text = flat-edit b.text e of ∙ ap (λ (t : List ℕ). text_after t (splice_of b.text e)) is.text;
+      lines = lines-edit b.text e is.lines of;
+      met = met;
     }
 
-moved-edits : (t : List (List ℕ)) (es : List Edit) (marks later : Marks) → AreEditsOf t es → later ≡ fold marks_after marks es
-    → AreMovedBy (flat t) (splices_of t es) marks later
-moved-edits t [] marks later are is = is
-moved-edits t (e ∷ es) marks later are is = (
-  marks_after marks e,
-  moved-edit t e marks are.0,
-  subst (λ (bs : List ℕ). AreMovedBy bs (splices_of (lines_after t e) es) (marks_after marks e) later) (flat-edit t e are.0)
-      (moved-edits (lines_after t e) es (marks_after marks e) later are.1 is),
-)
+pub marks-run : (es : List Edit) (b : Content) (m : ModelBuffer) → MarksAlike b m → AreEditsOf b.text es
+    → AllMeet m.first m.splices (splices_of b.text es)
+    → MarksAlike (fold after_edit b es) (fold (λ (x : ModelBuffer) (s : Splice). with_splice_back s x) m (splices_of b.text es))
+unfolding text_of
+marks-run [] b m is are meet = is
+marks-run (e ∷ es) b m is are meet =
+    marks-run es (after_edit b e) (with_splice_back (splice_of b.text e) m)
+    (marks_stand b m (splice_of b.text e) e is (step-edit b m e is are.0 meet.0)) are.1 meet.1
 
-pub record AreNow (text : List ℕ) (ss : List Splice) (ks : List SetMark) (marks : Marks) : Type 0 where
-  pub marks_are : IsInOrder (map (mark_in text ss) ks) marks.marks
-  pub within : All (IsSetIn text ss) ks
-
-pub marks-run : (text : List ℕ) (ss more : List Splice) (ks : List SetMark) (b l : Marks) → AreWithin text more → AreNow text ss ks b
-    → AreMovedBy text more b l → AreNow (fold text_after text more) (ss ++ more) ks l × (l.greatest ≡ b.greatest)
-marks-run text ss [] ks b l are now moved =
-    (subst (λ (x : Marks). AreNow text (ss ++ []) ks x) (sym moved) (subst (λ (l : List Splice). AreNow text l ks b) (sym (append-nil ss)) now), ap (λ (x : Marks). x.greatest) moved)
-marks-run text ss (s ∷ more) ks b l are now moved =
-    let next : AreNow (text_after text s) (ss ++ s ∷ []) ks moved.0 = record {
-      marks_are =
-          subst (λ (ms : List Mark). IsInOrder ms moved.0.marks) (sym (marks-more text ss s ks are.0 now.within))
-          (order_through (move text s) (map (mark_in text ss) ks) b.marks moved.0.marks now.marks_are moved.1.marks);
-      within = all-in-more text ss s ks are.0 now.within;
-    } in
-    let rest = marks-run (text_after text s) (ss ++ s ∷ []) more ks moved.0 l are.1 next moved.2 in
-    (subst (λ (x : List Splice). AreNow (fold text_after (text_after text s) more) x ks l) (append_assoc ss (s ∷ []) more) rest.0, rest.1 ∙ moved.1.greatest)
+-- what edits leave of the ids and of the numbers of settings
+kept-edits : (es : List Edit) (b : Content)
+    → ((fold after_edit b es).marks.greatest ≡ b.marks.greatest) × ((fold after_edit b es).marks.settings ≡ b.marks.settings)
+kept-edits [] b = (refl, refl)
+kept-edits (e ∷ es) b = kept-edits es (after_edit b e)
 
 -- ---- a buffer of the model after splices of no open change
 back_all : (ss : List Splice) (m : ModelBuffer)
@@ -171,11 +155,13 @@ module _ (b later : Content) (leg : Leg) (m : ModelBuffer) (go : IsLegGone b lat
       ∙ ap (λ (t : List (List ℕ)). fold text_after (flat t) (splices_of t (leg_edits b.undo leg))) (sym now_at)
       ∙ (λ i. fold text_after (is.text i) (edits_are i))
 
+  some_splices : 0 < length (leg_splices m.first m.undo leg)
+  some_splices = subst (λ (ss : List Splice). 0 < length ss) edits_are (subst (λ (t : List (List ℕ)). 0 < length (splices_of t (leg_edits b.undo leg))) (sym now_at) the_leg.some)
+
   final_is : with_leg leg m ≡ spread leg m
   final_is =
       ap (λ (x : ModelBuffer). record x { undo = tree_after_leg leg m.undo })
-      (back_some (leg_splices m.first m.undo leg) m
-      (subst (λ (ss : List Splice). 0 < length ss) edits_are (subst (λ (t : List (List ℕ)). 0 < length (splices_of t (leg_edits b.undo leg))) (sym now_at) the_leg.some)))
+      (back_some (leg_splices m.first m.undo leg) m some_splices)
 
   text_is : text_of (spread leg m)
       ≡ fold text_after (text_of m) (leg_splices m.first m.undo leg)
@@ -187,18 +173,71 @@ module _ (b later : Content) (leg : Leg) (m : ModelBuffer) (go : IsLegGone b lat
       ap (λ (c : Content). c.text) go.content
       ∙ text_at-same (tree_after_leg leg b.undo) b.undo (tree_after_leg leg b.undo).current (gone_changes leg b.undo)
 
-  moved_are : AreMovedBy (flat b.text) (splices_of b.text (leg_edits b.undo leg)) b.marks later.marks
-  moved_are =
-      moved-edits b.text (leg_edits b.undo leg) b.marks later.marks
-      (subst (λ (t : List (List ℕ)). AreEditsOf t (leg_edits b.undo leg)) (sym now_at) the_leg.edits) (ap (λ (c : Content). c.marks) go.content)
+  none_now : m.unsealed ≡ []
+  none_now = sym is.unsealed ∙ ap (splices_of (text_at b.undo b.undo.current)) go.closed
 
-  marks_are : AreNow (fold text_after (text_of m) (leg_splices m.first m.undo leg)) (m.splices ++ leg_splices m.first m.undo leg) m.marks later.marks
-      × (later.marks.greatest ≡ b.marks.greatest)
-  marks_are =
-      marks-run (text_of m) m.splices (leg_splices m.first m.undo leg) m.marks b.marks later.marks within
-      (record { marks_are = is.marks; within = is.valid.marks })
-      (subst (λ (ss : List Splice). AreMovedBy (text_of m) ss b.marks later.marks) edits_are
-      (subst (λ (t : List ℕ). AreMovedBy t (splices_of b.text (leg_edits b.undo leg)) b.marks later.marks) is.text moved_are))
+  -- the parts of the change of a leg are numbered
+  parts_at : (n : ℕ) (c : ℕ × List Edit) → numbered b.undo n ≡ Some c → AreParts n 0 (splices_at m.undo n)
+  parts_at n c here =
+      subst (λ (u : Undo Kept). AreParts n 0 (splices_at u n)) is.undo
+      (subst (λ (ss : List Splice). AreParts n 0 ss) (sym (is_at b.undo n c here).splices)
+      (parts-of (text_at b.undo c.0) n 0 c.1 (is.numbered n c.1 (ap (option_map (λ (d : ℕ × List Edit). d.1)) here))))
+
+  met_by : (g : Leg) → leg ≡ g → IsNext b.undo g → IsLegMet m g
+  met_by (Ahead n) same next =
+      let here = parent_some b.undo n b.undo.current next in
+      leg_met_ahead m is.valid none_now n
+      (subst (λ (u : Undo Kept). parent_of u n ≡ Some u.current) is.undo (parent-kept b.undo n ∙ next)) (parts_at n here.0 here.1)
+  met_by (Back n) same next =
+      let now : b.undo.current ≡ m.undo.current = ap (λ (u : Undo Kept). u.current) is.undo in
+      let here = some_numbered b.undo b.undo.current (omega (arith, next.0, next.1)) is.tree.within in
+      let there = some_numbered m.undo m.undo.current (omega (arith, next.0, next.1, now)) is.valid.tree.within in
+      let splices : splices_at m.undo m.undo.current ≡ there.0.1.splices =
+      ap (λ (o : Option (ℕ × Kept)). option_map_or (λ (k : Kept). k.splices) (option_map (λ (c : ℕ × Kept). c.1) o) []) there.1 in
+      let text : kept_text m.first m.undo m.undo.current ≡ there.0.1.text =
+      ap (λ (o : Option (ℕ × Kept)). option_map_or (λ (k : Kept). k.text) (option_map (λ (c : ℕ × Kept). c.1) o) m.first) there.1 in
+      let leads = is.valid.changes m.undo.current there.0 there.1 in
+      subst (λ (k : ℕ). IsLegMet m (Back k)) (sym (next.0 ∙ now))
+      (leg_met_back m is.valid none_now there.0.0 (ap (option_map (λ (c : ℕ × Kept). c.0)) there.1)
+      (subst (λ (k : ℕ). AreParts k 0 (splices_at m.undo k)) now (parts_at b.undo.current here.0 here.1))
+      (subst (λ (t : List ℕ). LeadTo (kept_text m.first m.undo there.0.0) (splices_at m.undo m.undo.current) t) (sym text)
+      (subst (λ (ss : List Splice). LeadTo (kept_text m.first m.undo there.0.0) ss there.0.1.text) (sym splices) leads)))
+
+  is_met : IsLegMet m leg
+  is_met = met_by leg refl go.next
+
+  all_met : AllMeet m.first m.splices (leg_splices m.first m.undo leg)
+  unfolding text_of
+  all_met =
+      subst (λ (ss : List Splice). AllMeet m.first ss (leg_splices m.first m.undo leg)) (append-nil m.splices)
+      (all_meet m [] (leg_splices m.first m.undo leg) is_met.meets)
+
+  runs : MarksAlike (fold after_edit b (leg_edits b.undo leg)) (record m { splices = m.splices ++ leg_splices m.first m.undo leg; modified = true })
+  runs =
+      subst (λ (x : ModelBuffer). MarksAlike (fold after_edit b (leg_edits b.undo leg)) x)
+      (ap (fold (λ (x : ModelBuffer) (s : Splice). with_splice_back s x) m) edits_are
+      ∙ back_some (leg_splices m.first m.undo leg) m some_splices)
+      (marks-run (leg_edits b.undo leg) b m (standing_marks b m is)
+      (subst (λ (t : List (List ℕ)). AreEditsOf t (leg_edits b.undo leg)) (sym now_at) the_leg.edits)
+      (subst (λ (ss : List Splice). AllMeet m.first m.splices ss) (sym edits_are) all_met))
+
+  marks_now : IsInOrder (map (mark_of (spread leg m)) (marks_there (spread leg m))) later.marks.marks
+  unfolding text_of
+  marks_now = subst (λ (c : Content). IsInOrder (map (mark_of (spread leg m)) (marks_there (spread leg m))) c.marks.marks) (sym go.content) runs.marks
+
+  kept_now_by : (part : ChangePart) → IsKeptBy later (spread leg m) part
+  unfolding text_of
+  kept_now_by part = record {
+    each =
+        subst (λ (c : Content). All (λ (k : SetMark). filter (is_kept_of k) (kept_at c.kept part)
+        ≡ option_to_list (option_map (kept_mark_of (text_met part [] m.first (m.splices ++ leg_splices m.first m.undo leg)) k) (last_kept part (state_now (spread leg m) k).kept)))
+        (marks_there (spread leg m))) (sym go.content) (runs.kept part).each;
+    made = subst (λ (c : Content). All (λ (x : KeptMark). x.set ≤ m.settings) (kept_at c.kept part)) (sym go.content) (runs.kept part).made;
+  }
+
+  set_now_in : All (IsSetIn (text_of (spread leg m)) (m.splices ++ leg_splices m.first m.undo leg)) m.marks
+  unfolding text_of
+  set_now_in = runs.set
 
   count : length (leg_splices m.first m.undo leg) ≡ length (leg_edits b.undo leg)
   count = ap length (sym edits_are) ∙ length-splices b.text (leg_edits b.undo leg)
@@ -241,17 +280,16 @@ module _ (b later : Content) (leg : Leg) (m : ModelBuffer) (go : IsLegGone b lat
     changes = λ n c here.
         subst (λ (t : List ℕ). LeadTo t c.1.splices c.1.text) (sym (numbers_same c.0))
         (is.valid.changes n c (sym (numbered_same (tree_after_leg leg m.undo) m.undo (gone_changes leg m.undo) n) ∙ here));
-    since = subst (λ (ss : List Splice). LeadTo (kept_text m.first (tree_after_leg leg m.undo) (tree_after_leg leg m.undo).current) ss (text_of (spread leg m))) none_open
+    since = subst (λ (ss : List Splice). LeadTo (kept_text m.first (tree_after_leg leg m.undo) (tree_after_leg leg m.undo).current) ss (text_of (spread leg m))) (sym none_now)
         (record { within = tt; makes = kept_now ∙ sym text_is });
     named = is.valid.named;
-    marks = subst (λ (t : List ℕ). All (IsSetIn t (m.splices ++ leg_splices m.first m.undo leg)) m.marks) (sym text_is) marks_are.0.within;
+    marks = set_now_in;
+    settings = is.valid.settings;
+    parts = is_met.parts;
   }
     where
       in_all : AreWithin (fold text_after m.first m.splices) (leg_splices m.first m.undo leg)
       in_all = unfold text_of in within
-
-      none_open : [] ≡ m.unsealed
-      none_open = sym (ap (splices_of (text_at b.undo b.undo.current)) go.closed) ∙ is.unsealed
 
   stands_later : StandsFor later (spread leg m)
   stands_later = record {
@@ -259,8 +297,13 @@ module _ (b later : Content) (leg : Leg) (m : ModelBuffer) (go : IsLegGone b lat
     text = ap flat text_later ∙ arrives ∙ sym text_is;
     lines = subst (λ (t : List (List ℕ)). All IsLine t) (sym text_later) (lines-at b.undo is.tree is.changes (tree_after_leg leg b.undo).current the_leg.within);
     tick = tick_later;
-    marks = subst (λ (t : List ℕ). IsInOrder (map (mark_in t (m.splices ++ leg_splices m.first m.undo leg)) m.marks) later.marks.marks) (sym text_is) marks_are.0.marks_are;
-    greatest = λ ns. ap (λ (g : List (ℕ × ℕ)). greatest_id g ns) marks_are.1 ∙ is.greatest ns;
+    marks = marks_now;
+    settings = ap (λ (c : Content). c.marks.settings) go.content ∙ (kept-edits (leg_edits b.undo leg) b).1 ∙ is.settings;
+    kept = kept_now_by;
+    greatest = λ ns.
+        ap (λ (c : Content). greatest_id c.marks.greatest ns) go.content
+        ∙ ap (λ (g : List (ℕ × ℕ)). greatest_id g ns) (kept-edits (leg_edits b.undo leg) b).0
+        ∙ is.greatest ns;
     tree = subst (λ (u : Undo (List Edit)). IsTree u) (sym undo_later) (gone_tree leg b.undo is.tree (next_parent b.undo leg go.next));
     undo = ap kept_undo undo_later ∙ gone_kept leg b.undo ∙ ap (tree_after_leg leg) is.undo;
     unsealed =
@@ -275,8 +318,12 @@ module _ (b later : Content) (leg : Leg) (m : ModelBuffer) (go : IsLegGone b lat
     edits =
         subst (λ (c : Content). AreEditsOf (text_at c.undo c.undo.current) c.unsealed) (sym go.content)
         (subst (λ (es : List Edit). AreEditsOf (text_at (tree_after_leg leg b.undo) (tree_after_leg leg b.undo).current) es) (sym go.closed) tt);
+    parts =
+        subst (λ (c : Content). AreNumbered (suc (last c.undo)) 0 c.unsealed) (sym go.content)
+        (subst (λ (es : List Edit). AreNumbered (suc (last (tree_after_leg leg b.undo))) 0 es) (sym go.closed) tt);
     changes = subst (λ (u : Undo (List Edit)). (n : ℕ) (es : List Edit) → change_of u n ≡ Some es → IsChangeOf (text_at u (origin u n)) es)
         (sym undo_later) changes_later;
+    numbered = subst (λ (u : Undo (List Edit)). (n : ℕ) (es : List Edit) → change_of u n ≡ Some es → AreNumbered n 0 es) (sym undo_later) numbered_later;
     name = ap (λ (c : Content). c.name) go.content ∙ is.name;
     modifiable = ap (λ (c : Content). c.modifiable) go.content ∙ is.modifiable;
     modified = ap (λ (c : Content). c.modified) go.content;
@@ -285,6 +332,10 @@ module _ (b later : Content) (leg : Leg) (m : ModelBuffer) (go : IsLegGone b lat
     valid = valid_later;
   }
     where
+      numbered_later : (n : ℕ) (es : List Edit) → change_of (tree_after_leg leg b.undo) n ≡ Some es → AreNumbered n 0 es
+      numbered_later n es here =
+          is.numbered n es (sym (ap (option_map (λ (c : ℕ × List Edit). c.1)) (numbered_same (tree_after_leg leg b.undo) b.undo (gone_changes leg b.undo) n)) ∙ here)
+
       changes_later : (n : ℕ) (es : List Edit) → change_of (tree_after_leg leg b.undo) n ≡ Some es → IsChangeOf (text_at (tree_after_leg leg b.undo) (origin (tree_after_leg leg b.undo) n)) es
       changes_later n es here =
           let number = numbered_same (tree_after_leg leg b.undo) b.undo (gone_changes leg b.undo) n in

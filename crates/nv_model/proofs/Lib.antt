@@ -2,10 +2,18 @@ pub mod Lookups
 pub mod Growing
 pub mod Numbering
 pub mod Telling
+pub mod Behind
+pub mod PartsKept
+pub mod OfMark
+pub mod KeptPlaces
 pub mod Texts
 pub mod MarkOrders
 pub mod Seeing
 pub mod Moving
+pub mod Stepping
+pub mod PartsNext
+pub mod PartsSealed
+pub mod BytesPut
 pub mod Splicing
 pub mod Sealing
 pub mod Marking
@@ -13,6 +21,8 @@ pub mod Options
 pub mod Changing
 pub mod Edits
 pub mod Trees
+pub mod LegParts
+pub mod LegGone
 pub mod Legs
 pub mod Told
 pub mod Gone

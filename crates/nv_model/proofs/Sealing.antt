@@ -1,7 +1,6 @@
 -- Closing the open change of a buffer keeps what stands for it.
 use Rattle.std.proofs.Common.{◌≡◌, ℕ, suc, ◌+◌, ◌<◌, ◌≤◌, List, [], ◌∷◌, ◌++◌, length, refl, ap, sym, ◌∙◌, arith, All, subst, Option, Some, inl, inr}
 use Rattle.std.specs.Prelude.{slice_set, option_map, unwrap_or}
-use Rattle.std.specs.Option.{option_map_or}
 use Rattle.std.proofs.lemmas.Bool.{cases_eq}
 use Rattle.std.proofs.lemmas.List.Elements.{All-head, All-tail}
 use Rattle.std.proofs.lemmas.Option.{same_Some, slice_get-get_or}
@@ -15,8 +14,9 @@ use Rattle.nv_undo.specs.Ways.{origin}
 use Rattle.nv_buffer.specs.declared.edit.Edit.{Edit}
 use Rattle.nv_buffer.proofs.KeptTexts.{numbered-of, text_at-stays, text_at-pushed}
 use Rattle.nv_model.specs.Buffers.{Splice, Kept, ModelBuffer, text_of, kept_text, closed_with, with_seal}
-use Rattle.nv_model.specs.Standing.{splices_of, kept_change, kept_changes, kept_undo, LeadTo, IsChangeOf, StandsFor}
+use Rattle.nv_model.specs.Standing.{splices_of, kept_change, kept_changes, kept_undo, AreNumbered, LeadTo, IsChangeOf, StandsFor}
 use Rattle.nv_model.specs.Keeping.{SealIsKept}
+use Rattle.nv_model.proofs.PartsSealed.{number_made, numbers_stay, parts_sealed}
 
 -- ---- the trees
 pub length-kept : (undo : Undo (List Edit)) (n : ℕ) (changes : List (ℕ × List Edit)) → length (kept_changes undo n changes) ≡ length changes
@@ -49,15 +49,7 @@ parents_low undo tree i d low =
     let below = tree.below (suc i) _ (ap (option_map (λ (c : ℕ × List Edit). c.0)) here) in
     omega arith
 
--- ---- texts kept
-numbers_stay : (k : Kept) (first : List ℕ) (undo : Undo Kept) (n : ℕ) → n ≤ last undo → kept_text first (pushed k undo) n ≡ kept_text first undo n
-numbers_stay k first undo n low =
-    ap (λ (o : Option (ℕ × Kept)). option_map_or (λ (c : Kept). c.text) (option_map (λ (c : ℕ × Kept). c.1) o) first) (numbered-old k undo n low)
-
-number_made : (k : Kept) (first : List ℕ) (undo : Undo Kept) → kept_text first (pushed k undo) (suc (last undo)) ≡ k.text
-number_made k first undo =
-    ap (λ (o : Option (ℕ × Kept)). option_map_or (λ (c : Kept). c.text) (option_map (λ (c : ℕ × Kept). c.1) o) first) (numbered-new k undo)
-
+-- ---- changes
 -- each change goes on leading from its parent's text to its own once one more is made
 changes_lead : (k : Kept) (first : List ℕ) (undo : Undo Kept) → IsTree undo
     → ((n : ℕ) (c : ℕ × Kept) → numbered undo n ≡ Some c → LeadTo (kept_text first undo c.0) c.1.splices c.1.text)
@@ -100,6 +92,25 @@ edits_stay undo edits tree are since n es here =
           subst (λ (t : List (List ℕ)). IsChangeOf t es)
           (ap (text_at undo) parent ∙ sym (text_at-stays undo edits (origin (pushed edits undo) n) (omega arith)))
           (are n es change)
+          )
+    ]
+
+-- and the edits of each change stay numbered
+numbered_stay : (undo : Undo (List Edit)) (edits : List Edit) → ((n : ℕ) (es : List Edit) → change_of undo n ≡ Some es → AreNumbered n 0 es)
+    → AreNumbered (suc (last undo)) 0 edits → (n : ℕ) (es : List Edit) → change_of (pushed edits undo) n ≡ Some es → AreNumbered n 0 es
+numbered_stay undo edits are since n es here =
+    let at : numbered (pushed edits undo) n ≡ Some (origin (pushed edits undo) n, es) = numbered-of (pushed edits undo) n es here in
+    elim (cases_eq n (suc (last undo))) [
+      | inl same ↦ (
+          let there : (undo.current, edits) ≡ (origin (pushed edits undo) n, es) =
+          same_Some (undo.current, edits) (origin (pushed edits undo) n, es) (sym (numbered-new edits undo) ∙ ap (numbered (pushed edits undo)) (sym same) ∙ at) in
+          subst (λ (k : ℕ). AreNumbered k 0 es) (sym same)
+          (subst (λ (d : ℕ × List Edit). AreNumbered (suc (last undo)) 0 d.1) there since)
+          )
+      | inr other ↦ (
+          let low : n ≤ last undo = omega (arith, (within_numbered (pushed edits undo) n (origin (pushed edits undo) n, es) at).1, last-pushed edits undo) in
+          let there : numbered undo n ≡ Some (origin (pushed edits undo) n, es) = sym (numbered-old edits undo n low) ∙ at in
+          are n es (ap (option_map (λ (d : ℕ × List Edit). d.1)) there)
           )
     ]
 
@@ -149,12 +160,16 @@ module _ (b : Content) (m : ModelBuffer) (is : StandsFor b m) where
     lines = is.lines;
     tick = is.tick;
     marks = is.marks;
+    settings = is.settings;
+    kept = λ part. record { each = (is.kept part).each; made = (is.kept part).made };
     greatest = is.greatest;
     tree = push_tree b.unsealed b.undo is.tree;
     undo = trees_agree k k_is;
     unsealed = refl;
     since = is.since ∙ sym (text_at-pushed b.undo b.unsealed);
     edits = tt;
+    parts = tt;
+    numbered = numbered_stay b.undo b.unsealed is.numbered is.parts;
     changes = edits_stay b.undo b.unsealed is.tree is.changes (record { some = some; edits = is.edits });
     name = is.name;
     modifiable = is.modifiable;
@@ -168,6 +183,8 @@ module _ (b : Content) (m : ModelBuffer) (is : StandsFor b m) where
       since = record { within = tt; makes = number_made k m.first m.undo ∙ ap (λ (x : Kept). x.text) k_is };
       named = is.valid.named;
       marks = is.valid.marks;
+      settings = is.valid.settings;
+      parts = parts_sealed k m k_is is.valid.tree is.valid.parts;
     };
   }
     where

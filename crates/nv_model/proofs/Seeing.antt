@@ -1,23 +1,41 @@
 -- What is seen of an editor is what is seen of the model that it stands for.
-use Rattle.std.proofs.Common.{◌≡◌, map, refl, ap, sym, ◌∙◌, Option, Some, None}
+use Rattle.std.proofs.Common.{◌≡◌, ℕ, suc, List, [], ◌∷◌, length, map, false, refl, ap, sym, ◌∙◌, Option, Some, None}
 use Rattle.std.specs.Prelude.{option_map, nat_abs}
 use Rattle.nv_places.specs.Flat.{lines_of}
 use Rattle.nv_places.proofs.FlatLemmas.{lines_of-flat}
 use Rattle.nv_marks.proofs.UniqueLemmas.{order_is_unique}
-use Rattle.nv_buffer.specs.Content.{Content}
-use Rattle.nv_model.specs.Buffers.{ModelBuffer, text_of, tick_of, mark_of, marks_of}
+use Rattle.nv_buffer.specs.Content.{Content, next_part}
+use Rattle.nv_buffer.specs.Changes.{text_at}
+use Rattle.nv_buffer.specs.declared.edit.Edit.{Edit}
+use Rattle.nv_undo.specs.Tree.{Undo, last}
+use Rattle.nv_model.specs.Buffers.{ModelBuffer, text_of, tick_of, mark_of, marks_there, marks_of, part_next}
 use Rattle.nv_model.specs.Editors.{at_handle}
 use Rattle.nv_model.specs.Seen.{seen_buffer}
-use Rattle.nv_model.specs.Standing.{StandsFor, Both, seen_buffer_now}
+use Rattle.nv_model.specs.Standing.{StandsFor, Both, kept_changes, kept_undo, seen_buffer_now}
 use Rattle.nv_model.specs.Keeping.{SeenIsSame}
-use Rattle.nv_model.proofs.MarkOrders.{names_apart}
+use Rattle.nv_model.proofs.MarkOrders.{there_apart}
+use Rattle.nv_model.proofs.Trees.{length-splices}
 use Rattle.nv_buffer.proofs.MarkOrders.{in_order_is}
 
 pub marks_same : (b : Content) (m : ModelBuffer) → StandsFor b m → b.marks.marks ≡ marks_of m
 unfolding marks_of
 marks_same b m is =
-    order_is_unique (map (mark_of m) m.marks) b.marks.marks (marks_of m) (names_apart m m.marks is.valid.named) is.marks
-    (in_order_is (map (mark_of m) m.marks))
+    order_is_unique (map (mark_of m) (marks_there m)) b.marks.marks (marks_of m) (there_apart m is.valid.named) is.marks
+    (in_order_is (map (mark_of m) (marks_there m)))
+
+-- the next part of the open change
+pub next_same : (b : Content) (m : ModelBuffer) → StandsFor b m → next_part b ≡ part_next m
+next_same b m is =
+    let changes : last b.undo ≡ last m.undo = last-kept b.undo ∙ ap last is.undo in
+    let since : length b.unsealed ≡ length m.unsealed = sym (length-splices (text_at b.undo b.undo.current) b.unsealed) ∙ ap length is.unsealed in
+    λ i. record { change = suc (changes i); part = since i; back = false }
+  where
+    length-kept : (undo : Undo (List Edit)) (n : ℕ) (changes : List (ℕ × List Edit)) → length (kept_changes undo n changes) ≡ length changes
+    length-kept undo n [] = refl
+    length-kept undo n (c ∷ cs) = ap (λ (k : ℕ). suc k) (length-kept undo (suc n) cs)
+
+    last-kept : (undo : Undo (List Edit)) → last undo ≡ last (kept_undo undo)
+    last-kept undo = sym (length-kept undo 1 undo.changes)
 
 buffer_same : (b : Content) (m : ModelBuffer) → StandsFor b m → seen_buffer_now b ≡ seen_buffer m
 buffer_same b m is =
@@ -25,14 +43,17 @@ buffer_same b m is =
     let tick : nat_abs b.tick ≡ tick_of m = ap nat_abs is.tick in
     let marks : b.marks.marks ≡ marks_of m = marks_same b m is in
     let first = sym is.first in
+    let next : next_part b ≡ part_next m = next_same b m is in
     λ i. record {
       lines = lines i;
       tick = tick i;
       marks = marks i;
+      settings = is.settings i;
       greatest = λ ns. is.greatest ns i;
       first = first i;
       undo = is.undo i;
       unsealed = is.unsealed i;
+      next = next i;
       name = is.name i;
       modifiable = is.modifiable i;
       modified = is.modified i;

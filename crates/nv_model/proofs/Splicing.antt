@@ -1,90 +1,33 @@
 -- A splice of a buffer keeps what stands for it, and is told as the model tells it.
-use Rattle.std.proofs.Common.{◌≡◌, ℕ, ℤ, pos, ◌+◌, ◌-◌, ◌+ℤ◌, ◌≤◌, List, [], ◌∷◌, ◌++◌, length, take, drop, map, fold, refl, ap, sym, ◌∙◌, length-append, arith, All, subst, Some}
+use Rattle.std.proofs.Common.{◌≡◌, ℕ, ℤ, suc, pos, ◌+◌, ◌-◌, ◌+ℤ◌, ◌≤◌, List, [], ◌∷◌, ◌++◌, length, take, drop, map, filter, fold, ap, sym, ◌∙◌, length-append, arith, All, subst, false, None, Some}
+use Rattle.std.specs.Prelude.{option_map, option_to_list}
 use Rattle.std.specs.List.{splice}
 use Rattle.std.proofs.lemmas.Int.{ints}
-use Rattle.std.proofs.lemmas.Bool.Decides.{nat_tests}
-use Rattle.std.proofs.lemmas.List.{length-take, length-take-le, length-drop, take_at, drop_at, drop-drop}
 use Rattle.std.proofs.lemmas.List.Elements.{All-take, All-drop}
 use Rattle.nv_places.specs.Flat.{flat, IsLine, lines_of}
 use Rattle.nv_places.specs.Places.{place_of, extent_of}
 use Rattle.nv_places.proofs.FlatLemmas.{lines_of-flat}
 use Rattle.nv_marks.specs.Marks.{Marks, greatest_id}
-use Rattle.nv_marks.specs.Moves.{moved_mark}
 use Rattle.nv_marks.specs.Order.{IsInOrder}
-use Rattle.nv_marks.specs.declared.extmark.Mark.{Mark}
-use Rattle.nv_undo.specs.Tree.{Undo, IsTree, change_of}
-use Rattle.nv_buffer.specs.Content.{Content}
-use Rattle.nv_buffer.specs.Marks.{marks_in_order}
-use Rattle.nv_buffer.proofs.MarkOrders.{in_order_is}
+use Rattle.nv_marks.specs.declared.keeping.Kept.{Kept as KeptMark}
+use Rattle.nv_undo.specs.Tree.{Undo, IsTree, last, change_of}
+use Rattle.nv_buffer.specs.Content.{Content, after_edit}
+use Rattle.nv_buffer.specs.KeptMarks.{kept_at}
+use Rattle.nv_buffer.specs.declared.edit.ChangePart.{ChangePart}
 use Rattle.nv_buffer.specs.Changes.{text_at, Replaces, IsPlaced, lines_after}
 use Rattle.nv_undo.specs.Ways.{origin}
 use Rattle.nv_buffer.specs.declared.edit.Edit.{Edit}
 use Rattle.nv_buffer.specs.declared.buffer.Spliced.{Spliced}
-use Rattle.nv_model.specs.Buffers.{Splice, ModelBuffer, text_after, inverse_splice, row_behind, splice_event, text_of, tick_of, mark_of, kept_text, with_splice}
-use Rattle.nv_model.specs.Standing.{splice_of, splices_of, kept_undo, IsWithin, IsSetIn, IsValid, IsEditOf, AreEditsOf, IsChangeOf, StandsFor}
+use Rattle.nv_model.specs.Buffers.{Splice, SetMark, ModelBuffer, text_after, inverse_splice, row_behind, splice_event, text_of, tick_of, last_kept, state_now, mark_of, marks_there, part_next, kept_text, with_splice, with_splice_back}
+use Rattle.nv_model.specs.Standing.{splice_of, splices_of, kept_undo, AreNumbered, IsKeptBy, IsWithin, IsSetIn, IsValid, IsEditOf, AreEditsOf, IsChangeOf, StandsFor, is_kept_of, kept_mark_of, text_met}
 use Rattle.nv_model.specs.Keeping.{IsSpliced, SpliceIsKept}
+use Rattle.nv_model.proofs.BytesPut.{splices-push, edits-push, replaces_at, bytes_put, lines_put}
 use Rattle.nv_model.proofs.Telling.{fold-append}
-use Rattle.nv_model.proofs.MarkOrders.{order_through}
-use Rattle.nv_model.proofs.Moving.{text-more, within-more, mark_in, move, marks-more, all-in-more}
-
--- one more edit
-pub splices-push : (text : List (List ℕ)) (edits : List Edit) (edit : Edit)
-    → splices_of text (edits ++ edit ∷ []) ≡ splices_of text edits ++ splice_of (fold lines_after text edits) edit ∷ []
-splices-push text [] edit = refl
-splices-push text (e ∷ edits) edit = ap (λ (ss : List Splice). splice_of text e ∷ ss) (splices-push (lines_after text e) edits edit)
-
-pub edits-push : (base : List (List ℕ)) (edits : List Edit) (text : List (List ℕ)) (edit : Edit) → text ≡ fold lines_after base edits
-    → AreEditsOf base edits → IsEditOf text edit → AreEditsOf base (edits ++ edit ∷ [])
-edits-push base [] text edit is are one = (subst (λ (t : List (List ℕ)). IsEditOf t edit) is one, tt)
-edits-push base (e ∷ edits) text edit is are one = (are.0, edits-push (lines_after base e) edits text edit is are.1 one)
-
--- a splice replaces its bytes
-pub replaces_at : (text bytes : List ℕ) (at old new : ℕ) → at + old ≤ length text → new ≡ length bytes
-    → Replaces text (splice text at (at + old) bytes) at old new
-replaces_at text bytes at old new within is =
-    let front : length (take at text) ≡ at = length-take-le at text (omega arith) in
-    let rest : drop at (splice text at (at + old) bytes) ≡ bytes ++ drop (at + old) text =
-    drop_at (take at text) (bytes ++ drop (at + old) text) at front in
-    record {
-      removed = within;
-      put =
-          omega (
-            arith,
-            length-append (take at text) (bytes ++ drop (at + old) text),
-            length-append bytes (drop (at + old) text),
-            length-take at text,
-            length-drop (at + old) text,
-          );
-      front = take_at (take at text) (bytes ++ drop (at + old) text) at front;
-      back =
-          sym (drop-drop new at (splice text at (at + old) bytes))
-          ∙ ap (drop new) rest
-          ∙ drop_at bytes (drop (at + old) text) new (sym is);
-    }
-
--- the bytes that a splice put, read from the text after it
-pub bytes_put : (text : List ℕ) (s : Splice) → s.from ≤ length text → take (length s.bytes) (drop s.from (text_after text s)) ≡ s.bytes
-bytes_put text s low =
-    ap (take (length s.bytes)) (drop_at (take s.from text) (s.bytes ++ drop s.until text) s.from (length-take-le s.from text low))
-    ∙ take_at s.bytes (drop s.until text) (length s.bytes) refl
-
--- the lines that a splice of lines put, read from the lines after it
-pub lines_put : (lines new : List (List ℕ)) (from to : ℕ) → from ≤ to → to ≤ length lines
-    → take (length (splice lines from to new) - (length lines - to) - from) (drop from (splice lines from to new)) ≡ new
-lines_put lines new from to order within =
-    let count : length (splice lines from to new) - (length lines - to) - from ≡ length new =
-    omega (
-      arith,
-      length-append (take from lines) (new ++ drop to lines),
-      length-append new (drop to lines),
-      length-take from lines,
-      length-drop to lines,
-    ) in
-    let rest : drop from (splice lines from to new) ≡ new ++ drop to lines =
-    drop_at (take from lines) (new ++ drop to lines) from (length-take-le from lines (omega arith)) in
-    ap (λ (n : ℕ). take n (drop from (splice lines from to new))) count
-    ∙ ap (take (length new)) rest
-    ∙ take_at new (drop to lines) (length new) refl
+use Rattle.nv_model.proofs.KeptPlaces.{AllOther, none_made}
+use Rattle.nv_model.proofs.Moving.{text-more, within-more}
+use Rattle.nv_model.proofs.PartsNext.{next_is_new, numbered-push, parts_more}
+use Rattle.nv_model.proofs.Seeing.{next_same}
+use Rattle.nv_model.proofs.Stepping.{IsStep, MarksAlike, marks_stand, standing_marks}
 
 module _ (b later : Content) (s : Splice) (event : Spliced) (sp : IsSpliced b later s event) where
   pub flat_is : flat later.text ≡ text_after (flat b.text) s
@@ -108,7 +51,8 @@ module _ (b later : Content) (s : Splice) (event : Spliced) (sp : IsSpliced b la
       let until = sp.until in
       let bytes = bytes_are in
       let rows = sp.rows in
-      λ i. record { from = from i; until = until i; bytes = bytes i; rows = rows i }
+      let part = sp.part in
+      λ i. record { from = from i; until = until i; bytes = bytes i; rows = rows i; part = part i }
 
   lines_put_are : All IsLine event.edit.lines
   lines_put_are =
@@ -178,24 +122,47 @@ module _ (b later : Content) (s : Splice) (event : Spliced) (m : ModelBuffer) (s
       ∙ ap (λ (t : List (List ℕ)). lines_after t event.edit) is.since
       ∙ sym (fold-append lines_after base b.unsealed (event.edit ∷ []))
 
-  -- the marks were moved by the splice
-  moved_are : IsInOrder (map (move (flat b.text) s) b.marks.marks) later.marks.marks
-  moved_are =
-      let moves : List Mark = map (move (flat b.text) s) b.marks.marks in
-      let same : later.marks.marks ≡ marks_in_order moves =
-      ap (λ (k : Marks). k.marks) sp.edit.marks
-      ∙ (λ i. marks_in_order (map (moved_mark (sp.start i) (sp.removed i) (sp.reach i)) b.marks.marks)) in
-      subst (λ (l : List Mark). IsInOrder moves l) (sym same) (in_order_is moves)
+  -- the next part was never made, so nothing was kept of it
+  part_is : s.part ≡ part_next m
+  part_is = sym sp.part ∙ sp.edit.part ∙ next_same b m is
 
-  marks_are : IsInOrder (map (mark_of (with_splice s m)) m.marks) later.marks.marks
+  none_kept : (k : SetMark) → last_kept s.part (state_now m k).kept ≡ None
+  none_kept k = none_made m.splices k s.part (subst (λ (p : ChangePart). AllOther p m.splices) (sym part_is) (next_is_new m is.valid.parts))
+
+  step_is : IsStep b m s event.edit
+  step_is =
+      let after : flat (lines_after b.text event.edit) ≡ text_after (text_of m) s =
+      ap flat (sym sp.edit.lines) ∙ flat_is b later s event sp ∙ ap (λ (t : List ℕ). text_after t s) is.text in
+      record {
+        within = within;
+        start = sp.start ∙ ap (λ (t : List ℕ). place_of t s.from) is.text;
+        removed = sp.removed ∙ ap (λ (t : List ℕ). extent_of (inverse_splice t s).bytes) is.text;
+        put = sp.reach;
+        part = sp.part;
+        text = after;
+        lines = subst (λ (ls : List (List ℕ)). All IsLine ls) sp.edit.lines sp.lines;
+        met = λ k x some. absurd (let no : None ≡ Some x = sym (none_kept k) ∙ some in cc);
+      }
+
+  steps : MarksAlike (after_edit b event.edit) (with_splice_back s m)
+  steps = marks_stand b m s event.edit (standing_marks b m is) step_is
+
+  marks_are : IsInOrder (map (mark_of (with_splice s m)) (marks_there (with_splice s m))) later.marks.marks
+  unfolding text_of
   marks_are =
-      let moved : IsInOrder (map (move (text_of m) s) b.marks.marks) later.marks.marks =
-      subst (λ (t : List ℕ). IsInOrder (map (move t s) b.marks.marks) later.marks.marks) is.text moved_are in
-      let all : IsInOrder (map (move (text_of m) s) (map (mark_of m) m.marks)) later.marks.marks =
-      order_through (move (text_of m) s) (map (mark_of m) m.marks) b.marks.marks later.marks.marks is.marks moved in
-      let now : IsInOrder (map (mark_in (text_after (text_of m) s) (m.splices ++ s ∷ [])) m.marks) later.marks.marks =
-      subst (λ (l : List Mark). IsInOrder l later.marks.marks) (sym (marks-more (text_of m) m.splices s m.marks within is.valid.marks)) all in
-      subst (λ (t : List ℕ). IsInOrder (map (mark_in t (m.splices ++ s ∷ [])) m.marks) later.marks.marks) (sym text_is) now
+      subst (λ (k : Marks). IsInOrder (map (mark_of (with_splice_back s m)) (marks_there (with_splice_back s m))) k.marks) (sym sp.edit.marks) steps.marks
+
+  kept_are : (part : ChangePart) → IsKeptBy later (with_splice s m) part
+  unfolding text_of
+  kept_are part = record {
+    each =
+        subst (λ (es : List ((ℕ × ℕ) × List KeptMark)). All (λ (k : SetMark). filter (is_kept_of k) (kept_at es part)
+        ≡ option_to_list (option_map (kept_mark_of (text_met part [] m.first (m.splices ++ s ∷ [])) k) (last_kept part (state_now (with_splice_back s m) k).kept)))
+        (marks_there (with_splice_back s m))) (sym sp.edit.keeps) (steps.kept part).each;
+    made =
+        subst (λ (es : List ((ℕ × ℕ) × List KeptMark)). All (λ (x : KeptMark). x.set ≤ m.settings) (kept_at es part)) (sym sp.edit.keeps)
+        (steps.kept part).made;
+  }
 
   valid_now : IsValid (with_splice s m)
   valid_now = record {
@@ -212,11 +179,14 @@ module _ (b later : Content) (s : Splice) (event : Spliced) (m : ModelBuffer) (s
           ∙ sym text_is;
     };
     named = is.valid.named;
-    marks =
-        subst (λ (t : List ℕ). All (IsSetIn t (m.splices ++ s ∷ [])) m.marks) (sym text_is)
-        (all-in-more (text_of m) m.splices s m.marks within is.valid.marks);
+    marks = set_are;
+    settings = is.valid.settings;
+    parts = parts_more m s part_is is.valid.parts is.valid.since.makes;
   }
     where
+      set_are : All (IsSetIn (text_of (with_splice s m)) (m.splices ++ s ∷ [])) m.marks
+      set_are = unfold text_of in steps.set
+
       in_all : IsWithin (fold text_after m.first m.splices) s
       in_all = unfold text_of in within
 
@@ -236,6 +206,8 @@ module _ (b later : Content) (s : Splice) (event : Spliced) (m : ModelBuffer) (s
     lines = sp.lines;
     tick = tick_is;
     marks = marks_are;
+    settings = ap (λ (k : Marks). k.settings) sp.edit.marks ∙ is.settings;
+    kept = kept_are;
     greatest = λ ns. ap (λ (k : Marks). greatest_id k.greatest ns) sp.edit.marks ∙ is.greatest ns;
     tree = subst (λ (u : Undo (List Edit)). IsTree u) (sym (ap (λ (c : Content). c.undo) sp.edit.kept)) is.tree;
     undo = ap (λ (c : Content). kept_undo c.undo) sp.edit.kept ∙ is.undo;
@@ -244,8 +216,14 @@ module _ (b later : Content) (s : Splice) (event : Spliced) (m : ModelBuffer) (s
     edits =
         subst (λ (c : Content). AreEditsOf (text_at c.undo c.undo.current) c.unsealed) (sym sp.edit.kept)
         (edits-push base b.unsealed b.text event.edit is.since is.edits (edit_is b later s event sp));
+    parts =
+        subst (λ (c : Content). AreNumbered (suc (last c.undo)) 0 c.unsealed) (sym sp.edit.kept)
+        (numbered-push (suc (last b.undo)) 0 b.unsealed event.edit is.parts (sp.edit.part ∙ ap (λ (n : ℕ). let p : ChangePart = record { change = suc (last b.undo); part = n; back = false } in p) (omega arith)));
     changes = subst (λ (u : Undo (List Edit)). (n : ℕ) (es : List Edit) → change_of u n ≡ Some es → IsChangeOf (text_at u (origin u n)) es)
         (sym (ap (λ (c : Content). c.undo) sp.edit.kept)) is.changes;
+    numbered =
+        subst (λ (u : Undo (List Edit)). (n : ℕ) (es : List Edit) → change_of u n ≡ Some es → AreNumbered n 0 es)
+        (sym (ap (λ (c : Content). c.undo) sp.edit.kept)) is.numbered;
     name = ap (λ (c : Content). c.name) sp.edit.kept ∙ is.name;
     modifiable = ap (λ (c : Content). c.modifiable) sp.edit.kept ∙ is.modifiable;
     modified = sp.edit.modified;
@@ -272,6 +250,7 @@ module _ (b later : Content) (s : Splice) (event : Spliced) (m : ModelBuffer) (s
       let removed = sp.removed ∙ ap (λ (t : List ℕ). extent_of (inverse_splice t s).bytes) is.text in
       let reach = sp.reach in
       let rows = sp.rows in
+      let part = sp.part in
       λ i. record {
         tick = tick i;
         edit = record {
@@ -285,6 +264,7 @@ module _ (b later : Content) (s : Splice) (event : Spliced) (m : ModelBuffer) (s
           removed = removed i;
           put = reach i;
           rows = rows i;
+          part = part i;
         };
       }
     where

@@ -51,6 +51,7 @@ rows_are_spliced before later from to new event order within are later_are told 
       until = omega arith;
       put = ap (λ (e : Spliced). e.edit.new) told;
       rows = ap (λ (e : Spliced). e.edit.rows) told;
+      part = ap (λ (e : Spliced). e.edit.part) told;
       start = ap (λ (e : Spliced). e.edit.start) told;
       removed = ap (λ (e : Spliced). e.edit.removed) told;
       reach = ap (λ (e : Spliced). e.edit.put) told;
@@ -83,6 +84,7 @@ text_is_spliced before later start stop new event start_in stop_in order are lat
       until = omega arith;
       put = ap (λ (e : Spliced). e.edit.new) told;
       rows = ap (λ (e : Spliced). e.edit.rows) told;
+      part = ap (λ (e : Spliced). e.edit.part) told;
       start = ap (λ (e : Spliced). e.edit.start) told;
       removed = ap (λ (e : Spliced). e.edit.removed) told;
       reach = ap (λ (e : Spliced). e.edit.put) told;

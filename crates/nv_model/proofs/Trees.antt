@@ -85,7 +85,7 @@ pub record IsAt (undo : Undo (List Edit)) (n : ℕ) (c : ℕ × List Edit) : Typ
   pub splices : splices_at (kept_undo undo) n ≡ splices_of (text_at undo c.0) c.1
   pub kept_parent : unwrap_or (parent_of (kept_undo undo) n) 0 ≡ c.0
 
-is_at : (undo : Undo (List Edit)) (n : ℕ) (c : ℕ × List Edit) → numbered undo n ≡ Some c → IsAt undo n c
+pub is_at : (undo : Undo (List Edit)) (n : ℕ) (c : ℕ × List Edit) → numbered undo n ≡ Some c → IsAt undo n c
 is_at undo n c here = record {
   edits = ap (λ (o : Option (ℕ × List Edit)). unwrap_or (option_map (λ d. d.1) o) []) here;
   parent = ap (λ (o : Option (ℕ × List Edit)). unwrap_or (option_map (λ d. d.0) o) 0) here;

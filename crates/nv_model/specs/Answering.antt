@@ -1,13 +1,14 @@
 -- Words that rows are made of.
 use Prim.Native.String.{String}
-use Rattle.std.specs.Prelude.{ℕ, ℤ, pos, ◌+◌, List, [], ◌∷◌, codes, Option, Some, None, if◌then◌else◌}
+use Rattle.std.specs.Prelude.{ℕ, ℤ, pos, ◌+◌, List, [], ◌∷◌, map, codes, Option, Some, None, if◌then◌else◌}
 use Rattle.nv_places.specs.Flat.{flat}
 use Rattle.nv_value.specs.Content.{Tree, nil, integer, text, list, trees_of, pairs, in_turn}
 use Rattle.nv_value.specs.declared.fault.ApiFault.{ApiFault}
 use Rattle.nv_buffer.specs.declared.buffer.Spliced.{Spliced}
+use Rattle.nv_marks.specs.declared.extmark.Mark.{Mark}
 use Rattle.nv_model.specs.Buffers.{Splice, is_empty_splice, splice_event}
 use Rattle.nv_model.specs.Seen.{SeenBuffer}
-use Rattle.nv_model.specs.Operations.{spliced}
+use Rattle.nv_model.specs.Operations.{Operation, mark_removed, spliced}
 use Rattle.nv_model.specs.Answers.{Answer, edited, refused, replied}
 
 -- a reply that does nothing and tells nothing
@@ -36,6 +37,10 @@ key_value key value = (word key, value)
 
 abbrev pub dict_of : List (Tree × Tree) → Tree
 dict_of entries = pairs (in_turn entries)
+
+-- marks of a buffer removed one after another
+abbrev pub removal_operations : ℤ → List Mark → List Operation
+removal_operations n marks = map (λ m. mark_removed n m.ns m.id) marks
 
 -- what is told of a splice of a buffer
 abbrev pub event_of_splice : SeenBuffer → Splice → Spliced

@@ -1,23 +1,25 @@
 -- What an operation does to what is kept, and that it keeps standing for the model.
-use Rattle.std.specs.Prelude.{◌≡◌, ◌≢◌, ℕ, ℤ, pos, ◌+◌, ◌+ℤ◌, ◌≤◌, ◌==◌, max, Bool, true, false, if◌then◌else◌, List, [], ◌∷◌, ◌++◌, length, map, fold, filter, not, All, Some, None, IfSome}
+use Rattle.std.specs.Prelude.{◌≡◌, ◌≢◌, ℕ, ℤ, pos, ◌+◌, ◌+ℤ◌, ◌≤◌, ◌<◌, ◌&&◌, Bool, true, false, if◌then◌else◌, List, [], ◌∷◌, ◌++◌, length, map, fold, filter, not, All, Option, Some, None, IfSome, option_map}
 use Rattle.std.specs.Ordering.{int_eq}
 use Rattle.std.specs.List.{join_with_byte}
 use Rattle.nv_places.specs.Flat.{flat, IsLine, lines_of}
-use Rattle.nv_places.specs.Places.{place_of, extent_of, is_before, IsPlaceIn}
+use Rattle.nv_places.specs.Places.{place_of, extent_of, is_before}
 use Rattle.nv_places.specs.declared.place.Pos.{Pos}
-use Rattle.nv_marks.specs.Marks.{Marks, greatest_id, without}
+use Rattle.nv_marks.specs.Marks.{Marks}
 use Rattle.nv_marks.specs.Order.{IsInOrder}
+use Rattle.nv_marks.specs.Queries.{is_cleared}
+use Rattle.nv_marks.specs.Keeping.{is_kept, is_struck, kept_of}
 use Rattle.nv_marks.specs.Moves.{moved_mark}
 use Rattle.nv_marks.specs.declared.extmark.Mark.{Mark}
-use Rattle.nv_undo.specs.Tree.{no_changes, tree_after_leg}
+use Rattle.nv_undo.specs.Tree.{tree_after_leg}
 use Rattle.nv_undo.specs.Ways.{Leads, IsNext}
 use Rattle.nv_undo.specs.declared.legs.Leg.{Leg}
-use Rattle.nv_buffer.specs.Content.{Content, IsEdit, event_fold, rows_event, text_event, events_from, after_seal, after_leg, fresh_content}
-use Rattle.nv_buffer.specs.Marks.{IsMarkIn, IsMarked, IsUnmarked}
-use Rattle.nv_buffer.specs.Changes.{first_text, leg_edits}
+use Rattle.nv_buffer.specs.Content.{Content, IsEdit, event_fold, next_part, rows_event, text_event, events_from, after_seal, after_leg, fresh_content}
+use Rattle.nv_buffer.specs.Marks.{IsMarkIn, IsMarked, IsUnmarked, marks_cleared}
+use Rattle.nv_buffer.specs.Changes.{leg_edits}
 use Rattle.nv_buffer.specs.Splices.{IsInLine}
 use Rattle.nv_buffer.specs.declared.buffer.Spliced.{Spliced}
-use Rattle.nv_model.specs.Buffers.{Splice, ModelBuffer, rows_splice, text_splice, text_after, inverse_splice, row_behind, splice_event, splice_events, text_of, tick_of, mark_of, marks_of, kept_text, with_seal, with_splice, with_splice_back, with_mark, without_mark, fresh_buffer}
+use Rattle.nv_model.specs.Buffers.{Splice, SetMark, MarkState, ModelBuffer, rows_splice, text_splice, text_after, inverse_splice, row_behind, splice_event, splice_events, text_of, tick_of, keys_of, reach_of, kept_state, is_removed, state_moved, mark_in, mark_of, marks_there, marks_of, kept_text, with_seal, with_splice, with_splice_back, with_mark, without_mark, fresh_buffer}
 use Rattle.nv_model.specs.Undoing.{leg_splices}
 use Rattle.nv_model.specs.Stage.{Stage, fresh_stage, stage_with_views}
 use Rattle.nv_model.specs.Editors.{ModelEditor, at_handle, handles_of, fresh_editor}
@@ -25,7 +27,7 @@ use Rattle.nv_model.specs.Seen.{seen_of}
 use Rattle.nv_model.specs.Operations.{set_now, with_buffer, with_stage, with_spliced, with_new_buffer, without_buffer, after_operations}
 use Rattle.nv_model.specs.Answers.{leg_operations}
 use Rattle.nv_model.specs.declared.parts.Limits.{Limits}
-use Rattle.nv_model.specs.Standing.{PresentEditor, splices_of, IsWithin, IsSetIn, IsValid, StandsFor, Stands, seen_now}
+use Rattle.nv_model.specs.Standing.{PresentEditor, splices_of, kept_mark_of, IsWithin, IsValid, StandsFor, Stands, seen_now}
 
 -- what is seen of an editor is what is seen of each model that it stands for
 abbrev pub SeenIsSame : Type 0
@@ -33,18 +35,28 @@ SeenIsSame = (e : PresentEditor) (m : ModelEditor) → Stands e m → seen_now e
 
 -- ---- marks of the model
 
--- the marks told now are those set, in order
+-- the marks told now are those set that are there, in order
 abbrev pub MarksAreInOrder : Type 0
-MarksAreInOrder = (m : ModelBuffer) → IsInOrder (map (mark_of m) m.marks) (marks_of m)
+MarksAreInOrder = (m : ModelBuffer) → IsInOrder (map (mark_of m) (marks_there m)) (marks_of m)
 
--- a splice moves each mark as its place says (help: api-extended-marks)
-abbrev pub MarksMove : Type 0
-MarksMove =
-    (s : Splice) (m : ModelBuffer) → IsWithin (text_of m) s
-    → All (IsSetIn (text_of m) m.splices) m.marks
-    → map (mark_of (with_splice s m)) m.marks
-    ≡ map (moved_mark (place_of (text_of m) s.from) (extent_of (inverse_splice (text_of m) s).bytes)
-    (extent_of s.bytes)) (map (mark_of m) m.marks)
+-- what a splice keeps of a mark, strikes of it and how it moves it is the same by offsets and by
+-- places (help: api-extended-marks)
+pub record StepsAlike (text : List ℕ) (s : Splice) (k : SetMark) (x : MarkState) : Type 0 where
+  pub kept : let from = place_of text s.from in
+      let to = place_of text s.until in
+      option_map (kept_mark_of text k) (kept_state (keys_of k) x (reach_of s))
+      ≡ (if is_kept from to (mark_in text k x) then Some (kept_of from to (mark_in text k x))
+      else None)
+  pub struck : is_struck (place_of text s.from) (place_of text s.until) (mark_in text k x)
+      ≡ (k.invalidate && is_removed x (reach_of s))
+  pub moved : mark_in (text_after text s) k (state_moved (keys_of k) x (reach_of s))
+      ≡ moved_mark (place_of text s.from) (extent_of (inverse_splice text s).bytes)
+      (extent_of s.bytes) (mark_in text k x)
+
+abbrev pub MarksStepAlike : Type 0
+MarksStepAlike =
+    (text : List ℕ) (s : Splice) (k : SetMark) (x : MarkState) → IsWithin text s
+    → x.start ≤ length text → IfSome x.stop (λ p. p ≤ length text) → StepsAlike text s k x
 
 -- ---- one buffer
 
@@ -55,6 +67,7 @@ pub record IsSpliced (before later : Content) (s : Splice) (event : Spliced) : T
   pub until : event.edit.at + event.edit.old ≡ s.until
   pub put : event.edit.new ≡ length s.bytes
   pub rows : event.edit.rows ≡ s.rows
+  pub part : event.edit.part ≡ s.part
   pub start : event.edit.start ≡ place_of (flat before.text) s.from
   pub removed : event.edit.removed ≡ extent_of (inverse_splice (flat before.text) s).bytes
   pub reach : event.edit.put ≡ extent_of s.bytes
@@ -89,7 +102,7 @@ RowsAreSpliced =
     → to ≤ length before.text
     → All IsLine before.text → All IsLine later.text → event ≡ rows_event before from to new
     → IsEdit before later (flat new) event
-    → IsSpliced before later (rows_splice before.text from to new) event
+    → IsSpliced before later (rows_splice (next_part before) before.text from to new) event
 
 -- and so do lines put between two places (help: nvim_buf_set_text())
 abbrev pub TextIsSpliced : Type 0
@@ -99,7 +112,7 @@ TextIsSpliced =
     → IsInLine before.text stop → is_before stop start ≡ false
     → All IsLine before.text → All IsLine later.text → event ≡ text_event before start stop new
     → IsEdit before later (join_with_byte 10 new) event
-    → IsSpliced before later (text_splice before.text start stop new) event
+    → IsSpliced before later (text_splice (next_part before) before.text start stop new) event
 
 -- the open change is closed
 abbrev pub SealIsKept : Type 0
@@ -134,11 +147,15 @@ LegLeadsToKept =
     → Leads m.undo m.undo.current (leg ∷ []) n
     → text_of (with_leg leg m) ≡ kept_text m.first m.undo n
 
--- a mark is set at places of the text
+-- how many settings of marks a buffer takes (own rule)
+abbrev pub most_settings : ℕ
+most_settings = 4611686018427387904
+
+-- a mark is set at places of the text, where fewer settings were made
 abbrev pub MarkIsKept : Type 0
 MarkIsKept =
     (b : Content) (later : Marks) (k : Mark) (m : ModelBuffer) → IsMarked b.marks later k
-    → IsMarkIn b.text k → StandsFor b m
+    → IsMarkIn b.text k → k.hidden ≡ false → b.marks.settings < most_settings → StandsFor b m
     → StandsFor (record b { marks = later }) (with_mark (set_now m k) m)
 
 -- a mark is removed
@@ -147,6 +164,13 @@ UnmarkIsKept =
     (b : Content) (later : Marks) (ns id : ℕ) (m : ModelBuffer) → IsUnmarked b.marks later ns id
     → StandsFor b m
     → StandsFor (record b { marks = later }) (without_mark ns id m)
+
+-- the marks of a namespace, or of all, are removed that start from one place to another
+abbrev pub ClearIsKept : Type 0
+ClearIsKept =
+    (b : Content) (ns : Option ℕ) (from to : Pos) (m : ModelBuffer) → StandsFor b m
+    → StandsFor (record b { marks = marks_cleared ns from to b.marks })
+    (fold (λ m k. without_mark k.ns k.id m) m (filter (is_cleared ns from to) b.marks.marks))
 
 -- name and options
 pub record OptionsAreKept : Type 0 where

@@ -1,5 +1,5 @@
 -- The operations that answers are made of, as data, and the editor after them.
-use Rattle.std.specs.Prelude.{ℕ, ℤ, pos, ◌+ℤ◌, Bool, not, List, [], ◌∷◌, ◌++◌, length, filter, Option, Some, None, option_map}
+use Rattle.std.specs.Prelude.{ℕ, suc, ℤ, pos, ◌+ℤ◌, Bool, not, List, [], ◌∷◌, ◌++◌, length, filter, Option, Some, None, option_map}
 use Rattle.std.specs.Ordering.{int_eq}
 use Rattle.nv_places.specs.Flat.{lines_of}
 use Rattle.nv_places.specs.Places.{offset_of}
@@ -90,7 +90,7 @@ with_spliced n s update m = record m {
   stage = stage_spliced n s (at_handle m.buffers n) m.stage;
 }
 
--- a mark set now, at the offsets of its places
+-- a mark set now, at the offsets of its places, under the next number
 abbrev pub set_far : List (List ℕ) → Far → SetFar
 set_far lines far = record { offset = offset_of lines far.pos; right = far.right }
 
@@ -103,6 +103,9 @@ set_now m k = record {
   stop = option_map (set_far (lines_of (text_of m))) k.stop;
   paint = k.paint;
   priority = k.priority;
+  restore = k.restore;
+  invalidate = k.invalidate;
+  set = suc m.settings;
   since = length m.splices;
 }
 

@@ -4,21 +4,26 @@ use Rattle.nv_places.specs.Flat.{flat, lines_of}
 use Rattle.nv_marks.specs.declared.extmark.Mark.{Mark}
 use Rattle.nv_marks.specs.Marks.{greatest_id}
 use Rattle.nv_undo.specs.Tree.{Undo}
-use Rattle.nv_model.specs.Buffers.{Splice, Kept, ModelBuffer, text_of, tick_of, marks_of, closed_with}
+use Rattle.nv_buffer.specs.declared.edit.ChangePart.{ChangePart}
+use Rattle.nv_model.specs.Buffers.{Splice, Kept, ModelBuffer, text_of, tick_of, marks_of, part_next, closed_with}
 use Rattle.nv_model.specs.Stage.{Stage}
 use Rattle.nv_model.specs.Editors.{ModelEditor, at_handle, handles_of}
 
--- what is seen of a buffer: its lines, changedtick, marks in their order, the greatest id ever set
--- in each namespace, its changes and the open one, its name and its options
+-- what is seen of a buffer: its lines, changedtick, marks in their order, how many were set, the
+-- greatest id ever set in each namespace, its changes and the open one, its name and its options
 pub record SeenBuffer : Type 0 where
   pub lines : List (List ℕ)
   pub tick : ℕ
   pub marks : List Mark
+  -- how many settings of marks were made
+  pub settings : ℕ
   pub greatest : ℕ → ℕ
   -- the flat text of the number 0
   pub first : List ℕ
   pub undo : Undo Kept
   pub unsealed : List Splice
+  -- which part of which change the next splice is
+  pub next : ChangePart
   pub name : List ℕ
   pub modifiable : Bool
   pub modified : Bool
@@ -41,10 +46,12 @@ seen_buffer m = record {
   lines = lines_of (text_of m);
   tick = tick_of m;
   marks = marks_of m;
+  settings = m.settings;
   greatest = greatest_id m.greatest;
   first = m.first;
   undo = m.undo;
   unsealed = m.unsealed;
+  next = part_next m;
   name = m.name;
   modifiable = m.modifiable;
   modified = m.modified;

@@ -1,6 +1,6 @@
 //! Laws of the definitions, each the contract of a function that does nothing.
 
-ghost use Rattle.nv_model.specs.Keeping.{SeenIsSame, MarksAreInOrder, MarksMove, SpliceIsKept, SpliceTellsText, RowsAreSpliced, TextIsSpliced, LegLeadsToKept, SealIsKept, LegIsKept, MarkIsKept, UnmarkIsKept, OptionsAreKept, FreshIsKept, BufferUpdateIsKept, EditorSpliceIsKept, StageUpdateIsKept, NewBufferIsKept, DroppedBufferIsKept, EditorLegIsKept, FreshEditorIsKept};
+ghost use Rattle.nv_model.specs.Keeping.{SeenIsSame, MarksAreInOrder, MarksStepAlike, SpliceIsKept, SpliceTellsText, RowsAreSpliced, TextIsSpliced, LegLeadsToKept, SealIsKept, LegIsKept, MarkIsKept, UnmarkIsKept, ClearIsKept, OptionsAreKept, FreshIsKept, BufferUpdateIsKept, EditorSpliceIsKept, StageUpdateIsKept, NewBufferIsKept, DroppedBufferIsKept, EditorLegIsKept, FreshEditorIsKept};
 ghost use Rattle.nv_model.specs.Laws.{OperationsAddSplices, SpliceRaisesOneTick, OperationsMakeTexts, DeletedAreKept, HandlesStayBelow, NoHandleTwice, RefusedKeepsEditor, FirstIsAnswered, EventsCountUp, InversesTakeBack};
 
 /// An operation adds to each buffer the splices that it makes in it and no other, each splice
@@ -35,10 +35,11 @@ pub fn splice_laws()
     ensures kept { LegLeadsToKept }
 {}
 
-/// The marks told of a buffer are those set, in order, and a splice moves each as its place says.
+/// The marks told of a buffer are those set that are there, in order, and what a splice keeps of
+/// each, strikes of it and how it moves it is the same by offsets and by places.
 pub fn mark_laws()
     ensures order { MarksAreInOrder }
-    ensures moved { MarksMove }
+    ensures steps { MarksStepAlike }
 {}
 
 /// What is seen of an editor is what is seen of each model editor that it stands for.
@@ -48,13 +49,14 @@ pub fn seen_law()
 
 /// What is kept of a buffer goes on standing for the model: after a splice, which is told as the
 /// model tells it, once the open change is closed, after a leg in the tree of changes, after a mark
-/// is set or removed and after a name or an option is put. So does a fresh buffer.
+/// is set, or some are removed, and after a name or an option is put. So does a fresh buffer.
 pub fn buffer_laws()
     ensures splice { SpliceIsKept }
     ensures seal { SealIsKept }
     ensures leg { LegIsKept }
     ensures mark { MarkIsKept }
     ensures unmark { UnmarkIsKept }
+    ensures clear { ClearIsKept }
     ensures options { OptionsAreKept }
     ensures fresh { FreshIsKept }
 {}

@@ -24,7 +24,7 @@ use Rattle.nv_dispatch.proofs.QuietRows.{IsQuiet, QuietRow, api_info, changedtic
 use Rattle.nv_history.specs.Events.{Event, open_session, request_of, take_of, close_of}
 use Rattle.nv_history.specs.Worlds.{World}
 use Rattle.nv_world.specs.Steps.{splice_by, splices_by, splices_of_event}
-use Rattle.nv_world.specs.declared.step.BufferSplice.{BufferSplice}
+use Rattle.nv_world.specs.declared.step.Moved.{Moved}
 use Rattle.nv_replay.specs.inside.Quiet.{is_of_buffers, is_of_texts, may_splice, may_splice_by}
 
 -- ---- operations that leave texts make no splice
@@ -35,7 +35,7 @@ no_splice c leaves = refl
 
 no_splices : (cs : List Operation) → AllLeaveTexts cs → splices_by cs ≡ []
 no_splices [] leave = refl
-no_splices (c ∷ cs) leave = ap (λ (l : List BufferSplice). l ++ splices_by cs) (no_splice c leave.0) ∙ no_splices cs leave.1
+no_splices (c ∷ cs) leave = ap (λ (l : List Moved). l ++ splices_by cs) (no_splice c leave.0) ∙ no_splices cs leave.1
 
 -- ---- each method may splice, or its row leaves all texts
 abbrev IsQuietEntry : List ℕ × Row → Type 0

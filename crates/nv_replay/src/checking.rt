@@ -34,7 +34,8 @@ pub struct GoneOver {
     pub tally: Tally,
 }
 
-// Plays the entry of a book that was read, compares it, and shows its step to the watchers.
+// Plays the entry of a book that was read, compares it, and shows its step to the watchers, who may
+// have been shown those before it.
 fn pass_one<R: Net<Listener = TcpListener, Stream = TcpStream>, I: Source, W: Watcher>(
     rt: &R,
     replay: &mut Replay,
@@ -42,6 +43,7 @@ fn pass_one<R: Net<Listener = TcpListener, Stream = TcpStream>, I: Source, W: Wa
     watchers: &mut Vec<W>,
     tally: &mut Tally,
     upcoming: Upcoming,
+    follows: bool,
 ) -> Result<Step, Unread>
     requires light { IsLightEvent (plain_event upcoming.heading.entry.event) }
     ensures goes { (bytes : List ℕ)
@@ -54,8 +56,8 @@ fn pass_one<R: Net<Listener = TcpListener, Stream = TcpStream>, I: Source, W: Wa
     ensures count { OnOk result (length watchers.new.items ≡ length watchers.old.items) }
     ensures along { IfOk result (λ made. (i : ℕ) (old new : W)
         → slice_get watchers.old.items i ≡ Some old → slice_get watchers.new.items i ≡ Some new
-        → GoesAlong replay.old.world (sight replay.new.world made) (W.HasSeen old)
-        (W.IsBehind old) (W.IsBehind new) (W.Breaks old) (W.Breaks new)) }
+        → GoesAlong follows replay.old.world (sight replay.new.world made) (W.HasSeen old)
+        (W.IsBehind old) (W.HasSeen new) (W.IsBehind new) (W.Breaks old) (W.Breaks new)) }
     ensures same { replay.new.start ≡ replay.old.start }
     ensures later { I.faults source.old ≤ I.faults source.new }
     ensures fault { result ≡ Err Unread.ReadFault
@@ -63,7 +65,7 @@ fn pass_one<R: Net<Listener = TcpListener, Stream = TcpStream>, I: Source, W: Wa
 {
     prepare(watchers, replay.world(), &upcoming.heading.entry.event)?;
     let step = compare_next(rt, replay, source, upcoming, tally)?;
-    watch(watchers, replay.world(), &step)?;
+    watch(watchers, replay.world(), &step, follows)?;
     Ok(step)
 }
 
@@ -96,11 +98,13 @@ fn go_over<R: Net<Listener = TcpListener, Stream = TcpStream>, I: Source, W: Wat
         bytes: 0,
         differs: None,
     };
+    let mut follows = false;
     for _round in 0..u64::MAX {
         match replay.read(rt, source)? {
             Some(upcoming) => {
-                let step = pass_one(rt, replay, source, watchers, &mut tally, upcoming)?;
+                let step = pass_one(rt, replay, source, watchers, &mut tally, upcoming, follows)?;
                 drop(step);
+                follows = true;
             }
             None => {
                 catch_up(watchers, replay.world())?;

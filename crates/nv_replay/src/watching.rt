@@ -1,16 +1,14 @@
 //! Watchers that follow a history.
-ghost use Rattle.std.specs.Prelude.{◌≡◌, ℕ, length, slice_get, Some, OnOk};
+ghost use Rattle.std.specs.Prelude.{◌≡◌, ℕ, true, false, length, slice_get, Some, OnOk};
 ghost use Rattle.nv_rpc.specs.Frames.{call_of_frame};
 ghost use Rattle.nv_world.specs.Contents.{plain_event};
-ghost use Rattle.nv_watch.specs.MarkRule.{method_called};
-ghost use Rattle.nv_watch.specs.Shown.{HasGlanced};
 ghost use Rattle.nv_watch.specs.Verdicts.{sight};
-ghost use Rattle.nv_replay.specs.inside.Quiet.{is_of_buffers, is_of_texts, may_splice, may_splice_by};
-ghost use Rattle.nv_replay.specs.inside.Watching.{IsPrepared};
+ghost use Rattle.nv_replay.specs.inside.Quiet.{is_of_buffers, is_of_texts, may_splice, may_splice_by, method_called};
+ghost use Rattle.nv_replay.specs.inside.Watching.{HasLookedOn, IsPrepared};
 
 use nv_rpc::Frame;
 use nv_value::Bytes;
-use nv_watch::{Watcher, catch_up, glance};
+use nv_watch::{Watcher, catch_up, drive, glance};
 use nv_world::{Event, Step, World};
 use std::alloc::AllocError;
 
@@ -83,17 +81,55 @@ pub fn prepare<W: Watcher>(
     Ok(())
 }
 
-/// The watchers glance at a step.
-pub fn watch<W: Watcher>(
+// The watchers are shown a first step.
+fn watch_first<W: Watcher>(
     watchers: &mut Vec<W>,
     world: &World,
     step: &Step,
 ) -> Result<(), AllocError>
     ensures count { OnOk result (length watchers.new.items ≡ length watchers.old.items) }
-    ensures glances { OnOk result ((i : ℕ) (old new : W)
+    ensures watches { OnOk result ((i : ℕ) (old new : W)
         → slice_get watchers.old.items i ≡ Some old → slice_get watchers.new.items i ≡ Some new
-        → HasGlanced (sight world.now step.now) (W.HasSeen old) (W.IsBehind old) (W.IsBehind new)
-        (W.Breaks old) (W.Breaks new)) }
+        → HasLookedOn false (sight world.now step.now) (W.HasSeen old) (W.IsBehind old)
+        (W.HasSeen new) (W.IsBehind new) (W.Breaks old) (W.Breaks new)) }
 {
-    glance(watchers, world, step)
+    drive(watchers, world, step)?;
+    Ok(())
+}
+
+// The watchers glance at a step that follows those before.
+fn watch_next<W: Watcher>(
+    watchers: &mut Vec<W>,
+    world: &World,
+    step: &Step,
+) -> Result<(), AllocError>
+    ensures count { OnOk result (length watchers.new.items ≡ length watchers.old.items) }
+    ensures watches { OnOk result ((i : ℕ) (old new : W)
+        → slice_get watchers.old.items i ≡ Some old → slice_get watchers.new.items i ≡ Some new
+        → HasLookedOn true (sight world.now step.now) (W.HasSeen old) (W.IsBehind old)
+        (W.HasSeen new) (W.IsBehind new) (W.Breaks old) (W.Breaks new)) }
+{
+    glance(watchers, world, step)?;
+    Ok(())
+}
+
+/// The watchers look at a step: they glance at one that follows those before in the next world of
+/// a history.
+pub fn watch<W: Watcher>(
+    watchers: &mut Vec<W>,
+    world: &World,
+    step: &Step,
+    follows: bool,
+) -> Result<(), AllocError>
+    ensures count { OnOk result (length watchers.new.items ≡ length watchers.old.items) }
+    ensures watches { OnOk result ((i : ℕ) (old new : W)
+        → slice_get watchers.old.items i ≡ Some old → slice_get watchers.new.items i ≡ Some new
+        → HasLookedOn follows (sight world.now step.now) (W.HasSeen old) (W.IsBehind old)
+        (W.HasSeen new) (W.IsBehind new) (W.Breaks old) (W.Breaks new)) }
+{
+    if follows {
+        watch_next(watchers, world, step)
+    } else {
+        watch_first(watchers, world, step)
+    }
 }

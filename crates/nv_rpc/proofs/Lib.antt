@@ -3,6 +3,7 @@ pub mod Filling
 pub mod HandleRead
 pub mod Inverse
 pub mod OtherLengths
+pub mod Puts
 pub mod Sendable
 pub mod Spelled
 pub mod Triples

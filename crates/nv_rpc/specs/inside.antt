@@ -2,3 +2,4 @@
 pub mod Outlines
 pub mod Heads
 pub mod Parts
+pub mod Fronts

@@ -10,7 +10,7 @@ ghost use Rattle.nv_rpc.specs.inside.Outlines.{outline_of};
 ghost use Rattle.nv_rpc.specs.Received.{message_in, IsTyped, reply_in, event_in, event_of, lines_in, event_of_two, buffer_in, fault_in, error_in};
 
 use crate::message::{BUFFER, Message};
-use crate::outcome::Outcome;
+use crate::outcome::{CallResult, Outcome};
 use crate::parts::{
     argument_of, integer_of, is_false, is_list, is_nil, is_number, is_text, item_of, kind_of,
     msgid_of, params_of, words_of,
@@ -229,7 +229,7 @@ fn filled(outline: Outline, value: Value) -> Message
         Outline::Success(msgid) => Message::Reply {
             msgid,
             fault: None,
-            result: Outcome::Value(item_of(value, 3)),
+            result: Outcome::One(CallResult::Value(item_of(value, 3))),
         },
         Outline::Failure(msgid, kind) => Message::Reply {
             msgid,
@@ -238,7 +238,7 @@ fn filled(outline: Outline, value: Value) -> Message
                 code: 0,
                 words: words_of(argument_of(value, 1)),
             }),
-            result: Outcome::Value(Value::Nil),
+            result: Outcome::One(CallResult::Value(Value::Nil)),
         },
         Outline::Lines(buffer, tick, first, last) => Message::Lines {
             buffer,

@@ -32,7 +32,7 @@ IsFolded start kept = (session : ℕ) (w : World) (buffer : ℤ) (front back : L
     → FoldsToMoment w.editor buffer front
 
 -- After each entry of the history the marks of each live buffer stand where the splices of that
--- entry moved them, and those that it set where it set them.
+-- entry left them, and those that it set where it set them.
 abbrev pub HasMarksInPlace : Start → List Entry → Type 0
 HasMarksInPlace start kept =
     (front back : List Entry) (entry : Entry) (w v : World) (buffer : ℤ) (b : ModelBuffer)

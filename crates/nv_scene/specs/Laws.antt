@@ -108,7 +108,13 @@ FirstSceneIsDrawn =
 abbrev pub editor_of_two : Limits → ModelEditor
 editor_of_two limits =
     after_operations
-    (spliced (pos 1) (record { from = 0; until = 0; bytes = codes "ab"; rows = false })
+    (spliced (pos 1) (record {
+      from = 0;
+      until = 0;
+      bytes = codes "ab";
+      rows = false;
+      part = record { change = 1; part = 0; back = false };
+    })
     ∷ window_opened (pos 1000) Right (pos 1) 0 0
     ∷ [])
     (editor_on_screen limits 80 24)

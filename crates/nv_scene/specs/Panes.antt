@@ -1,5 +1,5 @@
 -- What a window shows: the lines of its buffer with what marks show on them, and its status line.
-use Rattle.std.specs.Prelude.{◌≡◌, ℕ, suc, ℤ, pos, ◌-◌, ◌==◌, ◌&&◌, Bool, false, nat_le, nat_lt, min, if◌then◌else◌, List, [], ◌∷◌, ◌++◌, length, map, filter, codes, Option, Some, IsPermutation, IsSorted}
+use Rattle.std.specs.Prelude.{◌≡◌, ℕ, suc, ℤ, pos, ◌-◌, ◌==◌, ◌&&◌, Bool, false, not, nat_le, nat_lt, min, if◌then◌else◌, List, [], ◌∷◌, ◌++◌, length, map, filter, codes, Option, Some, IsPermutation, IsSorted}
 use Rattle.std.specs.declared.cmp.Ordering.{Ordering}
 use Rattle.std.specs.Ordering.{int_eq, ordering_then, nat_cmp}
 use Rattle.nv_places.specs.Flat.{line_at}
@@ -34,14 +34,14 @@ holds_of_row start stop row len =
     nat_le start.row row && nat_le row stop.row
     && nat_lt (range_from start row) (range_to stop row len)
 
--- the same for a mark with a group; one without an end, or without a group, shows nothing (help:
--- nvim_buf_set_extmark(), hl_group; own rule)
+-- the same for a mark with a group; one without an end, or without a group, and one that is hidden
+-- shows nothing (help: nvim_buf_set_extmark(), hl_group, invalidate; own rule)
 abbrev pub shows_by : Pos → ℕ → ℕ → Option Far → Option Paint → Bool
 shows_by start row len (Some far) (Some paint) = holds_of_row start far.pos row len
 shows_by start row len _ _ = false
 
 abbrev pub shows_on : ℕ → ℕ → Mark → Bool
-shows_on row len k = shows_by k.start row len k.stop k.paint
+shows_on row len k = not k.hidden && shows_by k.start row len k.stop k.paint
 
 -- the bytes of a row that a mark shows, with the attribute of its group
 abbrev pub span_by : List NamedGroup → Pos → ℕ → ℕ → Option Far → Option Paint → Span

@@ -7,13 +7,16 @@ ghost use Rattle.nv_scene.specs.inside.Painting.{AreLaid, may_show, may_show_on,
 use nv_buffer::Pos;
 use nv_hl::Groups;
 use nv_linedraw::Span;
-use nv_marks::{Mark, MarkSet};
+use nv_marks::{Mark, MarkSet, Query};
 use std::alloc::{AllocError, Global};
 
-// Whether a mark has a range with a group that ends in a row or behind it.
+// Whether a mark that isn't hidden has a range with a group that ends in a row or behind it.
 fn may_show(mark: &Mark, first: u32) -> bool
     ensures { result ≡ may_show first mark.now }
 {
+    if mark.hidden {
+        return false;
+    }
     match (mark.stop, mark.paint) {
         (Some(far), Some(_)) => first <= far.pos.row,
         _ => false,
@@ -31,12 +34,16 @@ pub(crate) fn marks_for(
     ensures { IfOk result (λ found. AreLaid first behind marks.now.marks found.items) }
 {
     let mut found = Vec::new(alloc);
-    let start = Pos { row: 0, col: 0 };
-    let end = Pos {
-        row: behind,
-        col: 0,
+    let query = Query {
+        ns: None,
+        from: Pos { row: first, col: 0 },
+        to: Pos {
+            row: behind,
+            col: 0,
+        },
+        reaching: true,
     };
-    marks.range(start, end, marks.len(), &mut found)?;
+    marks.select(&query, marks.len(), &mut found)?;
     found.retain(|mark| may_show(mark, first));
     found.sort_unstable_by_key(|mark| (mark.priority, mark.ns, mark.id));
     Ok(found)
@@ -108,6 +115,9 @@ fn span_on(groups: &Groups, mark: &Mark, row: u32, len: u32) -> Option<Span>
     ensures { result ≡ (if shows_on row len mark.now
         then Some (span_on groups.now row len mark.now) else None) }
 {
+    if mark.hidden {
+        return None;
+    }
     let (Some(far), Some(paint)) = (mark.stop, mark.paint) else {
         return None;
     };

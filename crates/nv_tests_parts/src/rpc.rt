@@ -5,7 +5,7 @@ ghost use Rattle.nv_rpc.specs.MessageView.{sent_of};
 
 use crate::spelling::spelled;
 use nv_msgpack::Bounds;
-use nv_rpc::{Message, Names, Outcome, Triple, decode_call, put_message, value_of};
+use nv_rpc::{CallResult, Message, Names, Outcome, Triple, decode_call, put_message, value_of};
 use nv_value::{ApiFault, Bytes, Value};
 use std::alloc::{AllocError, Global};
 use std::process::Abort;
@@ -53,7 +53,7 @@ fn failure(alloc: Global) -> Result<Message, AllocError>
     Ok(Message::Reply {
         msgid: 2,
         fault: Some(fault),
-        result: Outcome::Value(Value::Truth(true)),
+        result: Outcome::One(CallResult::Value(Value::Truth(true))),
     })
 }
 
@@ -74,7 +74,7 @@ fn listing(alloc: Global) -> Result<Message, AllocError>
     Ok(Message::Reply {
         msgid: 1,
         fault: None,
-        result: Outcome::Triples(vec![in alloc; small, large]?),
+        result: Outcome::One(CallResult::Triples(vec![in alloc; small, large]?)),
     })
 }
 

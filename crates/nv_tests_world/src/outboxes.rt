@@ -6,7 +6,7 @@ ghost use Rattle.nv_world.specs.Worlds.{IsLightEvent};
 use crate::asking::{attach, put_line};
 use nv_dispatch::usual_limits;
 use nv_scene::is_settled;
-use nv_world::{BufferSplice, Cause, Effect, Event, Stop, World};
+use nv_world::{Cause, Effect, Event, Moved, Stop, World};
 use std::alloc::{AllocError, Global};
 use std::test::Fail;
 
@@ -162,11 +162,14 @@ fn bytes_count_until_they_are_taken(rt: HostRuntime) -> Result<(), Fail> {
 fn splices_of(world: &World) -> Result<(usize, bool), AllocError> {
     let splices = world.last_splices()?;
     let first = splices.first().copied();
-    let in_front = BufferSplice {
+    let in_front = Moved {
         buffer: 1,
         at: 0,
         old: 0,
         new: 2,
+        change: 1,
+        part: 0,
+        back: false,
     };
     Ok((splices.len(), first == Some(in_front)))
 }

@@ -11,22 +11,22 @@ use crate::asking::request;
 use nv_dispatch::usual_limits;
 use nv_value::{Bytes, Value};
 use nv_watch::{Counter, Verdict, Watcher};
-use nv_world::{BufferSplice, Event, Step, World};
+use nv_world::{Event, Moved, Step, World};
 use std::alloc::{AllocError, Global};
 use std::test::Fail;
 
 // The splices of a step: of buffer 1, or none.
-fn splices_of(
-    alloc: Global,
-    splice: Option<(u64, u64, u64)>,
-) -> Result<Vec<BufferSplice>, AllocError> {
+fn splices_of(alloc: Global, splice: Option<(u64, u64, u64)>) -> Result<Vec<Moved>, AllocError> {
     let mut splices = Vec::new(alloc);
     if let Some((at, old, new)) = splice {
-        splices.push(BufferSplice {
+        splices.push(Moved {
             buffer: 1,
             at,
             old,
             new,
+            change: 2,
+            part: 0,
+            back: false,
         })?;
     }
     Ok(splices)

@@ -66,6 +66,13 @@ impl<E> UndoTree<E> {
         self.changes.len() as u64
     }
 
+    /// The number that the next change gets.
+    pub fn next(&self) -> u64
+        ensures { result ≡ suc (last self.now) }
+    {
+        self.entered.len() as u64
+    }
+
     /// Adds a change that leads from the number that the text is at to a new one, answers the new
     /// number, and the text is at it. Where memory is wanting nothing changes, and the change comes
     /// back.

@@ -1,10 +1,14 @@
 -- What a fold of buffers keeps grows with what is seen.
-use Rattle.std.proofs.Common.{◌≡◌, refl, ap, sym, ◌∙◌, inl, inr, ℕ, zero, suc, ℤ, Bool, true, false, cond, List, [], ◌∷◌, ◌++◌, Option, Some, None, slice_get, subst}
+use Rattle.std.proofs.Common.{◌≡◌, refl, ap, sym, ◌∙◌, inl, inr, ℕ, zero, suc, ℤ, Bool, true, false, true≢false, cond, List, [], ◌∷◌, ◌++◌, Option, Some, None, IsSome, slice_get, subst, option_map, option_and_then}
 use Rattle.std.specs.Prelude.{◌==◌, ◌&&◌, ◌||◌, not}
 use Rattle.std.specs.List.{list_any}
 use Rattle.std.proofs.lemmas.List.Sums.{fold-append}
 use Rattle.nv_rpc.specs.Messages.{Sent}
-use Rattle.nv_model.specs.Seen.{Seen}
+use Rattle.nv_model.specs.Seen.{Seen, seen_of}
+use Rattle.nv_history.specs.Events.{Entry}
+use Rattle.nv_history.specs.Runs.{run_from}
+use Rattle.nv_history.specs.Worlds.{World}
+use Rattle.nv_world.specs.Worlds.{model_of}
 use Rattle.nv_subs.specs.Mirrors.{Mirror, absent}
 use Rattle.nv_world.specs.declared.step.Step.{Step}
 use Rattle.nv_watch.specs.declared.mirror.Followed.{Followed}
@@ -14,9 +18,11 @@ use Rattle.nv_watch.specs.Folding.{HoldsOtherLines, IsFoldedWrong, is_compared, 
 use Rattle.nv_watch.specs.Folds.{Mirrors, mirrors_behind, do_fit, holds_other}
 use Rattle.nv_watch.specs.SeenWorlds.{editor_seen}
 use Rattle.nv_watch.specs.SentParts.{is_whole_sent, messages_sent}
-use Rattle.nv_watch.specs.Verdicts.{Sight, verdict_with}
-use Rattle.nv_watch.specs.inside.Folded.{HasFoldedIn, any_other_in, is_other_in}
+use Rattle.nv_watch.specs.Verdicts.{FollowsNext, Sight, last_sight, latest, verdict_with}
+use Rattle.nv_watch.specs.inside.Folded.{AreKnownIn, HasFoldedIn, HasFoldedWith, any_other_in, is_other_in}
 use Rattle.nv_watch.specs.inside.Mirroring.{AreNotTwice, is_of, mirror_in, mirrors_for}
+use Rattle.nv_watch.specs.inside.Sharing.{AllShare, texts_seen}
+use Rattle.nv_watch.proofs.Linked.{runs_on}
 use Rattle.nv_watch.proofs.Mirrored.{behind_same, fits_same, is_of_both, its_mirror}
 use Rattle.nv_watch.proofs.Verdicts.{verdict_grows, none_broken}
 
@@ -140,7 +146,7 @@ pub folded_more : (fs later : List Followed) (v : Verdict) (seen : List Sight) (
     → (AreNotTwice fs → AreNotTwice later)
     → other ≡ any_other_in (editor_seen x.world) x.step messages later
     → broken ≡ (not whole || not fit || other)
-    → HasFoldedIn fs v seen → HasFoldedIn later (verdict_with v x.step.at broken) (seen ++ x ∷ [])
+    → HasFoldedWith fs v seen → HasFoldedWith later (verdict_with v x.step.at broken) (seen ++ x ∷ [])
 folded_more fs later v seen x messages whole fit other broken sent whole_is fit_is after apart other_is' broken_is' old =
     let are : (s : ℕ) (n : ℤ) → mirror_in later s n ≡ mirrors_seen (seen ++ x ∷ []) s n = kept_more fs later seen x messages sent after old.mirrors in
     let fits : fit ≡ do_fit (mirrors_seen seen x.step.session) (messages_sent x.step.sent) =
@@ -159,11 +165,47 @@ folded_more fs later v seen x messages whole fit other broken sent whole_is fit_
           old.verdict;
     }
 
+-- the rows of mirrors that are known in the world of a sight are those in that of the last
+last_seen : (seen : List Sight) (x : Sight) → last_sight (seen ++ x ∷ []) ≡ Some x
+last_seen seen x = fold-append latest None seen (x ∷ [])
+
+some_same : {A : Type 0} (a b : A) → Some a ≡ Some b → a ≡ b
+some_same a b e = cc
+
+pub known_last : (fs : List Followed) (seen : List Sight) (x : Sight) → ((editor : Seen) → editor_seen x.world ≡ Some editor → AllShare (texts_seen editor) fs)
+    → AreKnownIn fs (seen ++ x ∷ [])
+known_last fs seen x known = λ last editor last_is there.
+    let same : last ≡ x = some_same last x (sym last_is ∙ last_seen seen x) in
+    known editor (ap (λ (y : Sight). editor_seen y.world) (sym same) ∙ there)
+
+-- the editor of the world before one that follows is known
+runs_from : (o p : Option World) (e : Entry) → p ≡ option_and_then (λ (v : World). run_from v (e ∷ [])) o → IsSome p → (w : World) × (o ≡ Some w)
+runs_from None p e is some = absurd (true≢false (sym (subst (λ (q : Option World). IsSome q) is some)))
+runs_from (Some w) p e is some = (w, refl)
+
+pub known_before : (seen : List Sight) (x : Sight) (next : FollowsNext seen x) → (editor : Seen) × (editor_seen next.last.world ≡ Some editor)
+unfolding editor_seen
+known_before seen x next =
+    let k = next.last.world in
+    let w = runs_from (model_of next.last.world) (model_of x.world) next.entry (runs_on next.last.world x.world next.entry next.more) next.more.runs in (
+      seen_of w.0.editor,
+      ap (λ (b : Bool). cond b None (option_map (λ (v : World). seen_of v.editor) (model_of next.last.world))) next.more.known
+          ∙ ap (option_map (λ (v : World). seen_of v.editor)) w.1,
+    )
+
+pub folded_with : (fs later : List Followed) (v : Verdict) (seen : List Sight) → ((s : ℕ) (n : ℤ) → mirror_in later s n ≡ mirror_in fs s n)
+    → (AreNotTwice fs → AreNotTwice later) → HasFoldedWith fs v seen → HasFoldedWith later v seen
+folded_with fs later v seen same apart old =
+    record { mirrors = λ s n. same s n ∙ old.mirrors s n; apart = apart old.apart; verdict = old.verdict }
+
 pub none_folded : (fs : List Followed) → fs ≡ [] → HasFoldedIn fs Yes []
 none_folded fs none = record {
-  mirrors = λ s n. ap (λ (l : List Followed). mirror_in l s n) none;
-  apart = subst_apart none;
-  verdict = none_broken IsFoldedWrong;
+  kept = record {
+    mirrors = λ s n. ap (λ (l : List Followed). mirror_in l s n) none;
+    apart = subst_apart none;
+    verdict = none_broken IsFoldedWrong;
+  };
+  known = λ last editor last_is there. let e : None ≡ Some last = last_is in absurd cc;
 }
   where
     subst_apart : fs ≡ [] → AreNotTwice fs

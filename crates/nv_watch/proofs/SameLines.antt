@@ -1,9 +1,13 @@
 -- Two texts row by row, and one that stands in chunks.
-use Rattle.std.proofs.Common.{◌≡◌, refl, ap, sym, ◌∙◌, ℕ, zero, suc, ◌<◌, ◌≤◌, Bool, true, false, List, [], ◌∷◌, ◌++◌, drop, get_or, length, length-append, arith}
-use Rattle.std.specs.Prelude.{◌&&◌, bytes_eq}
+use Rattle.std.proofs.Common.{◌≡◌, refl, ap, sym, ◌∙◌, ℕ, zero, suc, ◌+◌, ◌<◌, ◌≤◌, Bool, true, false, List, [], ◌∷◌, ◌++◌, take, drop, get_or, length, length-append, arith, Some}
+use Rattle.std.specs.Prelude.{◌&&◌, ◌-◌, bytes_eq, slice_get}
 use Rattle.nv_lines.specs.Chunks.{chunk_lines}
 use Rattle.nv_lines.specs.declared.chunk.Chunk.{Chunk}
+use Rattle.std.specs.Cmp.Lexicographic.{bytes_decides}
+use Rattle.std.proofs.lemmas.List.{drop-drop, take-take, take-append-drop}
 use Rattle.nv_watch.specs.Folds.{are_same_lines}
+use Rattle.nv_watch.specs.declared.mirror.Ends.{Ends}
+use Rattle.nv_watch.specs.inside.Sharing.{ShareEnds}
 use Rattle.nv_watch.proofs.Handles.{rest_here}
 
 pub same_at : (xs bs : List (List ℕ)) (i : ℕ) (x b : List ℕ) (same : Bool) → length xs ≡ length bs → i < length xs
@@ -81,3 +85,54 @@ none_same (x ∷ xs) left all none count known = absurd (omega (arith, ap length
 pub all_same : (cs : List Chunk) (i : ℕ) (left : List (List ℕ)) (all : Bool) → length cs ≤ i → length (chunk_lines (drop i cs)) ≡ length left
     → are_same_lines (chunk_lines (drop i cs)) left ≡ all → true ≡ all
 all_same cs i left all past count known = none_same (chunk_lines (drop i cs)) left all (none_behind cs i past) count known
+
+-- ---- rows that are known to be the same
+bytes_same : (x : List ℕ) → bytes_eq x x ≡ true
+bytes_same x = (bytes_decides x x).1 refl
+
+pub self_same : (ls : List (List ℕ)) → are_same_lines ls ls ≡ true
+self_same [] = refl
+self_same (l ∷ ls) = ap (λ (t : Bool). t && are_same_lines ls ls) (bytes_same l) ∙ self_same ls
+
+both_hold : (a b : Bool) → (a && b) ≡ true → (a ≡ true) × (b ≡ true)
+both_hold true b e = (refl, e)
+both_hold false b e = absurd cc
+
+pub same_texts : (xs ys : List (List ℕ)) → are_same_lines xs ys ≡ true → xs ≡ ys
+same_texts [] [] e = refl
+same_texts [] (y ∷ ys) e = absurd cc
+same_texts (x ∷ xs) [] e = absurd cc
+same_texts (x ∷ xs) (y ∷ ys) e =
+    let both = both_hold (bytes_eq x y) (are_same_lines xs ys) e in
+    ap (λ (l : List ℕ). l ∷ xs) ((bytes_decides x y).0 both.0) ∙ ap (λ (ls : List (List ℕ)). y ∷ ls) (same_texts xs ys both.1)
+
+some_same : {A : Type 0} (a b : A) → Some a ≡ Some b → a ≡ b
+some_same a b e = cc
+
+pub same_here : (xs bs : List (List ℕ)) (i : ℕ) (x b : List ℕ) (same : Bool) → length xs ≡ length bs → slice_get xs i ≡ Some x
+    → b ≡ get_or bs i b → same ≡ bytes_eq x b
+    → are_same_lines (drop i xs) (drop i bs) ≡ (same && are_same_lines (drop (suc i) xs) (drop (suc i) bs))
+same_here [] bs i x b same count xi bi is = absurd cc
+same_here (y ∷ xs) [] i x b same count xi bi is = absurd (omega (arith, count))
+same_here (y ∷ xs) (c ∷ bs) zero x b same count xi bi is =
+    ap (λ (t : Bool). t && are_same_lines xs bs) (sym (is ∙ ap (λ (l : List ℕ). bytes_eq l b) (sym (some_same y x xi)) ∙ ap (λ (l : List ℕ). bytes_eq y l) bi))
+same_here (y ∷ xs) (c ∷ bs) (suc i) x b same count xi bi is = same_here xs bs i x b same (omega (arith, count)) xi bi is
+
+-- all is told by the rows between those that are the same
+pub told_between : (text lines : List (List ℕ)) (e : Ends) (from to : ℕ) (told : Bool) → length text ≡ length lines → from ≤ e.front → length lines - e.back ≤ to
+    → (are_same_lines (drop to text) (drop to lines) ≡ true → told ≡ are_same_lines (drop from text) (drop from lines))
+    → ShareEnds e lines text → told ≡ are_same_lines text lines
+told_between text lines e from to told count before behind between h =
+    let here : length lines - e.back + (to - (length lines - e.back)) ≡ to = omega (arith, behind) in
+    let there : length text - e.back + (to - (length lines - e.back)) ≡ to = omega (arith, behind, count) in
+    let rest : drop to lines ≡ drop to text =
+    ap (λ (j : ℕ). drop j lines) (sym here) ∙ sym (drop-drop (to - (length lines - e.back)) (length lines - e.back) lines)
+    ∙ ap (drop (to - (length lines - e.back))) h.back
+    ∙ drop-drop (to - (length lines - e.back)) (length text - e.back) text ∙ ap (λ (j : ℕ). drop j text) there in
+    let front : take from lines ≡ take from text = sym (take-take from e.front lines before) ∙ ap (take from) h.front ∙ take-take from e.front text before in
+    between (ap (λ (ls : List (List ℕ)). are_same_lines (drop to text) ls) rest ∙ self_same (drop to text))
+    ∙ ap (λ (t : Bool). t && are_same_lines (drop from text) (drop from lines))
+    (sym (ap (λ (ls : List (List ℕ)). are_same_lines (take from text) ls) front ∙ self_same (take from text)))
+    ∙ sym (same_parts (take from text) (drop from text) (take from lines) (drop from lines) (ap length (sym front)))
+    ∙ ap (λ (ls : List (List ℕ)). are_same_lines ls (take from lines ++ drop from lines)) (take-append-drop from text)
+    ∙ ap (λ (ls : List (List ℕ)). are_same_lines text ls) (take-append-drop from lines)

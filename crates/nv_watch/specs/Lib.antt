@@ -1,9 +1,9 @@
 pub mod Counting
 pub mod Folding
 pub mod Folds
+pub mod FollowedMarks
 pub mod GridClients
 pub mod Grids
-pub mod MarkEnds
 pub mod MarkRule
 pub mod SeenWorlds
 pub mod SentParts

@@ -1,73 +1,55 @@
--- When a mark stands elsewhere than the splices of a step moved it (help: api-extended-marks).
-use Rattle.std.specs.Prelude.{◌≡◌, ℕ, ◌==◌, ◌&&◌, not, Bool, true, false, List, fold, length, slice_get, codes, bytes_eq, Option, Some, None, option_map, if◌then◌else◌}
+-- When a mark stands elsewhere than the splices since it was set left it (help:
+-- api-extended-marks).
+use Rattle.std.specs.Prelude.{◌≡◌, ◌==◌, ◌&&◌, not, Bool, true, false, List, [], fold, length, map, Option, Some, None, if◌then◌else◌}
 use Rattle.std.specs.List.{list_any}
-use Rattle.nv_rpc.specs.Calls.{Call, request, notice}
 use Rattle.nv_model.specs.Seen.{Seen}
-use Rattle.nv_history.specs.Events.{Event, Entry, open_session, request_of, take_of, close_of}
-use Rattle.nv_world.specs.Contents.{plain_entries}
-use Rattle.nv_world.specs.declared.step.BufferSplice.{BufferSplice}
-use Rattle.nv_watch.specs.declared.mark_end.MarkEnd.{MarkEnd}
-use Rattle.nv_watch.specs.MarkEnds.{ends_of, is_elsewhere}
+use Rattle.nv_watch.specs.FollowedMarks.{Followed, follow_all, is_elsewhere, followed_after}
 use Rattle.nv_watch.specs.SeenWorlds.{editor_seen}
 use Rattle.nv_watch.specs.Verdicts.{Sight}
 
--- whether an event is a request or a notification
-abbrev pub is_call_event : Event → Bool
-is_call_event open_session = false
-is_call_event (request_of s call) = true
-is_call_event (take_of s) = false
-is_call_event (close_of s) = false
+-- what is known of marks: those that are followed, where the last splices left them, and the editor
+-- after the last step
+pub record SeenMarks : Type 0 where
+  pub marks : List Followed
+  pub editor : Option Seen
 
--- the name of the method that a call names
-abbrev pub method_called : Call → List ℕ
-method_called (request msgid method params) = method
-method_called (notice method params) = method
+-- the marks of an editor, if it is known, as they go on being followed
+abbrev pub marks_found : Bool → List Followed → Option Seen → List Followed
+marks_found is_left_out known None = []
+marks_found is_left_out known (Some seen) = follow_all is_left_out known seen
 
--- whether an event calls many methods in one, of which some may set marks and others splice (help:
--- nvim_call_atomic())
-abbrev pub is_atomic_event : Event → Bool
-is_atomic_event open_session = false
-is_atomic_event (request_of s call) = bytes_eq (method_called call) (codes "nvim_call_atomic")
-is_atomic_event (take_of s) = false
-is_atomic_event (close_of s) = false
+-- the marks before the next step: one that was set since is followed from where it stands
+abbrev pub marks_before : SeenMarks → List Followed
+marks_before s = marks_found false s.marks s.editor
 
--- whether an entry that is there has such an event
-abbrev pub is_call_entry : Option Entry → Bool
-is_call_entry None = false
-is_call_entry (Some e) = is_call_event e.event
+-- where the splices of a step leave them
+abbrev pub marks_stepped : SeenMarks → Sight → List Followed
+marks_stepped s x = map (followed_after x.step.splices.items) (marks_before s)
 
-abbrev pub is_atomic_entry : Option Entry → Bool
-is_atomic_entry None = false
-is_atomic_entry (Some e) = is_atomic_event e.event
+-- those that are followed after it: one that was set beside its splices is left out
+abbrev pub marks_followed : SeenMarks → Sight → List Followed
+marks_followed s x =
+    if length x.step.splices.items == 0 then s.marks
+    else marks_found true (marks_stepped s x) (editor_seen x.world)
 
--- the entry of a step
-abbrev pub entry_seen : Sight → Option Entry
-entry_seen x = slice_get (plain_entries x.world.history) x.step.at
+abbrev pub known_after : SeenMarks → Sight → SeenMarks
+known_after s x = record { marks = marks_followed s x; editor = editor_seen x.world }
 
--- the ends of marks that were seen last: those after the last call, since no other event sets,
--- removes or moves a mark
-abbrev pub ends_after : Option (List MarkEnd) → Sight → Option (List MarkEnd)
-ends_after ends x =
-    if is_call_entry (entry_seen x) then option_map ends_of (editor_seen x.world) else ends
+-- what is known of marks after steps
+abbrev pub marks_seen : List Sight → SeenMarks
+marks_seen seen = fold known_after (record { marks = []; editor = None }) seen
 
-abbrev pub ends_seen : List Sight → Option (List MarkEnd)
-ends_seen seen = fold ends_after None seen
+-- whether one of these marks stands elsewhere in this editor than splices left it, or is shown
+-- otherwise
+abbrev pub any_elsewhere : List Followed → Option Seen → Bool
+any_elsewhere marks None = false
+any_elsewhere marks (Some editor) = list_any (is_elsewhere editor) marks
 
--- whether one of these ends stands elsewhere in this editor than splices moved it
-abbrev pub any_elsewhere : Option (List MarkEnd) → Option Seen → List BufferSplice → Bool
-any_elsewhere None editor splices = false
-any_elsewhere (Some ends) None splices = false
-any_elsewhere (Some ends) (Some editor) splices = list_any (is_elsewhere editor splices) ends
-
--- whether a step has splices, and its call is one alone, so that it sets no mark beside them
-abbrev pub has_only_splices : Sight → Bool
-has_only_splices x =
-    not (length x.step.splices.items == 0) && not (is_atomic_entry (entry_seen x))
-
--- after such a step an end of a mark that was there before it stands elsewhere than its splices
--- moved that end; nothing is asked of an end that is gone
+-- after a step with splices a mark that was there before it stands elsewhere than the splices since
+-- it was set left it, or is shown otherwise; nothing is asked of one that isn't there any more, was
+-- set anew, or was set beside splices
 abbrev pub IsMarkMisplaced : List Sight → Sight → Type 0
 IsMarkMisplaced before x =
-    (has_only_splices x
-    && any_elsewhere (ends_seen before) (editor_seen x.world) x.step.splices.items)
+    (not (length x.step.splices.items == 0)
+    && any_elsewhere (marks_stepped (marks_seen before) x) (editor_seen x.world))
     ≡ true

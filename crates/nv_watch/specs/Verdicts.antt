@@ -1,7 +1,9 @@
 -- What a watcher sees, and when a rule is broken (own rule).
 use Rattle.std.specs.Prelude.{◌≡◌, ℕ, ◌≤◌, Bool, false, List, [], ◌∷◌, ◌++◌, fold, length, if◌then◌else◌, min, Option, Some, None, IsSome}
 use Rattle.nv_history.specs.Events.{Entry}
+use Rattle.nv_history.specs.Worlds.{World as ModelWorld}
 use Rattle.nv_world.specs.Contents.{plain_entries}
+use Rattle.nv_world.specs.Steps.{splices_of_event}
 use Rattle.nv_world.specs.Worlds.{WorldRecord, model_of}
 use Rattle.nv_world.specs.declared.step.Step.{Step}
 use Rattle.nv_watch.specs.declared.verdict.Verdict.{Verdict}
@@ -65,11 +67,17 @@ pub record HasOneMore (k later : WorldRecord) (entry : Entry) : Type 0 where
   pub runs : IsSome (model_of later)
 
 -- a sight follows those that were seen: its world has one entry more than that of the last, which
--- is its step's, and spliced nothing
-pub record FollowsQuietly (seen : List Sight) (x : Sight) : Type 0 where
+-- is its step's, and its splices are those that this entry makes
+pub record FollowsNext (seen : List Sight) (x : Sight) : Type 0 where
   pub last : Sight
   pub last_is : last_sight seen ≡ Some last
   pub entry : Entry
   pub more : HasOneMore last.world x.world entry
   pub number : x.step.at ≡ length (plain_entries last.world.history)
+  pub splices : (w : ModelWorld) → model_of last.world ≡ Some w
+      → x.step.splices.items ≡ splices_of_event w entry.event
+
+-- and spliced nothing
+pub record FollowsQuietly (seen : List Sight) (x : Sight) : Type 0 where
+  pub next : FollowsNext seen x
   pub quiet : x.step.splices.items ≡ []

@@ -1,14 +1,15 @@
 //! Mirrors beside the buffers that they are of.
-ghost use Rattle.std.specs.Prelude.{◌≡◌, pos, nat_abs, length, map, Some, bytes_eq};
+ghost use Rattle.std.specs.Prelude.{◌≡◌, ◌≤◌, ℕ, pos, nat_abs, List, length, drop, map, Some, true, slice_get, bytes_eq};
 ghost use Rattle.std.specs.List.{list_any};
 ghost use Rattle.std.specs.Ordering.{int_eq};
 ghost use Rattle.nv_rpc.specs.MessageView.{sent_of};
 ghost use Rattle.nv_lines.specs.Chunks.{chunk_lines};
 ghost use Rattle.nv_model.specs.Standing.{seen_now, seen_buffer_now};
 ghost use Rattle.nv_subs.specs.Mirrors.{holding};
-ghost use Rattle.nv_watch.specs.Folds.{are_same_lines, holds_other, tells_lines};
+ghost use Rattle.nv_watch.specs.Folds.{are_same_lines, tells_lines};
+ghost use Rattle.nv_watch.specs.inside.Sharing.{HasCompared, MirrorShares, ShareEnds, SharesIf, lines_there};
 
-use crate::mirror::Followed;
+use crate::mirror::{Ends, Followed};
 use nv_buffer::Buffer;
 use nv_editor::Editor;
 use nv_lines::{Chunk, Line, LineList, Lines};
@@ -54,14 +55,59 @@ fn hold_lines(chunks: &[Chunk], lines: &[Line]) -> bool
     true
 }
 
-// Whether two texts have the same lines.
-fn are_same_lines(text: &Lines, lines: &LineList) -> bool
-    ensures { result ≡ are_same_lines text.now lines.now }
+// Whether a text has a line at a row.
+fn is_line_at(text: &Lines, row: usize, line: &Line) -> bool
+    ensures { (there : List ℕ) → slice_get text.now row ≡ Some there
+        → result ≡ bytes_eq there line.now }
+{
+    match text.line(row) {
+        Some(there) => is_same_line(there, line),
+        None => false,
+    }
+}
+
+// Whether the rows of two texts from one up to before another are the same, and so all from the
+// first on, where those behind are.
+fn are_same_between(text: &Lines, lines: &[Line], from: usize, to: usize) -> bool
+    requires order { from ≤ to }
+    requires within { to ≤ length lines.now }
+    requires count { length text.now ≡ length lines.now }
+    ensures { are_same_lines (drop to text.now) (drop to lines.now) ≡ true
+        → result ≡ are_same_lines (drop from text.now) (drop from lines.now) }
+{
+    for row in from..to {
+        if !is_line_at(text, row, &lines[row]) {
+            return false;
+        }
+    }
+    true
+}
+
+// Whether two texts of so many rows each have the same lines, where these rows of theirs are known
+// to be the same.
+#[tactic(auto, using(crate::proofs::SameLines::told_between))]
+fn are_same_but(text: &Lines, lines: &[Line], ends: Ends) -> bool
+    requires { length text.now ≡ length lines.now }
+    ensures { ShareEnds ends lines.now text.now → result ≡ are_same_lines text.now lines.now }
+{
+    let count = lines.len();
+    let from = ends.front.min(count);
+    let to = count.saturating_sub(ends.back).max(from);
+    are_same_between(text, lines, from, to)
+}
+
+// Whether two texts have the same lines, where these rows of theirs are known to be the same: each
+// chunk is looked at where none are.
+fn are_same_lines(text: &Lines, lines: &LineList, ends: Ends) -> bool
+    ensures { ShareEnds ends lines.now text.now → result ≡ are_same_lines text.now lines.now }
 {
     if text.count() != lines.len() {
         return false;
     }
-    hold_lines(text.chunks(), lines.as_slice())
+    if ends.front == 0 && ends.back == 0 {
+        return hold_lines(text.chunks(), lines.as_slice());
+    }
+    are_same_but(text, lines.as_slice(), ends)
 }
 
 // Whether a number is the changedtick of a buffer.
@@ -72,32 +118,45 @@ fn is_tick_of(buffer: &Buffer, tick: i64) -> bool
     tick == buffer.tick()
 }
 
-// Whether lines are others than those of a buffer that has this changedtick.
-fn are_others(buffer: &Buffer, lines: &LineList, tick: i64) -> bool
-    ensures { result ≡ holds_other (holding lines.now tick) (Some (seen_buffer_now buffer.now)) }
+// Whether lines are those of a buffer, where it has this changedtick.
+#[tactic(auto, using(crate::proofs::Looking::lines_compared, crate::proofs::Looking::lines_apart))]
+fn compare_lines(buffer: &Buffer, lines: &LineList, tick: i64, ends: Ends) -> Option<bool>
+    ensures { ShareEnds ends lines.now buffer.now.text
+        → HasCompared (holding lines.now tick) (Some (seen_buffer_now buffer.now)) result }
 {
-    is_tick_of(buffer, tick) && !are_same_lines(buffer.text(), lines)
-}
-
-// Whether a follower holds other lines than a buffer that has its changedtick.
-fn holds_others(follower: &Follower, buffer: &Buffer) -> bool
-    ensures { result ≡ holds_other follower.now.mirror (Some (seen_buffer_now buffer.now)) }
-{
-    match (follower.text(), follower.tick()) {
-        (Some(lines), Some(tick)) => are_others(buffer, lines, tick),
-        _ => false,
+    if is_tick_of(buffer, tick) {
+        Some(are_same_lines(buffer.text(), lines, ends))
+    } else {
+        None
     }
 }
 
-/// Whether a session holds other lines than the buffer of its mirror, where that is there and has
-/// the mirror's changedtick.
-pub fn holds_other(followed: &Followed, editor: &Editor) -> bool
-    ensures { result ≡ holds_other followed.now.follower.mirror
-        ((seen_now editor.now).buffer followed.now.buffer) }
+// The same of the lines of a follower, where it holds any.
+#[tactic(auto, using(crate::proofs::Looking::not_holding, crate::proofs::Looking::not_known, crate::proofs::Looking::when_holding))]
+fn compare_with(follower: &Follower, buffer: &Buffer, ends: Ends) -> Option<bool>
+    ensures { MirrorShares ends follower.now.mirror buffer.now.text
+        → HasCompared follower.now.mirror (Some (seen_buffer_now buffer.now)) result }
+{
+    let Some(lines) = follower.text() else {
+        return None;
+    };
+    let Some(tick) = follower.tick() else {
+        return None;
+    };
+    compare_lines(buffer, lines, tick, ends)
+}
+
+/// Whether a session holds the lines of the buffer of its mirror, where that is there and has the
+/// mirror's changedtick.
+#[tactic(auto, using(crate::proofs::Looking::none_there))]
+pub fn compare(followed: &Followed, editor: &Editor) -> Option<bool>
+    ensures { SharesIf followed.now (lines_there ((seen_now editor.now).buffer followed.now.buffer))
+        → HasCompared followed.now.follower.mirror
+        ((seen_now editor.now).buffer followed.now.buffer) result }
 {
     match editor.buffer(followed.buffer) {
-        Some(there) => holds_others(&followed.follower, there),
-        None => false,
+        Some(there) => compare_with(&followed.follower, there, followed.ends),
+        None => None,
     }
 }
 

@@ -8,15 +8,16 @@ mod comparing;
 mod counter;
 mod counts;
 mod editors;
-mod ends;
 mod followed;
+mod followed_mark;
+mod following;
 mod grid_client;
 mod grid_fold;
 mod mark_check;
-mod mark_end;
 mod mirror;
 mod placing;
 mod reading;
+mod touching;
 mod verdict;
 mod watcher;
 

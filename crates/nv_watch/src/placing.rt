@@ -1,148 +1,99 @@
-//! Where ends of marks stand, and where splices move them.
-ghost use Rattle.std.specs.Prelude.{◌≡◌, ◌+◌, IfOk, IfSome, IfNone};
+//! Where marks stand, beside where splices left them.
+ghost use Rattle.std.specs.Prelude.{◌≡◌, IfOk, Some, option_map};
 ghost use Rattle.std.specs.List.{list_any};
-ghost use Rattle.nv_places.specs.Flat.{row_start};
-ghost use Rattle.nv_places.specs.Moves.{moved_offset};
 ghost use Rattle.nv_places.specs.Places.{offset_of};
 ghost use Rattle.nv_model.specs.Standing.{seen_now, seen_buffer_now};
-ghost use Rattle.nv_watch.specs.MarkEnds.{end_in, end_in_buffer, is_elsewhere, is_other_than, mark_offset, offset_spliced, offset_after};
+ghost use Rattle.nv_watch.specs.FollowedMarks.{is_elsewhere, is_elsewhere_in, is_mark_elsewhere, is_same_flag, is_same_offset, stands_as};
 
-use crate::mark_end::MarkEnd;
+use crate::followed_mark::FollowedMark;
 use nv_buffer::Buffer;
 use nv_editor::Editor;
 use nv_lines::Lines;
-use nv_marks::Mark;
+use nv_marks::{Far, Mark};
 use nv_places::Pos;
-use nv_world::BufferSplice;
 use std::alloc::AllocError;
 
-/// The offset at which a row begins in the flat text of lines; behind them that of their end.
-pub fn start_of(text: &Lines, row: u32) -> u64
-    ensures { result ≡ row_start text.now row }
-{
-    text.offset((row as usize).min(text.count()))
-}
-
-// The offset of a place in the flat text of lines. `AllocError` where it passes 64 bits.
-fn offset_in(text: &Lines, place: Pos) -> Result<u64, AllocError>
+/// The offset of a place in the flat text of lines. `AllocError` where it passes 64 bits.
+pub fn offset_in(text: &Lines, place: Pos) -> Result<u64, AllocError>
     ensures { IfOk result (λ offset. offset ≡ offset_of text.now place) }
 {
-    start_of(text, place.row)
+    let row = (place.row as usize).min(text.count());
+    text.offset(row)
         .checked_add(u64::from(place.col))
         .ok_or(AllocError)
 }
 
-// Where a splice of its buffer moves an offset.
-fn moved(splice: BufferSplice, right: bool, offset: u64) -> Option<u64>
-    ensures { IfSome result (λ moved. moved
-        ≡ moved_offset right splice.at (splice.at + splice.old) splice.new offset) }
-{
-    let until = splice.at.checked_add(splice.old)?;
-    if offset < splice.at {
-        Some(offset)
-    } else if until < offset {
-        (offset - until)
-            .checked_add(splice.at)?
-            .checked_add(splice.new)
-    } else if right {
-        splice.at.checked_add(splice.new)
-    } else {
-        Some(splice.at)
-    }
-}
-
-// Where a splice moves an offset in a buffer.
-fn spliced(buffer: i64, right: bool, offset: u64, splice: BufferSplice) -> Option<u64>
-    ensures { IfSome result (λ moved. moved ≡ offset_spliced buffer right offset splice) }
-{
-    if splice.buffer == buffer {
-        moved(splice, right, offset)
-    } else {
-        Some(offset)
-    }
-}
-
-// Where splices move an end, one after another. `AllocError` where it passes 64 bits.
-fn offset_after(end: &MarkEnd, splices: &[BufferSplice]) -> Result<u64, AllocError>
-    ensures { IfOk result (λ offset. offset ≡ offset_after end.now splices.now) }
-{
-    let mut offset = end.offset;
-    for splice in splices {
-        let Some(next) = spliced(end.buffer, end.right, offset, *splice) else {
-            return Err(AllocError);
-        };
-        offset = next;
-    }
-    Ok(offset)
-}
-
-// Where the end of that kind of a mark stands.
-fn mark_offset(text: &Lines, is_stop: bool, mark: Mark) -> Result<Option<u64>, AllocError>
-    ensures { IfOk result (λ offset. offset ≡ mark_offset text.now is_stop mark) }
-{
-    if !is_stop {
-        return Ok(Some(offset_in(text, mark.start)?));
-    }
-    match mark.stop {
-        Some(far) => Ok(Some(offset_in(text, far.pos)?)),
-        None => Ok(None),
-    }
-}
-
-// Where an end stands in a buffer, where its mark is there and has it.
-fn end_in_buffer(buffer: &Buffer, end: &MarkEnd) -> Result<Option<u64>, AllocError>
-    ensures { IfOk result (λ offset. offset ≡ end_in_buffer (seen_buffer_now buffer.now) end.now) }
-{
-    match buffer.marks().find(end.ns, end.id) {
-        Some(mark) => mark_offset(buffer.text(), end.is_stop, mark),
-        None => Ok(None),
-    }
-}
-
-// Where an end stands in an editor.
-fn end_in(editor: &Editor, end: &MarkEnd) -> Result<Option<u64>, AllocError>
-    ensures { IfOk result (λ offset. offset ≡ end_in (seen_now editor.now) end.now) }
-{
-    match editor.buffer(end.buffer) {
-        Some(buffer) => end_in_buffer(buffer, end),
-        None => Ok(None),
-    }
-}
-
-fn is_other_than(wanted: u64, there: Option<u64>) -> bool
-    ensures { result ≡ is_other_than wanted there }
-{
-    match there {
-        Some(offset) => offset != wanted,
-        None => false,
-    }
-}
-
-// Whether an end stands elsewhere than splices moved it.
-fn is_elsewhere(
-    editor: &Editor,
-    splices: &[BufferSplice],
-    end: &MarkEnd,
-) -> Result<bool, AllocError>
-    ensures { IfOk result
-        (λ answer. answer ≡ is_elsewhere (seen_now editor.now) splices.now end.now) }
-{
-    let wanted = offset_after(end, splices)?;
-    let there = end_in(editor, end)?;
-    Ok(is_other_than(wanted, there))
-}
-
-/// Whether one of some ends stands elsewhere than splices moved it.
-pub fn any_elsewhere(
-    editor: &Editor,
-    splices: &[BufferSplice],
-    ends: &[MarkEnd],
-) -> Result<bool, AllocError>
+// Whether an end stands at an offset, or neither is there.
+fn stops_at(text: &Lines, stop: Option<Far>, wanted: Option<u64>) -> Result<bool, AllocError>
     ensures { IfOk result (λ answer. answer
-        ≡ list_any (is_elsewhere (seen_now editor.now) splices.now) ends.now) }
+        ≡ is_same_offset (option_map (λ far. offset_of text.now far.pos) stop) wanted) }
 {
-    for end in ends {
-        if is_elsewhere(editor, splices, end)? {
+    match (stop, wanted) {
+        (Some(far), Some(wanted)) => Ok(offset_in(text, far.pos)? == wanted),
+        (None, None) => Ok(true),
+        _ => Ok(false),
+    }
+}
+
+// Whether two flags are the same.
+fn is_same_flag(a: bool, b: bool) -> bool
+    ensures { result ≡ is_same_flag a b }
+{
+    if a { b } else { !b }
+}
+
+// Whether a mark stands where splices left one that is followed.
+fn stands_as(text: &Lines, mark: Mark, followed: &FollowedMark) -> Result<bool, AllocError>
+    ensures { IfOk result (λ answer. answer ≡ stands_as text.now mark followed.now.state) }
+{
+    let start = offset_in(text, mark.start)?;
+    let stops = stops_at(text, mark.stop, followed.stop)?;
+    let is_same = is_same_flag(mark.hidden, followed.hidden);
+    Ok(!followed.gone && start == followed.start && stops && is_same)
+}
+
+// Whether a mark under the same setting stands elsewhere than splices left it, or is shown
+// otherwise. Nothing is asked of one that is left out.
+fn is_mark_elsewhere(text: &Lines, mark: Mark, followed: &FollowedMark) -> Result<bool, AllocError>
+    ensures { IfOk result (λ answer. answer
+        ≡ is_mark_elsewhere followed.now text.now (Some mark)) }
+{
+    if mark.set != followed.set || followed.is_left_out {
+        return Ok(false);
+    }
+    let stands = stands_as(text, mark, followed)?;
+    Ok(!stands)
+}
+
+// The same of the mark of a buffer that has its name, where there is one.
+fn is_elsewhere_in(buffer: &Buffer, followed: &FollowedMark) -> Result<bool, AllocError>
+    ensures { IfOk result (λ answer. answer
+        ≡ is_elsewhere_in followed.now (Some (seen_buffer_now buffer.now))) }
+{
+    match buffer.marks().find(followed.ns, followed.id) {
+        Some(mark) => is_mark_elsewhere(buffer.text(), mark, followed),
+        None => Ok(false),
+    }
+}
+
+// The same of an editor.
+fn is_elsewhere(editor: &Editor, followed: &FollowedMark) -> Result<bool, AllocError>
+    ensures { IfOk result (λ answer. answer ≡ is_elsewhere (seen_now editor.now) followed.now) }
+{
+    match editor.buffer(followed.buffer) {
+        Some(buffer) => is_elsewhere_in(buffer, followed),
+        None => Ok(false),
+    }
+}
+
+/// Whether one of some marks that are followed stands elsewhere than splices left it, or is shown
+/// otherwise.
+pub fn any_elsewhere(editor: &Editor, followed: &[FollowedMark]) -> Result<bool, AllocError>
+    ensures { IfOk result (λ answer. answer
+        ≡ list_any (is_elsewhere (seen_now editor.now)) followed.now) }
+{
+    for one in followed {
+        if is_elsewhere(editor, one)? {
             return Ok(true);
         }
     }

@@ -1,6 +1,6 @@
 //! What watches a history that is gone over.
 ghost use Rattle.std.specs.Prelude.{◌≡◌, ◌↔◌, [], ◌∷◌, ◌++◌, List, ℕ, length, slice_get, Some, OnOk};
-ghost use Rattle.nv_watch.specs.Verdicts.{FollowsQuietly, IsLastWorld, Sight, sight, IsVerdict};
+ghost use Rattle.nv_watch.specs.Verdicts.{FollowsNext, FollowsQuietly, IsLastWorld, Sight, sight, IsVerdict};
 ghost use Rattle.nv_watch.specs.Shown.{HasCaughtUp, HasGlanced};
 
 use crate::verdict::Verdict;
@@ -26,10 +26,12 @@ pub trait Watcher: Drop {
         ensures rule { (seen : List Sight) (x : Sight)
             → Breaks self.old seen x ↔ Breaks self.new seen x };
 
-    /// Looks at a step, and puts off what may as well be looked at in the world after a later one,
-    /// as long as none splices: so a step costs what it changed.
+    /// Looks at a step that follows those that were seen, in the next world, and puts off what may
+    /// as well be looked at in the world after a later one, as long as none splices: so a step
+    /// costs what it changed.
     fn glance(&mut self, world: &World, step: &Step) -> Result<(), AllocError>
         ensures first { OnOk result ((seen : List Sight) → HasSeen self.old seen
+            → FollowsNext seen (sight world.now step.now)
             → IsBehind self.new (seen ++ sight world.now step.now ∷ [])) }
         ensures later { OnOk result ((seen : List Sight) → IsBehind self.old seen
             → FollowsQuietly seen (sight world.now step.now)
@@ -86,6 +88,7 @@ pub fn drive<W: Watcher>(
 // Lets one of them glance at a step.
 fn glance_one<W: Watcher>(watcher: &mut W, world: &World, step: &Step) -> Result<(), AllocError>
     ensures first { OnOk result ((seen : List Sight) → W.HasSeen watcher.old seen
+        → FollowsNext seen (sight world.now step.now)
         → W.IsBehind watcher.new (seen ++ sight world.now step.now ∷ [])) }
     ensures later { OnOk result ((seen : List Sight) → W.IsBehind watcher.old seen
         → FollowsQuietly seen (sight world.now step.now)

@@ -20,7 +20,7 @@ use Rattle.nv_api_ui.specs.Rows.{ui_rows}
 use Rattle.nv_dispatch.specs.Calls.{CallOutcome, Batch, all_rows, row_named, editor_after, outcome_of_answer, answer_to_args, outcome_by_row, outcome_of_method, outcome_of_value, batch_from_result, batch_of_values, atomic_outcome, atomic_name, nvim_call_atomic, outcome_before_seal, seal_operations, outcome_with_seal, outcome_of_call}
 use Rattle.nv_history.specs.Worlds.{outcome_of_frame}
 use Rattle.nv_world.specs.Steps.{splice_by, splices_by}
-use Rattle.nv_world.specs.declared.step.BufferSplice.{BufferSplice}
+use Rattle.nv_world.specs.declared.step.Moved.{Moved}
 use Rattle.nv_world.specs.inside.Splicing.{splice_told, splices_told}
 use Rattle.nv_world.proofs.RowsSplice.{IsSpliceTold, SplicingRow, AllSplicing, buffer_rows_splice, mark_rows_splice, window_rows_splice, ui_rows_splice}
 
@@ -76,8 +76,8 @@ method_told m session name given =
 both_told : (fs gs : List Fact) (cs ds : List Operation) → splices_told fs ≡ splices_by cs → splices_told gs ≡ splices_by ds → splices_told (fs ++ gs) ≡ splices_by (cs ++ ds)
 both_told fs gs cs ds one other =
     flat_map-append splice_told fs gs
-    ∙ ap (λ (l : List BufferSplice). l ++ splices_told gs) one
-    ∙ ap (λ (l : List BufferSplice). splices_by cs ++ l) other
+    ∙ ap (λ (l : List Moved). l ++ splices_told gs) one
+    ∙ ap (λ (l : List Moved). splices_by cs ++ l) other
     ∙ sym (flat_map-append splice_by cs ds)
 
 abbrev BatchTold : Batch → Type 0
@@ -121,7 +121,7 @@ sealed_told : (m : ModelEditor) (o : CallOutcome) (r : Result Tree ApiFault) →
 sealed_told m o (Ok t) h =
     h
     ∙ sym (append-nil (splices_by o.operations))
-    ∙ ap (λ (l : List BufferSplice). splices_by o.operations ++ l) (sym (by_seals (handles_of (editor_after m o).buffers)))
+    ∙ ap (λ (l : List Moved). splices_by o.operations ++ l) (sym (by_seals (handles_of (editor_after m o).buffers)))
     ∙ sym (flat_map-append splice_by o.operations (seal_operations (editor_after m o)))
 sealed_told m o (Err f) h = h
 

@@ -2,6 +2,7 @@
 use denote.Param.Send.{IsSend, sendable}
 use Rattle.std.proofs.Crossing.{frees}
 use Rattle.std.proofs.rt.Memory.TheSendSync as memory
+use Rattle.std.proofs.boxed.Box.TheSendSync as boxed
 use Rattle.std.proofs.vec.Vec.TheSendSync as vec
 use Rattle.std.proofs.alloc.Global.TheSendSync as heap
 use Rattle.nv_layout.proofs.nodes.Leaf.TheSendSync as leaf
@@ -21,12 +22,18 @@ use Rattle.nv_hl.proofs.table.Groups.TheSendSync as groups
 use Rattle.nv_model.proofs.parts.Ui.TheSendSync as ui
 use Rattle.nv_model.proofs.parts.Limits.TheSendSync as limits
 use Rattle.nv_subs.proofs.subs.Subs.TheSendSync as subs
+use Rattle.nv_lines.proofs.excerpt.Excerpt.TheSendSync as excerpt
 use Rattle.nv_value.proofs.bytes.Bytes.TheSendSync as bytes
 use Rattle.nv_value.proofs.fault.ApiFault.TheSendSync as fault
 use Rattle.nv_value.proofs.value.Value.TheLaws.TheKnot as value
 use Rattle.nv_world.specs.contracts.shared.SharedMessage as shared
 use Rattle.nv_world.specs.contracts.session.Session as session
 use Rattle.nv_world.specs.contracts.state.State as state
+use Rattle.nv_rpc.proofs.outcome.Triple.TheSendSync as triple
+use Rattle.nv_rpc.specs.contracts.outcome.CallResult as call_result
+use Rattle.nv_rpc.specs.contracts.outcome.AtomicResults as results
+use Rattle.nv_rpc.specs.contracts.outcome.Outcome as outcome
+use Rattle.nv_rpc.specs.contracts.message.Message as message
 use Rattle.nv_rpc.specs.contracts.frame.Frame as frame
 use Rattle.nv_world.specs.contracts.entry.Event as event
 use Rattle.nv_world.specs.contracts.entry.Entry as entry
@@ -34,7 +41,7 @@ use Rattle.nv_world.specs.contracts.history.History as history
 use Rattle.nv_world.specs.contracts.world.World as world
 use Rattle.nv_world.proofs.effect.Cause.TheSendSync as cause
 use Rattle.nv_world.proofs.shared.LinesEvent.TheSendSync as lines
-use Rattle.nv_world.proofs.step.BufferSplice.TheSendSync as splice
+use Rattle.nv_world.proofs.step.Moved.TheSendSync as splice
 use Rattle.circular_buffer.proofs.heap.HeapCircularBuffer.TheSendSync as outbox
 use Rattle.std.proofs.sync.Arc.TheSendSync as arc
 use Rattle.std.proofs.sync.atomic.AtomicU64.TheSendSync as atomic
@@ -71,10 +78,25 @@ editor_field : IsSend editor.the_field.row
 editor_field = search (stage_parts, stage_field, buffers.the_send) depth 20
 
 -- ---- sessions and entries
-ruleset message_parts = (sends, bytes.the_send, fault.the_send, fault.the_field_send, value.send-Value)
+ruleset message_parts = (sends, boxed.the_send, bytes.the_send, fault.the_send, fault.the_field_send, value.send-Value, excerpt.the_send, triple.the_send)
+
+result_send : IsSend call_result.the_row
+result_send = search message_parts depth 20
+
+result_field : IsSend call_result.the_field.row
+result_field = search message_parts depth 20
+
+results_field : IsSend results.the_field.row
+results_field = search (message_parts, result_send) depth 20
+
+outcome_field : IsSend outcome.the_field.row
+outcome_field = search (message_parts, result_field, results_field) depth 20
+
+message_field : IsSend message.the_field.row
+message_field = search (message_parts, outcome_field) depth 20
 
 shared_field : IsSend shared.the_row
-shared_field = search (message_parts, lines.the_send, lines.the_sync, arc.the_send) depth 20
+shared_field = search (sends, message_field, lines.the_send, lines.the_sync, arc.the_send) depth 20
 
 session_field : IsSend session.the_field.row
 session_field = search (sends, shared_field, cause.the_send, outbox.the_send) depth 20

@@ -31,7 +31,7 @@ use Rattle.nv_api_ui.specs.Rows.{ui_rows}
 use Rattle.nv_dispatch.proofs.Kept.{LeavesTexts, AllLeaveTexts}
 use Rattle.nv_dispatch.proofs.QuietRows.{IsQuiet, QuietRow, api_info, client_info, get_option, set_option, list_bufs, current_buf, set_current_buf, is_valid, get_name, set_name, line_count, changedtick, get_offset, get_lines, get_text, create_namespace, get_namespaces, set_extmark, del_extmark, get_extmark, get_extmarks, clear_namespace, set_hl, get_hl, get_hl_id, list_wins, get_current_win, set_current_win, open_win, win_close, win_is_valid, win_get_buf, win_set_buf, win_get_cursor, win_set_cursor, win_get_height, win_get_width, win_set_height, win_set_width, win_get_position, win_get_tabpage, list_tabpages, get_current_tabpage, set_current_tabpage, tabpage_is_valid, tabpage_list_wins, tabpage_get_win, tabpage_get_number, strwidth, ui_attach, ui_detach, ui_try_resize, ui_set_option, list_uis}
 use Rattle.nv_world.specs.Steps.{splice_in, splice_by, splices_by}
-use Rattle.nv_world.specs.declared.step.BufferSplice.{BufferSplice}
+use Rattle.nv_world.specs.declared.step.Moved.{Moved}
 use Rattle.nv_world.specs.inside.Splicing.{splice_told, splices_told}
 
 -- an answer that tells of the splices that it makes
@@ -74,7 +74,7 @@ none_by c leaves = refl
 
 pub all_none : (cs : List Operation) → AllLeaveTexts cs → splices_by cs ≡ []
 all_none [] leave = refl
-all_none (c ∷ cs) leave = ap (λ (l : List BufferSplice). l ++ splices_by cs) (none_by c leave.0) ∙ all_none cs leave.1
+all_none (c ∷ cs) leave = ap (λ (l : List Moved). l ++ splices_by cs) (none_by c leave.0) ∙ all_none cs leave.1
 
 quiet_told : (a : Answer) → IsQuiet a → IsSpliceTold a
 unfolding IsQuiet IsSpliceTold
@@ -87,11 +87,11 @@ by_quiet row quiet s session args = quiet_told (row s session args) (quiet s ses
 -- ---- splices of one buffer
 told_edits : (n : ℤ) (text : List ℕ) (tick : ℕ) (ss : List Splice) → splices_told (map (edited n) (splice_events text tick ss)) ≡ map (splice_in n) ss
 told_edits n text tick [] = refl
-told_edits n text tick (s ∷ ss) = ap (λ (l : List BufferSplice). splice_in n s ∷ l) (told_edits n (text_after text s) (tick + 1) ss)
+told_edits n text tick (s ∷ ss) = ap (λ (l : List Moved). splice_in n s ∷ l) (told_edits n (text_after text s) (tick + 1) ss)
 
 by_backs : (n : ℤ) (ss : List Splice) → splices_by (map (spliced_back n) ss) ≡ map (splice_in n) ss
 by_backs n [] = refl
-by_backs n (s ∷ ss) = ap (λ (l : List BufferSplice). splice_in n s ∷ l) (by_backs n ss)
+by_backs n (s ∷ ss) = ap (λ (l : List Moved). splice_in n s ∷ l) (by_backs n ss)
 
 by_leg : (n : ℤ) (first : List ℕ) (tree : Undo Kept) (leg : Leg) → splices_by (leg_operations n first tree leg) ≡ map (splice_in n) (leg_splices first tree leg)
 by_leg n first tree leg =
@@ -101,15 +101,15 @@ by_leg n first tree leg =
 
 map_both : (n : ℤ) (ss ts : List Splice) → map (splice_in n) ss ++ map (splice_in n) ts ≡ map (splice_in n) (ss ++ ts)
 map_both n [] ts = refl
-map_both n (s ∷ ss) ts = ap (λ (l : List BufferSplice). splice_in n s ∷ l) (map_both n ss ts)
+map_both n (s ∷ ss) ts = ap (λ (l : List Moved). splice_in n s ∷ l) (map_both n ss ts)
 
 by_legs : (n : ℤ) (first : List ℕ) (tree : Undo Kept) (legs : List Leg)
     → splices_by (flat_map (leg_operations n first tree) legs) ≡ map (splice_in n) (legs_splices first tree legs)
 by_legs n first tree [] = refl
 by_legs n first tree (leg ∷ legs) =
     flat_map-append splice_by (leg_operations n first tree leg) (flat_map (leg_operations n first tree) legs)
-    ∙ ap (λ (l : List BufferSplice). l ++ splices_by (flat_map (leg_operations n first tree) legs)) (by_leg n first tree leg)
-    ∙ ap (λ (l : List BufferSplice). map (splice_in n) (leg_splices first tree leg) ++ l) (by_legs n first tree legs)
+    ∙ ap (λ (l : List Moved). l ++ splices_by (flat_map (leg_operations n first tree) legs)) (by_leg n first tree leg)
+    ∙ ap (λ (l : List Moved). map (splice_in n) (leg_splices first tree leg) ++ l) (by_legs n first tree legs)
     ∙ map_both n (leg_splices first tree leg) (legs_splices first tree legs)
 
 goes_legs : (n : ℤ) (b : SeenBuffer) (legs : List Leg) → IsSpliceTold (replied nil (undo_operations n b legs) (edits n b (undo_splices b legs)))

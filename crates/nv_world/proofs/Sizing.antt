@@ -1,11 +1,14 @@
 -- Bytes that are counted one after another.
-use Rattle.std.proofs.Common.{◌≡◌, ℕ, ◌+◌, ◌<◌, ◌≤◌, List, [], ◌∷◌, ◌++◌, length, drop, get_or, refl, sym, ap, ◌∙◌, subst, Option, Some, None, option_map}
+use Rattle.std.proofs.Common.{◌≡◌, ℕ, ◌+◌, ◌<◌, ◌≤◌, List, [], ◌∷◌, ◌++◌, length, map, drop, get_or, refl, sym, ap, ◌∙◌, subst, Option, Some, None, option_map}
 use Rattle.std.proofs.lemmas.List.{at_drop_more, at_drop_all}
+use Rattle.nv_value.specs.Content.{Trees, one, text, trees_of}
+use Rattle.nv_lines.specs.Excerpts.{list_lines}
 use Rattle.nv_rpc.specs.Messages.{Sent}
+use Rattle.nv_args.specs.Texts.{strings}
 use Rattle.nv_history.specs.Events.{Cause}
 use Rattle.nv_history.specs.Sessions.{Session}
 use Rattle.nv_world.specs.Contents.{plain_cause}
-use Rattle.nv_world.specs.Sizes.{plus, memory_of_sent, memory_of_waiting, bytes_unless_closed}
+use Rattle.nv_world.specs.Sizes.{plus, memory_of, memory_with, memory_of_sent, memory_of_waiting, bytes_unless_closed}
 use Rattle.nv_world.specs.declared.effect.Cause.{Cause as KeptCause}
 
 -- one more message
@@ -29,6 +32,34 @@ counted_more F next step xs i n more total x within is so e =
 
 pub counted_all : {X : Type 0} (F : ℕ → List X → ℕ) → ((n : ℕ) → F n [] ≡ n) → (xs : List X) (i n total : ℕ) → length xs ≤ i → F n (drop i xs) ≡ total → n ≡ total
 counted_all F stop xs i n total past e = sym (stop n) ∙ sym (at_drop_all (F n) xs i past) ∙ e
+
+-- ---- lines in several lists
+
+strings_behind : (a b : List (List ℕ)) (n : ℕ) → memory_with (strings (a ++ b)) n ≡ memory_with (strings b) (memory_with (strings a) n)
+strings_behind [] b n = refl
+strings_behind (x ∷ a) b n = strings_behind a b (plus n (memory_of (text x)))
+
+-- of the lines of lists, behind so many bytes of others
+abbrev pub memory_of_lists : ℕ → List (List (List ℕ)) → ℕ
+memory_of_lists n lists = memory_with (strings (list_lines lists)) n
+
+pub list_counted : (lists : List (List (List ℕ))) (i n more total : ℕ) (list : List (List ℕ)) → i < length lists → list ≡ get_or lists i list
+    → more ≡ memory_with (strings list) n → memory_with (strings (list_lines (drop i lists))) n ≡ total → memory_with (strings (list_lines (drop (i + 1) lists))) more ≡ total
+list_counted lists i n more total list within is so e =
+    counted_more memory_of_lists (λ (m : ℕ) (l : List (List ℕ)). memory_with (strings l) m) (λ m l ls. strings_behind l (list_lines ls) m) lists i n more total list within is so e
+
+strings_are : (lines : List (List ℕ)) → strings lines ≡ trees_of (map text lines)
+strings_are [] = refl
+strings_are (line ∷ lines) = ap (λ (ts : Trees). one (text line) ts) (strings_are lines)
+
+pub lists_counted : (lists : List (List (List ℕ))) (i n : ℕ) (all : List (List ℕ)) → length lists ≤ i
+    → memory_with (strings (list_lines (drop i lists))) n ≡ memory_with (strings (list_lines lists)) 32 → list_lines lists ≡ all → n ≡ memory_with (trees_of (map text all)) 32
+lists_counted lists i n all past e same =
+    counted_all memory_of_lists (λ m. refl) lists i n (memory_with (strings (list_lines lists)) 32) past e
+    ∙ ap (λ (l : List (List ℕ)). memory_with (strings l) 32) same
+    ∙ ap (λ (ts : Trees). memory_with ts 32) (strings_are all)
+
+-- ---- what is due
 
 -- the bytes that are due to a session that isn't closed, and to one that is
 pub due_open : (closed : Option KeptCause) (y : Session) (bytes : ℕ) → closed ≡ None → option_map plain_cause closed ≡ y.closed → bytes ≡ memory_of_waiting 0 y.waiting

@@ -21,7 +21,7 @@ MessagesFold k =
     → due k.capacity k.limits s (plain_entries k.history) ≡ front ++ back
     → FoldsToMoment w.editor n front
 
--- after each entry of a world the marks of each buffer stand where its splices moved them
+-- after each entry of a world the marks of each buffer stand where its splices left them
 abbrev pub MarksFollow : WorldRecord → Type 0
 MarksFollow k =
     (before behind : List Entry) (entry : Entry) (w v : ModelWorld) (n : ℤ) (d : ModelBuffer)

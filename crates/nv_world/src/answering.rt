@@ -14,7 +14,7 @@ ghost use Rattle.nv_world.specs.inside.Answers.{AnswersFrame, CallsMethod, CanBe
 use nv_args::Fail;
 use nv_dispatch::call;
 use nv_editor::{Editor, Fact, Happened};
-use nv_rpc::{Frame, Message, Outcome};
+use nv_rpc::{CallResult, Frame, Message, Outcome};
 use nv_value::{ApiFault, Value};
 use std::alloc::{AllocError, Global};
 
@@ -84,7 +84,7 @@ fn answer_of(frame: &Frame, given: Result<Outcome, ApiFault>) -> Option<Message>
         (Frame::Request { msgid, .. }, Err(fault)) => Some(Message::Reply {
             msgid: *msgid,
             fault: Some(fault),
-            result: Outcome::Value(Value::Nil),
+            result: Outcome::One(CallResult::Value(Value::Nil)),
         }),
         (Frame::Notice { .. }, Ok(_)) => None,
         (Frame::Notice { .. }, Err(fault)) => Some(Message::Fault { fault }),

@@ -1,17 +1,18 @@
 //! How many bytes messages take that wait.
 ghost use Rattle.std.specs.Prelude.{◌≡◌, ℕ, length, map};
-ghost use Rattle.nv_value.specs.Content.{trees_of};
+ghost use Rattle.nv_value.specs.Content.{text, trees_of};
 ghost use Rattle.nv_value.specs.View.{content, contents, pair_contents};
-ghost use Rattle.nv_rpc.specs.Messages.{reply};
+ghost use Rattle.nv_rpc.specs.Messages.{items, reply};
 ghost use Rattle.nv_rpc.specs.MessageView.{sent_of};
-ghost use Rattle.nv_rpc.specs.Outcomes.{outcome_content, triple_content};
+ghost use Rattle.nv_rpc.specs.Outcomes.{atomic_content, call_result_content, outcome_content, triple_content};
 ghost use Rattle.nv_args.specs.Texts.{strings};
 ghost use Rattle.nv_world.specs.Contents.{sent_of_lines, sent_of_shared};
 ghost use Rattle.nv_world.specs.Sizes.{plus, memory_of, memory_of_sent, memory_with, memory_of_waiting};
 
 use crate::shared::{LinesEvent, SharedMessage};
 use nv_buffer::{Line, LineList};
-use nv_rpc::{Message, Outcome, Triple};
+use nv_lines::Excerpt;
+use nv_rpc::{AtomicResults, CallResult, Message, Outcome, Triple};
 use nv_value::{ApiFault, Bytes, Fields, Items, Value};
 use std::marker::Model;
 
@@ -24,7 +25,9 @@ fn size_of_string(string: &Bytes) -> u64
     EACH.saturating_add(string.len() as u64)
 }
 
+// It is put into the loops over values, so that one that holds no others takes no call.
 #[cycle(size)]
+#[inline(always)]
 fn size_of_value(value: &Value) -> u64
     ensures { result ≡ memory_of (content value.now) }
 {
@@ -71,6 +74,8 @@ fn size_of_triple(triple: &Triple) -> u64
         .saturating_add(EACH)
 }
 
+// What goes over several stands by itself, so that a reply of one value keeps no registers for it.
+#[inline(never)]
 fn size_of_triples(triples: &[Triple]) -> u64
     ensures { result ≡ memory_with (trees_of (map triple_content triples.now)) 32 }
 {
@@ -81,30 +86,76 @@ fn size_of_triples(triples: &[Triple]) -> u64
     size
 }
 
-fn size_of_outcome(outcome: &Outcome) -> u64
-    ensures { result ≡ memory_of (outcome_content outcome.now) }
-{
-    match outcome {
-        Outcome::Value(value) => size_of_value(value),
-        Outcome::Triples(triples) => size_of_triples(triples.as_slice()),
-    }
-}
-
 fn size_of_line(line: &Line) -> u64
     ensures { result ≡ plus 32 (length line.now) }
 {
     EACH.saturating_add(line.len() as u64)
 }
 
-fn size_of_lines(list: &LineList) -> u64
-    ensures { result ≡ memory_with (strings list.now) 32 }
+// Of lines, with so many bytes of others.
+fn size_with_lines(before: u64, lines: &[Line]) -> u64
+    ensures { result ≡ memory_with (strings lines.now) before }
 {
-    let lines = list.as_slice();
-    let mut size = EACH;
+    let mut size = before;
     for line in lines {
         size = size.saturating_add(size_of_line(line));
     }
     size
+}
+
+fn size_of_lines(list: &LineList) -> u64
+    ensures { result ≡ memory_with (strings list.now) 32 }
+{
+    size_with_lines(EACH, list.as_slice())
+}
+
+#[inline(never)]
+fn size_of_excerpt(excerpt: &Excerpt) -> u64
+    ensures { result ≡ memory_of (items (map text excerpt.now)) }
+{
+    let lists = excerpt.lists();
+    let mut size = EACH;
+    for list in lists {
+        size = size_with_lines(size, list.as_slice());
+    }
+    size
+}
+
+fn size_of_result(one: &CallResult) -> u64
+    ensures { result ≡ memory_of (call_result_content one.now) }
+{
+    match one {
+        CallResult::Value(value) => size_of_value(value),
+        CallResult::Triples(triples) => size_of_triples(triples.as_slice()),
+        CallResult::Lines(excerpt) => size_of_excerpt(excerpt),
+    }
+}
+
+fn size_of_results(results: &[CallResult]) -> u64
+    ensures { result ≡ memory_with (trees_of (map call_result_content results.now)) 32 }
+{
+    let mut size = EACH;
+    for one in results {
+        size = size.saturating_add(size_of_result(one));
+    }
+    size
+}
+
+#[inline(never)]
+fn size_of_atomic(atomic: &AtomicResults) -> u64
+    ensures { result ≡ memory_of (atomic_content atomic.now) }
+{
+    EACH.saturating_add(size_of_results(atomic.results.as_slice()))
+        .saturating_add(size_of_value(&atomic.stop))
+}
+
+fn size_of_outcome(outcome: &Outcome) -> u64
+    ensures { result ≡ memory_of (outcome_content outcome.now) }
+{
+    match outcome {
+        Outcome::One(one) => size_of_result(one),
+        Outcome::Atomic(atomic) => size_of_atomic(atomic),
+    }
 }
 
 /// Lines, and how many bytes they take, which is counted once.

@@ -1,9 +1,11 @@
 //! Messages as they wait, whose lines are shared by all who are told them.
-ghost use Rattle.std.specs.Prelude.{◌≡◌, ◌<◌, ◌^◌, ◌++◌, ◌↔◌, pos, negsuc, nat_abs, length, map, All, IsTrue, IfOk, OnOk, Some, None};
+ghost use Rattle.std.specs.Prelude.{◌≡◌, ◌<◌, ◌^◌, ◌++◌, ◌↔◌, pos, negsuc, nat_abs, length, map, All, IsTrue, IfOk, IfSome, OnOk, Some, None};
 ghost use Rattle.std.specs.Arc.{arc_value};
 ghost use Rattle.nv_value.specs.View.{contents};
-ghost use Rattle.nv_rpc.specs.Messages.{IsSendable, lines_event};
+ghost use Rattle.nv_msgpack.specs.Shortest.{shortest};
+ghost use Rattle.nv_rpc.specs.Messages.{IsSendable, lines_event, message_tree};
 ghost use Rattle.nv_rpc.specs.MessageView.{sent_of};
+ghost use Rattle.nv_rpc.specs.Outcomes.{AreSpellable, bytes_left};
 ghost use Rattle.nv_args.specs.Texts.{strings};
 ghost use Rattle.nv_history.specs.Sessions.{first_message, splice_message};
 ghost use Rattle.nv_history.specs.Spoken.{bytes_of_messages};
@@ -12,7 +14,7 @@ ghost use Rattle.nv_world.specs.inside.Notices.{sent_of_notice};
 
 use crate::measuring::SizedLines;
 use nv_buffer::{LineList, Spliced};
-use nv_rpc::{Message, put_message};
+use nv_rpc::{AtomicResults, Message, put_front, put_message};
 use nv_value::{Items, Value};
 use std::alloc::{AllocError, Global};
 use std::sync::Arc;
@@ -61,6 +63,7 @@ fn values_of(alloc: Global, lines: &LineList) -> Result<Items, AllocError>
 
 impl SharedMessage {
     /// The message by itself: its lines get a table of their own, and go on sharing their bytes.
+    #[inline(always)]
     pub fn into_message(self, alloc: Global) -> Result<Message, AllocError>
         ensures { IfOk result (λ message. sent_of message ≡ sent_of_shared self) }
     {
@@ -85,6 +88,23 @@ pub fn put_messages(
         put_message(alloc, message.into_message(alloc)?, into)?;
     }
     Ok(())
+}
+
+/// Puts the front of a message behind what `into` holds, in its shortest spelling, and gives what
+/// is left: nothing, or results of calls one after another, and then where they stopped, each of
+/// which may be put by itself.
+pub fn put_shared_front(
+    alloc: Global,
+    message: SharedMessage,
+    into: &mut Vec<u8>,
+) -> Result<Option<AtomicResults>, AllocError>
+    requires { IsSendable (sent_of_shared message) }
+    ensures put { IfOk result (λ left. into.new.items ++ bytes_left left
+        ≡ into.old.items ++ shortest (message_tree (sent_of_shared message))) }
+    ensures spellable { IfOk result (λ left. IfSome left AreSpellable) }
+{
+    let message = message.into_message(alloc)?;
+    put_front(alloc, message, into)
 }
 
 // A lines event as a message.

@@ -27,7 +27,7 @@ use crate::finishing::{end_if, finish, finish_settled};
 use crate::session::{Session, close, new_session, taken, waiting};
 use crate::showing::{is_any_due, is_scene_due, scene_if, shown_after};
 use crate::splicing::put_splices;
-use crate::step::BufferSplice;
+use crate::step::Moved;
 use crate::telling::{place_of, tell_call};
 use nv_editor::{Editor, Fact};
 use nv_model::Limits;
@@ -128,7 +128,7 @@ fn make_call(
     at: u64,
     session: u64,
     frame: &Frame,
-    splices: &mut Vec<BufferSplice>,
+    splices: &mut Vec<Moved>,
 ) -> Result<bool, AllocError>
     requires session { (0 < session) × (session ≤ vec_len state.old.sessions) }
     requires light { IsLightCall (call_of_frame frame.now) }
@@ -197,7 +197,7 @@ fn request(
     numbers: Numbers,
     session: u64,
     frame: &Frame,
-    splices: &mut Vec<BufferSplice>,
+    splices: &mut Vec<Moved>,
 ) -> Result<Effect, Stop>
     requires light { IsLightCall (call_of_frame frame.now) }
     requires sealed { AllSealed state.old.editor }
@@ -354,7 +354,7 @@ pub fn happen(
     state: &mut State,
     numbers: Numbers,
     event: &Event,
-    splices: &mut Vec<BufferSplice>,
+    splices: &mut Vec<Moved>,
 ) -> Result<Effect, Stop>
     requires light { IsLightEvent (plain_event event.now) }
     requires sealed { AllSealed state.old.editor }

@@ -15,7 +15,7 @@ use crate::history::History;
 use crate::session::bytes_due;
 use crate::showing::{is_any_due, is_scene_due};
 use crate::state::{Numbers, State, happen};
-use crate::step::BufferSplice;
+use crate::step::Moved;
 use crate::telling::place_of;
 use nv_editor::Editor;
 use nv_model::Limits;
@@ -33,7 +33,7 @@ pub struct World {
     state: State,
     history: History,
     // The splices of the last entry.
-    last: Vec<BufferSplice>,
+    last: Vec<Moved>,
     // Whether memory was wanting.
     spent: bool,
 }
@@ -170,7 +170,7 @@ impl World {
     }
 
     /// The splices that the last entry made in buffers, in their order.
-    pub fn last_splices(&self) -> Result<Vec<BufferSplice>, AllocError>
+    pub fn last_splices(&self) -> Result<Vec<Moved>, AllocError>
         ensures { IfOk result (λ splices. AreLastSplices self.now.capacity self.now.limits
             self.now.history splices.items) }
     {

@@ -62,6 +62,8 @@ keys_with ends =
     ∷ optional_key (codes "right_gravity") takes_flag
     ∷ optional_key (codes "end_right_gravity") (λ t. ends && takes_flag t)
     ∷ optional_key (codes "strict") takes_flag
+    ∷ optional_key (codes "undo_restore") takes_flag
+    ∷ optional_key (codes "invalidate") takes_flag
     ∷ []
 
 -- a mark is set by its draft

@@ -1,10 +1,9 @@
 -- inside: calls one after another, as they are made.
 use Rattle.std.specs.Prelude.{◌≡◌, ℕ, ◌^◌, ◌<◌, ◌++◌, ◌||◌, Bool, List, [], ◌∷◌, length, map, None, Some, option_map, IfSome, Result, Ok, Err}
 use Rattle.nv_value.specs.Content.{Tree, trees_of}
-use Rattle.nv_value.specs.View.{content}
 use Rattle.nv_value.specs.declared.fault.ApiFault.{ApiFault}
 use Rattle.nv_msgpack.specs.Shortest.{HaveSpellings}
-use Rattle.nv_rpc.specs.Outcomes.{outcome_content}
+use Rattle.nv_rpc.specs.Outcomes.{call_result_content, outcome_content}
 use Rattle.nv_args.specs.Refusals.{CanBeTold}
 use Rattle.nv_args.specs.declared.faults.Fail.{Fail}
 use Rattle.nv_args.specs.declared.faults.Fail.TheVariants.{Api, NoMemory}
@@ -24,7 +23,7 @@ stop_of stop = (stop.number, stop.fault)
 -- calls one after another came to this
 pub record IsBatch (wanted : Batch) (m : ModelEditor) (made : Results) (after : PresentEditor)
     (told now : List Fact) : Type 0 where
-  pub results : wanted.results ≡ map content made.values.items
+  pub results : wanted.results ≡ map call_result_content made.values.items
   pub stopped : wanted.stopped ≡ option_map stop_of made.stopped
   pub seen : wanted.is_seen ≡ made.is_seen
   pub stands : Stands after (after_operations wanted.operations m)
@@ -33,7 +32,7 @@ pub record IsBatch (wanted : Batch) (m : ModelEditor) (made : Results) (after : 
 -- the results are few enough to be told, and each can be
 pub record CanBeListed (made : Results) : Type 0 where
   pub few : length made.values.items < 2 ^ 31
-  pub spelled : HaveSpellings (trees_of (map content made.values.items))
+  pub spelled : HaveSpellings (trees_of (map call_result_content made.values.items))
   pub fault : IfSome made.stopped (λ stop. CanBeTold stop.fault)
   pub number : IfSome made.stopped (λ stop. stop.number < 2 ^ 31)
 
@@ -62,11 +61,11 @@ pub record IsMadeSoFar (wanted : Batch) (m : ModelEditor) (session : ℕ) (resul
 -- what is known of calls after one more: its result is behind the others, or they stopped at it
 abbrev pub TakesResult : Result Done Fail → Results → Results → Type 0
 TakesResult (Ok done) made later =
-    (map content later.values.items
-    ≡ map content made.values.items ++ outcome_content done.result ∷ [])
+    (map call_result_content later.values.items
+    ≡ map call_result_content made.values.items ++ outcome_content done.result ∷ [])
     × (later.stopped ≡ None) × (later.is_seen ≡ (made.is_seen || done.is_seen))
 TakesResult (Err (Api fault)) made later =
-    (map content later.values.items ≡ map content made.values.items)
+    (map call_result_content later.values.items ≡ map call_result_content made.values.items)
     × (option_map stop_of later.stopped ≡ Some (length made.values.items, fault))
     × (later.is_seen ≡ made.is_seen)
 TakesResult (Err NoMemory) made later = ⊥

@@ -5,14 +5,14 @@ use Rattle.nv_places.specs.declared.place.Extent.{Extent}
 use Rattle.nv_places.specs.Places.{IsNarrow, further, is_before}
 use Rattle.nv_places.specs.Moves.{moved_place}
 use Rattle.nv_marks.specs.declared.record.Record.{Record}
-use Rattle.nv_marks.specs.declared.record.Kept.{Kept}
+use Rattle.nv_marks.specs.declared.record.Relative.{Relative}
 use Rattle.nv_marks.specs.inside.Records.{ForEach, Sort, moved_record, precedes}
 
 -- a chunk as its clauses see it: where its first record stands, its records, and for how many it
 -- has room
 pub record Piece : Type 0 where
   pub base : Pos
-  pub kept : List Kept
+  pub kept : List Relative
   pub room : ℕ
 
 -- how far a place lies behind a base
@@ -22,11 +22,11 @@ reach base p =
     else record { rows = p.row - base.row; cols = p.col }
 
 -- a record that is kept, with its place
-abbrev pub placed_record : Pos → Kept → Record
+abbrev pub placed_record : Pos → Relative → Record
 placed_record base k = record { pos = further base k.by; info = k.info }
 
 -- a record as it is kept behind a base
-abbrev pub kept_from : Pos → Record → Kept
+abbrev pub kept_from : Pos → Record → Relative
 kept_from base r = record { by = reach base r.pos; info = r.info }
 
 -- the records of a chunk
@@ -66,6 +66,11 @@ abbrev pub Ample : List Piece → Type 0
 Ample [] = Unit {0}
 Ample (p ∷ ps) = IsAmple p ps × Ample ps
 
+-- chunks have as many records as they may, wherever these stand
+pub record IsShaped (ps : List Piece) : Type 0 where
+  pub fit : ForEach IsFit ps
+  pub ample : Ample ps
+
 -- what every store of records keeps
 pub record IsLaid (ps : List Piece) : Type 0 where
   pub fit : ForEach IsFit ps
@@ -82,7 +87,7 @@ IsSpare p = 64 ≤ p.room
 abbrev pub starts_before : Record → Piece → Bool
 starts_before r p = first_before r p.base p.kept
   where
-    first_before : Record → Pos → List Kept → Bool
+    first_before : Record → Pos → List Relative → Bool
     first_before r base [] = false
     first_before r base (k ∷ ks) = precedes (record { pos = base; info = k.info }) r
 
@@ -92,8 +97,23 @@ starts_before r p = first_before r p.base p.kept
 abbrev pub with_base : Pos → Piece → Piece
 with_base base p = record p { base = base }
 
-abbrev pub with_kept : ℕ → Kept → Piece → Piece
+abbrev pub with_kept : ℕ → Relative → Piece → Piece
 with_kept at k p = record p { kept = slice_set p.kept at k }
+
+-- the first place of a text
+abbrev pub text_start : Pos
+text_start = record { row = 0; col = 0 }
+
+-- a record that is kept behind a base, kept behind the first place of a text
+abbrev pub rebased_from : Pos → Relative → Relative
+rebased_from base k = kept_from text_start (placed_record base k)
+
+-- a chunk with all records kept so, and another record, which may stand anywhere, at a place
+abbrev pub with_record : ℕ → Record → Piece → Piece
+with_record at r p = record p {
+  base = text_start;
+  kept = slice_set (map (rebased_from p.base) p.kept) at (kept_from text_start r);
+}
 
 -- a chunk with one more record at a place, or with one less, and its base as it was
 abbrev pub with_inserted : ℕ → Record → Piece → Piece
@@ -149,6 +169,13 @@ parted_pieces zero rs s (p ∷ ps) =
     refilled_piece (take 33 rs) p ∷ refilled_piece (drop 33 rs) s ∷ ps
 parted_pieces (suc n) rs s (p ∷ ps) = p ∷ parted_pieces n rs s ps
 
+-- the first n chunks filled anew from records, each with 64 or with what is left
+abbrev pub packed_pieces : ℕ → List Piece → List Record → List Piece
+packed_pieces zero ps rs = ps
+packed_pieces (suc n) [] rs = []
+packed_pieces (suc n) (p ∷ ps) rs =
+    refilled_piece (take 64 rs) p ∷ packed_pieces n ps (drop 64 rs)
+
 -- the records of m chunks from the n-th on
 abbrev pub held_records : ℕ → ℕ → List Piece → List Record
 held_records n m ps = spread_records (take m (drop n ps))
@@ -172,6 +199,16 @@ pub record IsChunkFor (r : Record) (ps : List Piece) (n : ℕ) : Type 0 where
   pub within : n < length ps
   pub front : ForEach (λ q. precedes r q ≡ false) (held_records 0 n ps)
   pub behind : ForEach (λ q. precedes q r ≡ false) (spread_records (drop (n + 1) ps))
+
+-- the records of the chunks from one place to before another may be put in any order that is theirs
+pub record IsLoosePart (ps : List Piece) (from to : ℕ) : Type 0 where
+  pub in_order : from ≤ to
+  pub within : to ≤ length ps
+  pub front : ForEach IsBased (take from ps)
+  pub behind : ForEach IsBased (drop to ps)
+  pub fits : (rs : List Record)
+      → IsPermutation (spread_records (take (to - from) (drop from ps))) rs
+      → Sort rs → Sort (spread_records (take from ps) ++ (rs ++ spread_records (drop to ps)))
 
 -- ---- which chunks a splice writes
 

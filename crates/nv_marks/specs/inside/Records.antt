@@ -88,6 +88,10 @@ mark_with_stop r stop = record {
   stop = stop;
   paint = r.info.paint;
   priority = r.info.priority;
+  restore = r.info.restore;
+  invalidate = r.info.invalidate;
+  hidden = r.info.hidden;
+  set = r.info.set;
 }
 
 -- the mark of a start among records
@@ -110,6 +114,10 @@ start_record m = record {
     has_end = is_some m.stop;
     paint = m.paint;
     priority = m.priority;
+    restore = m.restore;
+    invalidate = m.invalidate;
+    hidden = m.hidden;
+    set = m.set;
   };
 }
 
@@ -125,6 +133,10 @@ end_record m far = record {
     has_end = false;
     paint = None;
     priority = 0;
+    restore = false;
+    invalidate = false;
+    hidden = false;
+    set = 0;
   };
 }
 

@@ -1,7 +1,12 @@
 -- inside: which entries splice no text.
 use Rattle.std.specs.Prelude.{ℕ, ◌||◌, Bool, false, List, codes, bytes_eq}
+use Rattle.nv_rpc.specs.Calls.{Call, request, notice}
 use Rattle.nv_history.specs.Events.{Event, open_session, request_of, take_of, close_of}
-use Rattle.nv_watch.specs.MarkRule.{method_called}
+
+-- the name of the method that a call names
+abbrev pub method_called : Call → List ℕ
+method_called (request msgid method params) = method
+method_called (notice method params) = method
 
 -- whether a method may change a text
 abbrev pub is_of_texts : List ℕ → Bool

@@ -1,24 +1,26 @@
 -- inside: what watchers have seen while a history is gone over.
 use Rattle.std.specs.Prelude.{◌≡◌, ◌↔◌, ◌⊎◌, Bool, true, false, ℕ, ◌<◌, List, [], ◌∷◌, ◌++◌, length, slice_get, Option, Some, None, if◌then◌else◌, nat_lt}
 use Rattle.nv_world.specs.Worlds.{WorldRecord}
-use Rattle.nv_watch.specs.Verdicts.{Sight, Rule, IsLastWorld, IsVerdict}
+use Rattle.nv_watch.specs.Verdicts.{FollowsNext, FollowsQuietly, Sight, Rule, IsLastWorld, IsVerdict}
 use Rattle.nv_watch.specs.declared.verdict.Verdict.{Verdict}
 use Rattle.nv_watch.specs.declared.verdict.Verdict.TheVariants.{Yes, No}
 
--- what a watcher keeps that followed a run to a world, behind others: it has seen all of this, or
--- has still to look at what it put off in this world
-abbrev pub KeepsUp : (List Sight → Type 0) → (List Sight → Type 0) → List Sight → List Sight
-    → WorldRecord → Type 0
-KeepsUp Sees Lags before seen k =
-    Sees (before ++ seen) ⊎ (Lags (before ++ seen) × IsLastWorld seen k)
+-- what a watcher keeps that followed a run to a world, behind others: before the first step it has
+-- seen those, and then all of this, or it has still to look at what it put off in this world
+abbrev pub KeepsUp : Bool → (List Sight → Type 0) → (List Sight → Type 0) → List Sight
+    → List Sight → WorldRecord → Type 0
+KeepsUp false Sees Lags before seen k = (seen ≡ []) × Sees before
+KeepsUp true Sees Lags before seen k =
+    (Sees (before ++ seen) ⊎ Lags (before ++ seen)) × IsLastWorld seen k
 
 -- watchers followed these steps to a world, behind all that they had seen, and their rules stayed
-pub record AreFollowing {B : Type 0} (old new : List B) (seen : List Sight) (k : WorldRecord)
-    (HasSeen IsBehind : B → List Sight → Type 0) (Breaks : B → Rule) : Type 0 where
+pub record AreFollowing {B : Type 0} (old new : List B) (follows : Bool) (seen : List Sight)
+    (k : WorldRecord) (HasSeen IsBehind : B → List Sight → Type 0)
+    (Breaks : B → Rule) : Type 0 where
   pub count : length new ≡ length old
   pub kept : (i : ℕ) (a b : B) (before : List Sight) → slice_get old i ≡ Some a
       → slice_get new i ≡ Some b → HasSeen a before
-      → KeepsUp (HasSeen b) (IsBehind b) before seen k
+      → KeepsUp follows (HasSeen b) (IsBehind b) before seen k
   pub rule : (i : ℕ) (a b : B) (before : List Sight) (x : Sight) → slice_get old i ≡ Some a
       → slice_get new i ≡ Some b → Breaks a before x ↔ Breaks b before x
 
@@ -32,12 +34,22 @@ pub record IsPrepared (splices : Bool) (k : WorldRecord)
       → Sees before
   pub rule : (before : List Sight) (y : Sight) → Broke before y ↔ Breaks before y
 
--- what one becomes by a step behind a world
-pub record GoesAlong (k : WorldRecord) (x : Sight) (Saw Lagged Lags : List Sight → Type 0)
+-- what one becomes that looked at a step, which follows those before or is the first
+pub record HasLookedOn (follows : Bool) (x : Sight) (Saw Lagged Sees Lags : List Sight → Type 0)
     (Broke Breaks : Rule) : Type 0 where
-  pub first : (before : List Sight) → Saw before → Lags (before ++ x ∷ [])
-  pub later : (before : List Sight) → Lagged before → IsLastWorld before k
+  pub first : follows ≡ false → (before : List Sight) → Saw before → Sees (before ++ x ∷ [])
+  pub next : follows ≡ true → (before : List Sight) → Saw before → FollowsNext before x
       → Lags (before ++ x ∷ [])
+  pub later : follows ≡ true → (before : List Sight) → Lagged before → FollowsQuietly before x
+      → Lags (before ++ x ∷ [])
+  pub rule : (before : List Sight) (y : Sight) → Broke before y ↔ Breaks before y
+
+-- what one becomes by a step behind a world, where there is one
+pub record GoesAlong (follows : Bool) (k : WorldRecord) (x : Sight)
+    (Saw Lagged Sees Lags : List Sight → Type 0) (Broke Breaks : Rule) : Type 0 where
+  pub first : follows ≡ false → (before : List Sight) → Saw before → Sees (before ++ x ∷ [])
+  pub next : follows ≡ true → (before : List Sight) → Saw before ⊎ Lagged before
+      → IsLastWorld before k → Lags (before ++ x ∷ [])
   pub rule : (before : List Sight) (y : Sight) → Broke before y ↔ Breaks before y
 
 -- watchers have seen these steps behind all that they had seen, and their rules stayed

@@ -56,9 +56,10 @@ pub returns-in-BufGetLines-clause-row : goal.returns-in-BufGetLines-clause-row
 returns-in-BufGetLines-clause-row c =
     let e = c.args.editor.now in
     let told = c.args.happened.now in
-    answers_by (row_of c.args.method) nvim_buf_get_lines (seen_now e) c.args.session (typed_arguments c.args.args.now) c.nvim_buf_get_lines.result e e told told
+    let answer = nvim_buf_get_lines (seen_now e) c.args.session (typed_arguments c.args.args.now) in
+    answers_by (row_of c.args.method) nvim_buf_get_lines (seen_now e) c.args.session (typed_arguments c.args.args.now) c.value_of_lines.result e e told told
     (ap row_of c.in-BufGetLines.is)
-    (gives_read (nvim_buf_get_lines (seen_now e) c.args.session (typed_arguments c.args.args.now)) c.nvim_buf_get_lines.result e told (c.nvim_buf_get_lines.ensures.row c.args.session))
+    (gives_read answer c.value_of_lines.result e told (c.value_of_lines.ensures.read answer (c.nvim_buf_get_lines.ensures.row c.args.session)))
 
 pub returns-in-BufGetName-clause-row : goal.returns-in-BufGetName-clause-row
 returns-in-BufGetName-clause-row c =
@@ -80,9 +81,10 @@ pub returns-in-BufGetText-clause-row : goal.returns-in-BufGetText-clause-row
 returns-in-BufGetText-clause-row c =
     let e = c.args.editor.now in
     let told = c.args.happened.now in
-    answers_by (row_of c.args.method) nvim_buf_get_text (seen_now e) c.args.session (typed_arguments c.args.args.now) c.nvim_buf_get_text.result e e told told
+    let answer = nvim_buf_get_text (seen_now e) c.args.session (typed_arguments c.args.args.now) in
+    answers_by (row_of c.args.method) nvim_buf_get_text (seen_now e) c.args.session (typed_arguments c.args.args.now) c.value_of_lines-in-BufGetText.result e e told told
     (ap row_of c.in-BufGetText.is)
-    (gives_read (nvim_buf_get_text (seen_now e) c.args.session (typed_arguments c.args.args.now)) c.nvim_buf_get_text.result e told (c.nvim_buf_get_text.ensures.row c.args.session))
+    (gives_read answer c.value_of_lines-in-BufGetText.result e told (c.value_of_lines-in-BufGetText.ensures.read answer (c.nvim_buf_get_text.ensures.row c.args.session)))
 
 pub returns-in-BufIsValid-clause-row : goal.returns-in-BufIsValid-clause-row
 returns-in-BufIsValid-clause-row c =

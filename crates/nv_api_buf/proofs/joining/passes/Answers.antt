@@ -1,6 +1,7 @@
 use Rattle.std.proofs.Common.{◌≡◌, ◌≤◌, ◌-◌, ◌+◌, ℕ, List, All, length, take, drop, ap, refl, sym, ◌∙◌, arith}
 use Rattle.std.specs.List.{list_any}
 use Rattle.nv_places.specs.Flat.{IsLine, line_at}
+use Rattle.nv_buffer.specs.Content.{next_part}
 use Rattle.nv_buffer.specs.Splices.{with_front, with_back, lines_between}
 use Rattle.nv_buffer.proofs.Measures.{not_before_row}
 use Rattle.nv_buffer.proofs.Between.{length-between}
@@ -25,9 +26,9 @@ returns-clause-row c =
     let long : c.any_too_long.result ≡ list_any (is_longer c.args.limits.line_bytes) joined =
     c.any_too_long.ensures ∙ (λ i. list_any (is_longer c.args.limits.line_bytes) (with_back (with_front (front i) c.args.lines.now) (back i))) in
     let are : All IsLine joined = between_lines text c.args.lines.now c.args.start c.args.stop c.known.ensures.text.lines c.len-many.ensures.lines in
-    let puts = text_put text c.args.lines.now joined c.args.start c.args.stop c.requires.start_in c.requires.stop_in c.requires.order c.requires.some c.known.ensures.text.lines refl are in
+    let puts = text_put (next_part c.args.buffer.now) text c.args.lines.now joined c.args.start c.args.stop c.requires.start_in c.requires.stop_in c.requires.order c.requires.some c.known.ensures.text.lines refl are in
     c.any_of.ensures
-    ∙ passes-is c.args.limits (seen_buffer_now c.args.buffer.now) (text_splice text c.args.start c.args.stop c.args.lines.now) c.args.start.row (c.args.stop.row + 1)
+    ∙ passes-is c.args.limits (seen_buffer_now c.args.buffer.now) (text_splice (next_part c.args.buffer.now) text c.args.start c.args.stop c.args.lines.now) c.args.start.row (c.args.stop.row + 1)
     _ c.len-many.result joined c.too_many.result c.any_too_long.result c.tick_passes.result puts
     kept (c.len-many.ensures.value ∙ sym many) c.too_many.ensures long c.tick_passes.ensures.passes
 

@@ -23,7 +23,7 @@ use Rattle.nv_api_buf.specs.inside.Ranges.{ordered_rows}
 -- what is put in place of rows of a buffer
 abbrev rows_put : PresentEditor → List Arg → ℤ → SeenBuffer → Rows → Answer
 rows_put e args n b rows = put_answer (seen_now e) n b (lines_at args 4)
-    (rows_splice b.lines rows.from rows.to (lines_put rows.from rows.to (lines_at args 4) b.lines))
+    (rows_splice b.next b.lines rows.from rows.to (lines_put rows.from rows.to (lines_at args 4) b.lines))
 
 abbrev rows_next : PresentEditor → List Arg → ℤ → SeenBuffer → Answer
 rows_next e args n b = ordered_rows args (length b.lines) (rows_put e args n b)
@@ -52,7 +52,7 @@ returns-in_err-new-clause-row c session =
     let b = seen_buffer_now (content_at e n) in
     let rows = c.in_ok-rows.rows in
     let new = texts-are c.lines-strings.result.now _ c.lines-strings.ensures in
-    let splice = rows_splice b.lines rows.from rows.to (lines_put rows.from rows.to (lines_at args 4) b.lines) in
+    let splice = rows_splice b.next b.lines rows.from rows.to (lines_put rows.from rows.to (lines_at args 4) b.lines) in
     let rest : Answer = unless_barred e.stage.limits b splice (splice_answer n b splice) in
     let p = err_from_is_err_and c.from_residual-in_err-new.result c.from_residual-in_err-new.ensures.1 in
     rw (p.1, p.2) (gives_refused _ _ c.in_err-new.field-0.0 e c.args.happened.now
@@ -70,12 +70,12 @@ returns-clause-row c session =
     let rows = c.in_ok-rows.rows in
     let new = texts-are c.lines-strings.result.now _ c.lines-strings.ensures in
     let same : c.in_ok-new.new ≡ lines_at args 4 = c.in_ok-new.ensures.lines ∙ new in
-    let splice = rows_splice b.lines rows.from rows.to (lines_put rows.from rows.to (lines_at args 4) b.lines) in
+    let splice = rows_splice b.next b.lines rows.from rows.to (lines_put rows.from rows.to (lines_at args 4) b.lines) in
     let rest : Answer = unless_barred e.stage.limits b splice (splice_answer n b splice) in
     gives_on _ _ c.put_rows.result e c.put_rows.new.editor c.args.happened.now c.put_rows.new.happened
     (c.in_ok-live.ensures.row (rows_next e args) ∙ ap (λ (x : Content). ordered_rows args (length x.text) (rows_put e args n b)) (sym c.buffer_at.ensures)
     ∙ c.in_ok-rows.ensures.row (rows_put e args n b)
     ∙ ap (λ (t : List (List ℕ)). unless_newline t rest) (sym new)
     ∙ c.in_ok-new.ensures.row rest
-    ∙ (λ i. let s = rows_splice b.lines rows.from rows.to (lines_put rows.from rows.to (sym same i) b.lines) in unless_barred e.stage.limits b s (splice_answer n b s)))
+    ∙ (λ i. let s = rows_splice b.next b.lines rows.from rows.to (lines_put rows.from rows.to (sym same i) b.lines) in unless_barred e.stage.limits b s (splice_answer n b s)))
     c.put_rows.ensures.row

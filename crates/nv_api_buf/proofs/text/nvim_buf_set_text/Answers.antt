@@ -21,7 +21,7 @@ use Rattle.nv_api_buf.proofs.text.nvim_buf_set_text.Goals as goal
 
 -- what is put between places of a buffer
 abbrev between_put : PresentEditor → List Arg → ℤ → SeenBuffer → Pos → Pos → Answer
-between_put e args n b start stop = put_answer (seen_now e) n b (lines_at args 5) (text_splice b.lines start stop (or_empty (lines_at args 5)))
+between_put e args n b start stop = put_answer (seen_now e) n b (lines_at args 5) (text_splice b.next b.lines start stop (or_empty (lines_at args 5)))
 
 abbrev places_next : PresentEditor → List Arg → ℤ → SeenBuffer → Answer
 places_next e args n b = on_places b args (between_put e args n b)
@@ -51,7 +51,7 @@ returns-in_err-new-clause-row c session =
     let b = seen_buffer_now (content_at e n) in
     let span = c.in_ok-span.span in
     let new = texts-are c.lines-strings.result.now _ c.lines-strings.ensures in
-    let splice = text_splice b.lines span.start span.stop (or_empty (lines_at args 5)) in
+    let splice = text_splice b.next b.lines span.start span.stop (or_empty (lines_at args 5)) in
     let rest : Answer = unless_barred e.stage.limits b splice (splice_answer n b splice) in
     let p = err_from_is_err_and c.from_residual-in_err-new.result c.from_residual-in_err-new.ensures.1 in
     rw (p.1, p.2) (gives_refused _ _ c.in_err-new.field-0.0 e c.args.happened.now
@@ -69,12 +69,12 @@ returns-clause-row c session =
     let span = c.in_ok-span.span in
     let new = texts-are c.lines-strings.result.now _ c.lines-strings.ensures in
     let same : c.in_ok-new.new ≡ lines_at args 5 = c.in_ok-new.ensures.lines ∙ new in
-    let splice = text_splice b.lines span.start span.stop (or_empty (lines_at args 5)) in
+    let splice = text_splice b.next b.lines span.start span.stop (or_empty (lines_at args 5)) in
     let rest : Answer = unless_barred e.stage.limits b splice (splice_answer n b splice) in
     gives_on _ _ c.put_between.result e c.put_between.new.editor c.args.happened.now c.put_between.new.happened
     (c.in_ok-live.ensures.row (places_next e args) ∙ ap (λ (x : Content). on_places (seen_buffer_now x) args (between_put e args n b)) (sym c.buffer_at.ensures)
     ∙ c.in_ok-span.ensures.row (between_put e args n b)
     ∙ ap (λ (t : List (List ℕ)). unless_newline t rest) (sym new)
     ∙ c.in_ok-new.ensures.row rest
-    ∙ (λ i. let s = text_splice b.lines span.start span.stop (or_empty (sym same i)) in unless_barred e.stage.limits b s (splice_answer n b s)))
+    ∙ (λ i. let s = text_splice b.next b.lines span.start span.stop (or_empty (sym same i)) in unless_barred e.stage.limits b s (splice_answer n b s)))
     c.put_between.ensures.row

@@ -1,7 +1,7 @@
 use Rattle.std.proofs.Common.{◌≡◌, All, ap, sym, subst, ◌∙◌, rules, w64, FitsSigned}
 use Rattle.std.proofs.lemmas.Result.{err_from_is_err_and}
 use Rattle.std.proofs.lemmas.Int.{to_z-of_z}
-use Rattle.nv_buffer.specs.Content.{Content}
+use Rattle.nv_buffer.specs.Content.{Content, next_part}
 use Rattle.nv_buffer.specs.Splices.{IsNarrowLine, lines_between}
 use Rattle.nv_args.specs.Texts.{or_empty}
 use Rattle.nv_model.specs.Answers.{Answer}
@@ -22,10 +22,10 @@ returns-in_err-may_put_text-clause-row c =
     let b = c.buffer_at-buffer.ensures in
     let put : c.in_ok-new.new ≡ or_empty c.args.new = c.in_ok-new.ensures.lines in
     let answer : Answer = splice_answer c.args.live.handle (seen_buffer_now (content_at e c.args.live.handle))
-    (text_splice (content_at e c.args.live.handle).text start stop (or_empty c.args.new)) in
+    (text_splice (next_part (content_at e c.args.live.handle)) (content_at e c.args.live.handle).text start stop (or_empty c.args.new)) in
     let p = err_from_is_err_and c.from_residual-in_err-may_put_text.result c.from_residual-in_err-may_put_text.ensures.1 in
     rw (p.1, p.2) (gives_refused _ _ c.in_err-may_put_text.field-0.0 e c.args.happened.now
-    (λ i. unless_barred (sym c.limits.ensures i) (seen_buffer_now (sym b i)) (text_splice (sym b i).text start stop (sym put i)) answer)
+    (λ i. unless_barred (sym c.limits.ensures i) (seen_buffer_now (sym b i)) (text_splice (next_part (sym b i)) (sym b i).text start stop (sym put i)) answer)
     (c.in_err-may_put_text.ensures.row answer))
 
 pub put_text-requires-clause-columns : goal.put_text-requires-clause-columns
@@ -44,11 +44,11 @@ returns-clause-row c =
     let b = c.buffer_at-buffer.ensures in
     let put : c.in_ok-new.new ≡ or_empty c.args.new = c.in_ok-new.ensures.lines in
     let answer : Answer = splice_answer c.args.live.handle (seen_buffer_now (content_at e c.args.live.handle))
-    (text_splice (content_at e c.args.live.handle).text start stop (or_empty c.args.new)) in
+    (text_splice (next_part (content_at e c.args.live.handle)) (content_at e c.args.live.handle).text start stop (or_empty c.args.new)) in
     let fits : FitsSigned w64 c.args.live.handle = search rules in
     let handle = to_z-of_z w64 c.args.live.handle fits in
     gives_done _ _ e c.put_text.new.self c.args.happened.now c.put_text.new.happened
-    ((λ i. unless_barred (sym c.limits.ensures i) (seen_buffer_now (sym b i)) (text_splice (sym b i).text start stop (sym put i)) answer)
+    ((λ i. unless_barred (sym c.limits.ensures i) (seen_buffer_now (sym b i)) (text_splice (next_part (sym b i)) (sym b i).text start stop (sym put i)) answer)
     ∙ c.in_ok-may_put_text.ensures.row answer
-    ∙ (λ i. splice_answer (sym handle i) (seen_buffer_now (content_at e (sym handle i))) (text_splice (content_at e (sym handle i)).text start stop (sym put i))))
+    ∙ (λ i. splice_answer (sym handle i) (seen_buffer_now (content_at e (sym handle i))) (text_splice (next_part (content_at e (sym handle i))) (content_at e (sym handle i)).text start stop (sym put i))))
     c.in_ok-put_text.ensures

@@ -1,12 +1,10 @@
-use Rattle.std.proofs.Common.{◌≡◌, ◌∙◌, length, take, rules, ap}
-use Rattle.std.specs.Prelude.{filter}
-use Rattle.nv_api_mark.specs.inside.Picking.{is_looked_at, is_picked}
-use Rattle.nv_api_mark.proofs.Picked.{picked_of_all}
+use Rattle.std.proofs.Common.{◌≡◌, Vec, length, rules}
+use Rattle.nv_marks.specs.declared.extmark.Mark.{Mark}
+use Rattle.nv_api_mark.specs.inside.Picking.{is_picked}
+use Rattle.nv_api_mark.proofs.Picked.{all_taken}
 use Rattle.nv_api_mark.proofs.listing.all_picked.Goals as goal
 
 pub returns : goal.returns
 returns c =
-    let ms = c.args.buffer.now.marks.marks in
-    let picks = c.args.picks in
-    let held : c.in_ok-found.found.items ≡ take (length ms) (filter (is_looked_at picks) ms) = search rules in
-    c.keep_picked.ensures ∙ ap (filter (is_picked picks)) held ∙ picked_of_all picks c.requires.order ms
+    let count : c.len.result ≡ length c.args.buffer.now.marks.marks = search rules in
+    all_taken (λ (v : Vec Mark _). v.items) c.first_picked.result (is_picked c.args.picks) c.len.result c.args.buffer.now.marks.marks count c.first_picked.ensures

@@ -12,4 +12,6 @@ returns c = λ i.
     ∷ c.flag-2.ensures i
     ∷ c.gravity_rule.ensures i
     ∷ c.flag-3.ensures i
+    ∷ c.flag-4.ensures i
+    ∷ c.flag-5.ensures i
     ∷ []

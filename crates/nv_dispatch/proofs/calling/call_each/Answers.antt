@@ -1,6 +1,8 @@
 use Rattle.std.proofs.Common.{◌≡◌, ◌∙◌, ◌+◌, ◌∷◌, List, map, drop, ap, sym, subst, length, arith, Bool, false, None}
 use Rattle.nv_value.specs.View.{content}
 use Rattle.nv_value.specs.declared.value.Value.{Value}
+use Rattle.nv_rpc.specs.Outcomes.{call_result_content}
+use Rattle.nv_rpc.specs.declared.outcome.CallResult.{CallResult}
 use Rattle.nv_dispatch.specs.Calls.{batch_of_values}
 use Rattle.nv_dispatch.specs.inside.Batches.{IsMadeSoFar}
 use Rattle.nv_dispatch.specs.inside.Weights.{list_weight}
@@ -12,15 +14,15 @@ pub loop-call-init : goal.loop-call-init
 loop-call-init c =
     record {
       going = c.new-made.ensures.going;
-      light = omega (arith, ap (length {A = Value}) c.new-made.ensures.none, weights-contents c.args.calls.now, c.requires.light);
+      light = omega (arith, ap (length {A = CallResult}) c.new-made.ensures.none, weights-contents c.args.calls.now, c.requires.light);
       listed = c.new-made.ensures.listed;
       so_far = λ m is.
           let B = batch_of_values 0 m c.args.session (map content c.args.calls.now) in
           let e = c.args.editor.now in
           let told = c.args.happened.now in
           let first = none_made m c.args.session (map content c.args.calls.now) e told is in
-          subst (λ (b : Bool). IsMadeSoFar B m c.args.session (map content c.new-made.result.values.items) b (map content c.args.calls.now) e told told) (sym c.new-made.ensures.seen)
-          (subst (λ (vs : List Value). IsMadeSoFar B m c.args.session (map content vs) false (map content c.args.calls.now) e told told) (sym c.new-made.ensures.none) first);
+          subst (λ (b : Bool). IsMadeSoFar B m c.args.session (map call_result_content c.new-made.result.values.items) b (map content c.args.calls.now) e told told) (sym c.new-made.ensures.seen)
+          (subst (λ (vs : List CallResult). IsMadeSoFar B m c.args.session (map call_result_content vs) false (map content c.args.calls.now) e told told) (sym c.new-made.ensures.none) first);
     }
 
 pub call_value-given-requires : goal.call_value-given-requires
@@ -37,7 +39,7 @@ returns-then-is_some-clause-batch c = λ m is.
     calls-left c.args.calls.now c.loop-call.call-index c.call-item.result (omega arith) c.call-item.is in
     let B = batch_of_values 0 m c.args.session (map content c.args.calls.now) in
     let made = c.loop-call.made in
-    let so_far = subst (λ (left : List Value). IsMadeSoFar B m c.args.session (map content made.values.items) made.is_seen (map content left) c.loop-call.editor c.args.happened.now c.loop-call.happened) parts
+    let so_far = subst (λ (left : List Value). IsMadeSoFar B m c.args.session (map call_result_content made.values.items) made.is_seen (map content left) c.loop-call.editor c.args.happened.now c.loop-call.happened) parts
     (c.loop-call.invariant.so_far m is) in
     ends_refused B m c.args.session c.call_value-given.result made c.in_ok-made.made (content c.call-item.result) (map content left)
     c.loop-call.editor c.call_value-given.new.editor c.args.happened.now c.loop-call.happened c.call_value-given.new.happened
@@ -58,7 +60,7 @@ loop-call-preserved c =
       listed = c.in_ok-made.ensures.listed;
       so_far = λ m is.
           let B = batch_of_values 0 m c.args.session (map content c.args.calls.now) in
-          let so_far = subst (λ (left : List Value). IsMadeSoFar B m c.args.session (map content made.values.items) made.is_seen (map content left) c.loop-call.editor c.args.happened.now c.loop-call.happened) parts
+          let so_far = subst (λ (left : List Value). IsMadeSoFar B m c.args.session (map call_result_content made.values.items) made.is_seen (map content left) c.loop-call.editor c.args.happened.now c.loop-call.happened) parts
           (c.loop-call.invariant.so_far m is) in
           goes_on B m c.args.session c.call_value-given.result made c.in_ok-made.made (content c.call-item.result) (map content left)
           c.loop-call.editor c.call_value-given.new.editor c.args.happened.now c.loop-call.happened c.call_value-given.new.happened

@@ -13,3 +13,17 @@ returns-in-BufGetExtmarks-clause-outcome c =
     let told = c.args.happened.now in
     subst (λ (v : Method). GivesOutcome (λ m. outcome_of_row m c.args.session (signature_of v).is_seen (method_name v) (row_named (method_name v)) (typed_arguments c.args.args.now))
     c.list_marks.result e e told told) (sym c.in-BufGetExtmarks.is) (c.list_marks.ensures.outcome c.args.session told)
+
+pub returns-in-BufGetLines-clause-outcome : goal.returns-in-BufGetLines-clause-outcome
+returns-in-BufGetLines-clause-outcome c =
+    let e = c.args.editor.now in
+    let told = c.args.happened.now in
+    subst (λ (v : Method). GivesOutcome (λ m. outcome_of_row m c.args.session (signature_of v).is_seen (method_name v) (row_named (method_name v)) (typed_arguments c.args.args.now))
+    c.read_lines.result e e told told) (sym c.in-BufGetLines.is) (c.read_lines.ensures.outcome c.args.session told)
+
+pub returns-in-BufGetText-clause-outcome : goal.returns-in-BufGetText-clause-outcome
+returns-in-BufGetText-clause-outcome c =
+    let e = c.args.editor.now in
+    let told = c.args.happened.now in
+    subst (λ (v : Method). GivesOutcome (λ m. outcome_of_row m c.args.session (signature_of v).is_seen (method_name v) (row_named (method_name v)) (typed_arguments c.args.args.now))
+    c.read_text.result e e told told) (sym c.in-BufGetText.is) (c.read_text.ensures.outcome c.args.session told)

@@ -2,6 +2,7 @@ use Rattle.std.proofs.Common.{◌∙◌, ◌-◌, ◌++◌, List, ap, arith, sym
 use Rattle.std.specs.List.{splice}
 use Rattle.nv_places.specs.Flat.{flat}
 use Rattle.nv_lines.specs.Chunks.{chunk_lines}
+use Rattle.nv_lines.specs.inside.Tables.{table_lines}
 use Rattle.nv_lines.specs.declared.chunk.Chunk.{Chunk}
 use Rattle.nv_lines.proofs.Anew.{bytes_anew, rows_anew, rows_inside, region_rows}
 use Rattle.nv_lines.proofs.editing.put_across.Goals as goal
@@ -52,7 +53,7 @@ returns-clause-taken c =
     let to = c.args.to - first.row in
     c.from_vec.ensures
     ∙ c.rows_taken.ensures
-    ∙ ap (λ l. l ++ slice_range (chunk_lines c.in_ok-gone.gone.items) from to) c.in_ok-taken.ensures.items
-    ∙ ap (λ (l : List Chunk). slice_range (chunk_lines l) from to) c.in_ok-gone.ensures.taken
+    ∙ ap (λ l. l ++ slice_range (table_lines c.in_ok-gone.gone.items) from to) c.in_ok-taken.ensures.items
+    ∙ ap (λ l. slice_range l from to) c.in_ok-gone.ensures.taken
     ∙ sym (rows_inside c.args.chunks.now.items first end c.args.from c.args.to c.requires.begin c.requires.stop (omega (arith, c.requires.some))
     c.requires.before c.requires.behind)

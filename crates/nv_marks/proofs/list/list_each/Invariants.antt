@@ -6,6 +6,6 @@ use Rattle.nv_marks.proofs.list.list_each.Given as goal
 abbrev pub invariant-loop-one : goal.invariant-loop-one
 invariant-loop-one l =
     (l.into.items ≡ extended_list (l.range.held + l.range.limit) l.fn.into.items
-    (listed_marks (spread_records l.store.chunks.items) l.range.from l.range.to (map (placed_record l.base) (take l.one-index l.kept))))
+    (listed_marks (spread_records l.store.chunks.items) l.range.query (map (placed_record l.base) (take l.one-index l.kept))))
     × (take l.range.held l.into.items ≡ take l.range.held l.fn.into.items)
     × (length l.fn.into.items ≤ length l.into.items)

@@ -77,7 +77,7 @@ returns-in-None-clause-goes g c =
     let t = c.in_ok-upcoming.ensures.goes in
     let world : c.world.result.now ≡ c.loop-round.replay.world = c.world.ensures ∙ c.in_ok-upcoming.ensures.world in
     let all =
-    follow_all _ _ _ _ _ _ i.2 _ i.4 c.in_ok-catch_up-in-None.ensures.count
+    follow_all _ _ _ c.loop-round.follows _ _ _ i.2 _ i.4 c.in_ok-catch_up-in-None.ensures.count
     (λ j b d was is. subst (λ (k : WorldRecord). HasCaughtUp k (g.W.Watcher.HasSeen b) (g.W.Watcher.IsBehind b) (g.W.Watcher.HasSeen d) (g.W.Watcher.Breaks b) (g.W.Watcher.Breaks d)) world
     (c.in_ok-catch_up-in-None.ensures.caught j b d was is)) in (
       i.0 ++ t.0,
@@ -100,7 +100,7 @@ returns-in-None-clause-rule g c = λ j old new before x was is.
     let i = c.loop-round.invariant.went in
     let world : c.world.result.now ≡ c.loop-round.replay.world = c.world.ensures ∙ c.in_ok-upcoming.ensures.world in
     let all =
-    follow_all _ _ _ _ _ _ i.2 _ i.4 c.in_ok-catch_up-in-None.ensures.count
+    follow_all _ _ _ c.loop-round.follows _ _ _ i.2 _ i.4 c.in_ok-catch_up-in-None.ensures.count
     (λ n b d there here. subst (λ (k : WorldRecord). HasCaughtUp k (g.W.Watcher.HasSeen b) (g.W.Watcher.IsBehind b) (g.W.Watcher.HasSeen d) (g.W.Watcher.Breaks b) (g.W.Watcher.Breaks d)) world
     (c.in_ok-catch_up-in-None.ensures.caught n b d there here)) in
     all.rule j old new before x was is
@@ -112,7 +112,7 @@ loop-round-preserved g c =
     let t = c.in_ok-step-in-Some.ensures.goes in
     let made = c.in_ok-step-in-Some.step in
     let later = c.pass_one.new.replay in
-    let before = follow_same _ _ _ _ _ i.2 _ c.read.new.self.world i.4 c.in_ok-upcoming.ensures.world in
+    let before = follow_same _ _ _ c.loop-round.follows _ _ i.2 _ c.read.new.self.world i.4 c.in_ok-upcoming.ensures.world in
     record {
       went = (
         i.0 ++ (r.0 ++ t.0),
@@ -128,7 +128,7 @@ loop-round-preserved g c =
               subst (λ (bs : List ℕ). IsGoingOver bs (h.0 ++ o.entry ∷ []) (h.1 ++ o.given ∷ []) (i.2 ++ sight later.world made ∷ []) c.pass_one.new.tally later)
                   (append_assoc (fed ++ i.0) r.0 t.0 ∙ append_assoc fed i.0 (r.0 ++ t.0)) o.goes,
             ),
-        follow_more _ _ _ _ _ _ i.2 c.read.new.self.world later.world (sight later.world made) before c.in_ok-step-in-Some.ensures.count refl
+        follow_more _ _ _ c.loop-round.follows _ _ _ i.2 c.read.new.self.world later.world (sight later.world made) before c.in_ok-step-in-Some.ensures.count refl
             (λ j b d was is. c.in_ok-step-in-Some.ensures.along j b d was is),
       );
       same = c.in_ok-step-in-Some.ensures.same ∙ c.in_ok-upcoming.ensures.same ∙ c.loop-round.invariant.same;

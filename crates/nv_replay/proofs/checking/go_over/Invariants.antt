@@ -14,7 +14,7 @@ invariant-loop-round g l = record {
       × Gave (g.I.Source.taken l.initial.source) (g.I.Source.taken l.source) (g.I.Source.left l.initial.source) (g.I.Source.left l.source) bytes
       × (seen : List Sight)
       × ((fed : List ℕ) → IsReplaying fed [] [] l.initial.replay → (records : List Recorded) × (played : List Recorded) × IsGoingOver (fed ++ bytes) records played seen l.tally l.replay)
-      × AreFollowing l.initial.watchers.items l.watchers.items seen l.replay.world (λ w s. g.W.Watcher.HasSeen w s)
+      × AreFollowing l.initial.watchers.items l.watchers.items l.follows seen l.replay.world (λ w s. g.W.Watcher.HasSeen w s)
       (λ w s. g.W.Watcher.IsBehind w s) (λ w. g.W.Watcher.Breaks w);
   same : l.replay.start ≡ l.initial.replay.start;
   later : g.I.Source.faults l.initial.source ≤ g.I.Source.faults l.source;

@@ -5,9 +5,8 @@ use Rattle.nv_book.specs.declared.faults.Unread.TheVariants.{NoMemory}
 use Rattle.nv_world.specs.Contents.{plain_event}
 use Rattle.nv_world.specs.Worlds.{WorldRecord}
 use Rattle.nv_watch.specs.Verdicts.{sight}
-use Rattle.nv_watch.specs.Shown.{HasGlanced}
 use Rattle.nv_replay.specs.inside.Quiet.{may_splice}
-use Rattle.nv_replay.specs.inside.Watching.{IsPrepared}
+use Rattle.nv_replay.specs.inside.Watching.{HasLookedOn, IsPrepared}
 use Rattle.nv_replay.proofs.Givings.{gave_none}
 use Rattle.nv_replay.proofs.Seeing.{unread_one}
 use Rattle.nv_replay.proofs.Following.{along, middle}
@@ -52,11 +51,11 @@ returns-clause-along g c = λ i old new was is.
     let prepared =
     subst (λ (w : WorldRecord). IsPrepared loud w (g.W.Watcher.HasSeen old) (g.W.Watcher.IsBehind old) (g.W.Watcher.HasSeen m) (g.W.Watcher.IsBehind m) (g.W.Watcher.Breaks old) (g.W.Watcher.Breaks m)) c.world.ensures
     (c.in_ok-prepare.ensures.prepared i old m was mid.1) in
-    let glanced =
-    subst (λ (w : WorldRecord). HasGlanced (sight w c.in_ok-step.step) (g.W.Watcher.HasSeen m) (g.W.Watcher.IsBehind m) (g.W.Watcher.IsBehind new) (g.W.Watcher.Breaks m) (g.W.Watcher.Breaks new)) c.world-2.ensures
-    (c.in_ok-watch.ensures.glances i m new mid.1 is) in
-    along loud k later c.args.upcoming.heading.entry c.in_ok-step.step (g.W.Watcher.HasSeen old) (g.W.Watcher.IsBehind old) (g.W.Watcher.HasSeen m) (g.W.Watcher.IsBehind m) (g.W.Watcher.IsBehind new)
-    (g.W.Watcher.Breaks old) (g.W.Watcher.Breaks m) (g.W.Watcher.Breaks new) refl c.in_ok-step.ensures.enters prepared glanced
+    let watched =
+    subst (λ (w : WorldRecord). HasLookedOn c.args.follows (sight w c.in_ok-step.step) (g.W.Watcher.HasSeen m) (g.W.Watcher.IsBehind m) (g.W.Watcher.HasSeen new) (g.W.Watcher.IsBehind new) (g.W.Watcher.Breaks m) (g.W.Watcher.Breaks new)) c.world-2.ensures
+    (c.in_ok-watch.ensures.watches i m new mid.1 is) in
+    along c.args.follows loud k later c.args.upcoming.heading.entry c.in_ok-step.step (g.W.Watcher.HasSeen old) (g.W.Watcher.IsBehind old) (g.W.Watcher.HasSeen m) (g.W.Watcher.IsBehind m)
+    (g.W.Watcher.HasSeen new) (g.W.Watcher.IsBehind new) (g.W.Watcher.Breaks old) (g.W.Watcher.Breaks m) (g.W.Watcher.Breaks new) refl c.in_ok-step.ensures.enters prepared watched
 
 pub returns-clause-goes : goal.returns-clause-goes
 returns-clause-goes g c = c.in_ok-step.ensures.goes

@@ -2,6 +2,8 @@ use Rattle.std.proofs.Common.{rules, ◌≡◌, ℕ, List, [], ◌∷◌, ◌++�
 use Rattle.nv_watch.specs.declared.mirror.Followed.{Followed}
 use Rattle.nv_watch.specs.inside.Mirroring.{AreNotTwice, IsFirstOf, mirror_in}
 use Rattle.nv_watch.proofs.Mirrored.{put_first, put_same, put_apart, is_with, none_with}
+use Rattle.nv_watch.specs.inside.Sharing.{AllShare}
+use Rattle.nv_watch.proofs.SharedRows.{put_shares}
 use Rattle.nv_watch.proofs.followed.add.Goals as goal
 
 pub returns-clause-place : goal.returns-clause-place
@@ -21,3 +23,7 @@ pub returns-clause-apart : goal.returns-clause-apart
 returns-clause-apart c = λ apart.
     subst AreNotTwice (sym c.in_ok-push.ensures.items)
     (put_apart c.args.all.now.items c.fresh.result (none_with _ c.fresh.result _ _ c.fresh.ensures.session c.fresh.ensures.buffer c.requires) apart)
+
+pub returns-clause-shares : goal.returns-clause-shares
+returns-clause-shares c = λ texts h.
+    subst (λ (l : List Followed). AllShare texts l) (sym c.in_ok-push.ensures.items) (put_shares texts c.args.all.now.items c.fresh.result c.fresh.ensures.ends h)

@@ -31,4 +31,5 @@ loop-message-preserved c =
           (subst (λ (ms : List Sent). mirrors_for c.args.session s (mirror_in old s) ms n ≡ mirrors_for c.args.session s (mirror_in c.args.all.now.items s) (map sent_of messages) n)
           here (c.loop-message.invariant.after s n));
       apart = λ apart. c.in_ok-fits.ensures.apart (c.loop-message.invariant.apart apart);
+      shares = λ texts h. c.in_ok-fits.ensures.shares texts (c.loop-message.invariant.shares texts h);
     }

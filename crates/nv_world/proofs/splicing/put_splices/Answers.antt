@@ -1,7 +1,7 @@
 use Rattle.std.proofs.Common.{◌≡◌, ◌++◌, List, [], sym, ap, ◌∙◌, append-nil}
 use Rattle.nv_editor.specs.Facts.{fact_of}
 use Rattle.nv_editor.specs.declared.happened.Fact.{Fact}
-use Rattle.nv_world.specs.declared.step.BufferSplice.{BufferSplice}
+use Rattle.nv_world.specs.declared.step.Moved.{Moved}
 use Rattle.nv_world.specs.inside.Splicing.{splice_told}
 use Rattle.nv_world.proofs.Splicings.{told_next, told_whole}
 use Rattle.nv_world.proofs.splicing.put_splices.Goals as goal

@@ -1,4 +1,6 @@
-use Rattle.std.proofs.Common.{arith}
+use Rattle.std.proofs.Common.{◌∙◌, ap, arith}
+use Rattle.nv_buffer.specs.Changes.{text_edit}
+use Rattle.nv_buffer.specs.declared.edit.ChangePart.{ChangePart}
 use Rattle.nv_buffer.proofs.Reaches.{narrow_between, some_bytes, text_edit_is}
 use Rattle.nv_buffer.proofs.buffer.Buffer.text_edit.Goals as goal
 
@@ -13,8 +15,9 @@ overflow_sub-bytes c = omega (arith, c.flat_len_of-bytes.ensures, some_bytes c.a
 
 pub returns-clause-edit : goal.returns-clause-edit
 returns-clause-edit c =
-    text_edit_is c.args.self.now.text c.args.new c.in_ok-lines.lines c.args.start c.args.stop c.offset_of.result c.bytes_between.result
+    text_edit_is c.next_part.result c.args.self.now.text c.args.new c.in_ok-lines.lines c.args.start c.args.stop c.offset_of.result c.bytes_between.result
     c.flat_len_of-bytes.result c.extent_between.result c.joined_reach-put.result c.known.ensures.text.lines
     (record { start_in = c.requires.start_in; stop_in = c.requires.stop_in; order = c.requires.order; some = c.requires.some_line })
     c.in_ok-lines.ensures c.offset_of.ensures c.bytes_between.ensures c.flat_len_of-bytes.ensures c.extent_between.ensures
     c.joined_reach-put.ensures
+    ∙ ap (λ (p : ChangePart). text_edit p c.args.self.now.text c.args.start c.args.stop c.args.new) c.next_part.ensures

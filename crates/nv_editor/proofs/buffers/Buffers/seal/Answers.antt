@@ -1,5 +1,6 @@
 use Rattle.std.proofs.Common.{◌≡◌, refl, ap, rules}
 use Rattle.nv_buffer.specs.Content.{Content, after_seal}
+use Rattle.nv_buffer.specs.Steps.{IsBuffer}
 use Rattle.nv_editor.proofs.NamesKept.{numbers_stay, seal_name}
 use Rattle.nv_editor.proofs.Putting.{IsPut, put_here, put_updated, done_in, not_there, either, on_ok, on_err}
 use Rattle.std.specs.Prelude.{[], OnOk, OnErr}
@@ -38,3 +39,9 @@ returns-clause-err c =
     let is : IsPut c.args.self.now (c.get_mut.follows.lender c.seal.new.self).entries c.args.handle c.in-Some.buffer.now c.seal.new.self =
     put_here _ _ _ c.args.handle _ _ c.self.view_is (search rules) c.in-Some.ensures.value (c.get_mut.follows.holds c.seal.new.self).0 in
     done_in _ _ _ _ _ is (λ (b d : Content). OnErr c.seal.result (d ≡ b)) c.seal.ensures.err
+
+pub returns-clause-known : goal.returns-clause-known
+returns-clause-known c =
+    let is : IsPut c.args.self.now (c.get_mut.follows.lender c.seal.new.self).entries c.args.handle c.in-Some.buffer.now c.seal.new.self =
+    put_here _ _ _ c.args.handle _ _ c.self.view_is (search rules) c.in-Some.ensures.value (c.get_mut.follows.holds c.seal.new.self).0 in
+    done_in _ _ _ _ _ is (λ (b d : Content). IsBuffer b.text b.tick b.undo b.unsealed) c.known.ensures.buffer

@@ -1,5 +1,5 @@
 use Rattle.std.proofs.Common.{◌≡◌, refl, rules, ℤ, ◌<◌, ◌≤◌, ◌+◌}
-use Rattle.nv_buffer.specs.Content.{Content}
+use Rattle.nv_buffer.specs.Content.{Content, next_part}
 use Rattle.nv_model.specs.Buffers.{rows_splice}
 use Rattle.nv_editor.specs.inside.Splicing.{IsMadeOrLeft}
 use Rattle.nv_editor.proofs.MadeSplices.{rows_made_ok}
@@ -50,7 +50,7 @@ pub returns-clause-made : goal.returns-clause-made
 returns-clause-made c =
     let is : IsPut c.args.self.now (c.get_mut.follows.lender c.put_lines-made.new.self).entries c.args.handle c.in-Some.buffer.now c.put_lines-made.new.self =
     put_here _ _ _ c.args.handle _ _ c.self.view_is (search rules) c.in-Some.ensures.value (c.get_mut.follows.holds c.put_lines-made.new.self).0 in
-    done_in _ _ _ _ _ is (λ (b d : Content). IfOk c.put_lines-made.result (λ (s : Option Spliced). IsMadeOrLeft s b d (rows_splice b.text c.args.from c.args.to c.args.new)))
+    done_in _ _ _ _ _ is (λ (b d : Content). IfOk c.put_lines-made.result (λ (s : Option Spliced). IsMadeOrLeft s b d (rows_splice (next_part b) b.text c.args.from c.args.to c.args.new)))
     (rows_made_ok c.put_lines-made.result c.in-Some.buffer.now c.put_lines-made.new.self c.args.from c.args.to c.args.new c.requires.order
     (needed c.args.self.now c.args.handle _ is.was (λ (b : Content). c.args.to ≤ length b.text) c.requires.within)
     c.known.ensures.buffer c.known.ensures.text c.known-2.ensures.text c.put_lines-made.ensures.some c.put_lines-made.ensures.none c.put_lines-made.ensures.told c.put_lines-made.ensures.edit)

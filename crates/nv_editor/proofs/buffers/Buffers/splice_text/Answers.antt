@@ -1,5 +1,5 @@
 use Rattle.std.proofs.Common.{◌≡◌, refl, rules, ℤ, ◌<◌, ◌+◌}
-use Rattle.nv_buffer.specs.Content.{Content}
+use Rattle.nv_buffer.specs.Content.{Content, next_part}
 use Rattle.nv_model.specs.Buffers.{text_splice}
 use Rattle.nv_editor.specs.inside.Splicing.{IsMadeOrLeft}
 use Rattle.nv_editor.proofs.MadeSplices.{text_made_ok}
@@ -56,7 +56,7 @@ pub returns-clause-made : goal.returns-clause-made
 returns-clause-made c =
     let is : IsPut c.args.self.now (c.get_mut.follows.lender c.put_text-made.new.self).entries c.args.handle c.in-Some.buffer.now c.put_text-made.new.self =
     put_here _ _ _ c.args.handle _ _ c.self.view_is (search rules) c.in-Some.ensures.value (c.get_mut.follows.holds c.put_text-made.new.self).0 in
-    done_in _ _ _ _ _ is (λ (b d : Content). IfOk c.put_text-made.result (λ (s : Option Spliced). IsMadeOrLeft s b d (text_splice b.text c.args.start c.args.stop c.args.new)))
+    done_in _ _ _ _ _ is (λ (b d : Content). IfOk c.put_text-made.result (λ (s : Option Spliced). IsMadeOrLeft s b d (text_splice (next_part b) b.text c.args.start c.args.stop c.args.new)))
     (text_made_ok c.put_text-made.result c.in-Some.buffer.now c.put_text-made.new.self c.args.start c.args.stop c.args.new
     (needed c.args.self.now c.args.handle _ is.was (λ (b : Content). IsInLine b.text c.args.start) c.requires.start_in)
     (needed c.args.self.now c.args.handle _ is.was (λ (b : Content). IsInLine b.text c.args.stop) c.requires.stop_in)

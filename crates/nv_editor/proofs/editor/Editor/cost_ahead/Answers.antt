@@ -15,9 +15,9 @@ returns c =
     let e : to_z w64 (of_z w64 c.args.buffer) ≡ c.args.buffer = search rules in
     let n : ℤ = to_z w64 (of_z w64 c.args.buffer) in
     let b : Content = content_at c.args.self.now n in
-    let known = c.known_buffer.ensures.buffer in
+    let known = c.splices_ahead.ensures.known in
     let counted : c.splices_ahead.result ≡ length (undo_splices (seen_buffer_now b) (redo_legs (sealed_undo (seen_buffer_now b)))) =
-    c.splices_ahead.ensures ∙ cost_is b known.tree known.now (redo_legs (after_seal b).undo)
+    c.splices_ahead.ensures.count ∙ cost_is b known.tree known.now (redo_legs (after_seal b).undo)
     ∙ ap (λ (legs : List Leg). length (undo_splices (seen_buffer_now b) legs)) (redo_legs_are b known.tree known.now) in
     subst (λ (k : ℤ).
     c.splices_ahead.result ≡ length (undo_splices (seen_buffer_now (content_at c.args.self.now k)) (redo_legs (sealed_undo (seen_buffer_now (content_at c.args.self.now k))))))

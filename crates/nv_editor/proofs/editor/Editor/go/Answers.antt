@@ -16,7 +16,7 @@ loop-place-init c =
     let next : IsNext (content_at c.args.self.now n).undo c.args.leg =
     subst (λ (k : ℤ). IsNext (content_at c.args.self.now k).undo c.args.leg) (sym e) c.requires.next in
     let live = subst (λ (k : ℤ). is_live_buffer c.args.self.now k ≡ true) (sym e) c.requires.live in
-    making_first n c.args.leg c.args.self.now c.args.happened.now live (c.known_buffer.ensures.buffer, closed) c.known_buffer.ensures.edits next
+    making_first n c.args.leg c.args.self.now c.args.happened.now live (c.leg_len-place-end.ensures.known, closed) c.leg_len-place-end.ensures.edits next
 
 pub leg_edit-requires-clause-text : goal.leg_edit-requires-clause-text
 leg_edit-requires-clause-text c =
@@ -26,14 +26,14 @@ leg_edit-requires-clause-text c =
     let next : IsNext (content_at c.args.self.now n).undo c.args.leg =
     subst (λ (k : ℤ). IsNext (content_at c.args.self.now k).undo c.args.leg) (sym e) c.requires.next in
     making_along n c.args.leg c.args.self.now c.loop-place.self c.args.happened.now c.loop-place.happened c.loop-place.place c.loop-place.invariant
-    (c.known_buffer.ensures.buffer, closed) next
+    (c.leg_len-place-end.ensures.known, closed) next
 
 pub make_edit-requires-clause-fits : goal.make_edit-requires-clause-fits
 make_edit-requires-clause-fits c =
     let e : to_z w64 (of_z w64 c.args.buffer) ≡ c.args.buffer = search rules in
     let n : ℤ = to_z w64 (of_z w64 c.args.buffer) in
     let here : slice_get (leg_edits (content_at c.args.self.now n).undo c.args.leg) c.loop-place.place ≡ Some c.in_ok-edit.edit =
-    ap (λ (u : Undo (List Edit)). slice_get (leg_edits u c.args.leg) c.loop-place.place) (sym c.loop-place.invariant.going.undo) ∙ c.in_ok-edit.ensures in
+    ap (λ (u : Undo (List Edit)). slice_get (leg_edits u c.args.leg) c.loop-place.place) (sym c.loop-place.invariant.going.undo) ∙ c.in_ok-edit.ensures.edit in
     making_fits n c.args.leg c.args.self.now c.loop-place.self c.args.happened.now c.loop-place.happened c.loop-place.place c.loop-place.invariant c.in_ok-edit.edit here
 
 pub make_edit-requires-clause-edit : goal.make_edit-requires-clause-edit
@@ -41,7 +41,7 @@ make_edit-requires-clause-edit c =
     let e : to_z w64 (of_z w64 c.args.buffer) ≡ c.args.buffer = search rules in
     let n : ℤ = to_z w64 (of_z w64 c.args.buffer) in
     let here : slice_get (leg_edits (content_at c.args.self.now n).undo c.args.leg) c.loop-place.place ≡ Some c.in_ok-edit.edit =
-    ap (λ (u : Undo (List Edit)). slice_get (leg_edits u c.args.leg) c.loop-place.place) (sym c.loop-place.invariant.going.undo) ∙ c.in_ok-edit.ensures in
+    ap (λ (u : Undo (List Edit)). slice_get (leg_edits u c.args.leg) c.loop-place.place) (sym c.loop-place.invariant.going.undo) ∙ c.in_ok-edit.ensures.edit in
     making_edit n c.args.leg c.args.self.now c.loop-place.self c.args.happened.now c.loop-place.happened c.loop-place.place c.loop-place.invariant c.in_ok-edit.edit here
 
 pub loop-place-preserved : goal.loop-place-preserved
@@ -49,7 +49,7 @@ loop-place-preserved c =
     let e : to_z w64 (of_z w64 c.args.buffer) ≡ c.args.buffer = search rules in
     let n : ℤ = to_z w64 (of_z w64 c.args.buffer) in
     let here : slice_get (leg_edits (content_at c.args.self.now n).undo c.args.leg) c.loop-place.place ≡ Some c.in_ok-edit.edit =
-    ap (λ (u : Undo (List Edit)). slice_get (leg_edits u c.args.leg) c.loop-place.place) (sym c.loop-place.invariant.going.undo) ∙ c.in_ok-edit.ensures in
+    ap (λ (u : Undo (List Edit)). slice_get (leg_edits u c.args.leg) c.loop-place.place) (sym c.loop-place.invariant.going.undo) ∙ c.in_ok-edit.ensures.edit in
     making_on n c.args.leg c.args.self.now c.loop-place.self c.args.happened.now c.loop-place.happened c.loop-place.place c.loop-place.invariant c.make_edit.new.self c.make_edit.new.happened
     c.in_ok-edit.edit here c.in_ok-make_edit.ensures.made c.in_ok-make_edit.ensures.told
 
@@ -61,8 +61,8 @@ arrive-requires-clause-next c =
     let next : IsNext (content_at c.args.self.now n).undo c.args.leg =
     subst (λ (k : ℤ). IsNext (content_at c.args.self.now k).undo c.args.leg) (sym e) c.requires.next in
     let end : length (leg_edits (content_at c.args.self.now n).undo c.args.leg) ≤ c.loop-place.place =
-    omega (arith, c.leg_len-place-end.ensures, c.loop-place-test.false) in
-    made_next n c.args.leg c.args.self.now c.loop-place.self c.args.happened.now c.loop-place.happened c.loop-place.place c.loop-place.invariant (c.known_buffer.ensures.buffer, closed) next end
+    omega (arith, c.leg_len-place-end.ensures.len, c.loop-place-test.false) in
+    made_next n c.args.leg c.args.self.now c.loop-place.self c.args.happened.now c.loop-place.happened c.loop-place.place c.loop-place.invariant (c.leg_len-place-end.ensures.known, closed) next end
 
 pub arrive-requires-clause-text : goal.arrive-requires-clause-text
 arrive-requires-clause-text c =
@@ -72,8 +72,8 @@ arrive-requires-clause-text c =
     let next : IsNext (content_at c.args.self.now n).undo c.args.leg =
     subst (λ (k : ℤ). IsNext (content_at c.args.self.now k).undo c.args.leg) (sym e) c.requires.next in
     let end : length (leg_edits (content_at c.args.self.now n).undo c.args.leg) ≤ c.loop-place.place =
-    omega (arith, c.leg_len-place-end.ensures, c.loop-place-test.false) in
-    made_text n c.args.leg c.args.self.now c.loop-place.self c.args.happened.now c.loop-place.happened c.loop-place.place c.loop-place.invariant (c.known_buffer.ensures.buffer, closed) next end
+    omega (arith, c.leg_len-place-end.ensures.len, c.loop-place-test.false) in
+    made_text n c.args.leg c.args.self.now c.loop-place.self c.args.happened.now c.loop-place.happened c.loop-place.place c.loop-place.invariant (c.leg_len-place-end.ensures.known, closed) next end
 
 pub returns-clause-gone : goal.returns-clause-gone
 returns-clause-gone c =
@@ -83,6 +83,6 @@ returns-clause-gone c =
     let next : IsNext (content_at c.args.self.now n).undo c.args.leg =
     subst (λ (k : ℤ). IsNext (content_at c.args.self.now k).undo c.args.leg) (sym e) c.requires.next in
     let end : length (leg_edits (content_at c.args.self.now n).undo c.args.leg) ≤ c.loop-place.place =
-    omega (arith, c.leg_len-place-end.ensures, c.loop-place-test.false) in
+    omega (arith, c.leg_len-place-end.ensures.len, c.loop-place-test.false) in
     subst (λ (k : ℤ). IsLegMade k c.args.leg c.args.self.now c.arrive.new.self) e
-    (made_leg n c.args.leg c.args.self.now c.loop-place.self c.args.happened.now c.loop-place.happened c.loop-place.place c.loop-place.invariant (c.known_buffer.ensures.buffer, closed) next end c.arrive.new.self c.arrive.ensures)
+    (made_leg n c.args.leg c.args.self.now c.loop-place.self c.args.happened.now c.loop-place.happened c.loop-place.place c.loop-place.invariant (c.leg_len-place-end.ensures.known, closed) next end c.arrive.new.self c.arrive.ensures)

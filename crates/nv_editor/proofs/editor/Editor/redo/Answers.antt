@@ -24,16 +24,16 @@ go_way-requires-in-Some-clause-tick c =
     subst (λ (k : ℤ).
     ((content_at c.args.self.now k).tick +ℤ pos (length (undo_splices (seen_buffer_now (content_at c.args.self.now k)) (redo_legs (sealed_undo (seen_buffer_now (content_at c.args.self.now k))))))) ≤ℤ _)
     (sym e) c.requires.tick in
-    undo_tick n c.args.self.now c.seal_buffer.new.self c.known_buffer.ensures.buffer c.in_ok-seal_buffer.ensures.sealed c.as_slice-in-Some.result.now
+    undo_tick n c.args.self.now c.seal_buffer.new.self c.seal_buffer.ensures.known c.in_ok-seal_buffer.ensures.sealed c.as_slice-in-Some.result.now
     (redo_legs (sealed_undo (seen_buffer_now (content_at c.args.self.now n)))) _
-    (redo_slice n c.args.self.now c.seal_buffer.new.self c.known_buffer.ensures.buffer c.in_ok-seal_buffer.ensures.sealed c.as_slice-in-Some.result.now (ahead_one (content_at c.seal_buffer.new.self n).undo c.as_slice-in-Some.result.now c.in-Some.child c.as_slice-in-Some.ensures c.in-Some.ensures.number)) within
+    (redo_slice n c.args.self.now c.seal_buffer.new.self c.seal_buffer.ensures.known c.in_ok-seal_buffer.ensures.sealed c.as_slice-in-Some.result.now (ahead_one (content_at c.seal_buffer.new.self n).undo c.as_slice-in-Some.result.now c.in-Some.child c.as_slice-in-Some.ensures c.in-Some.ensures.number)) within
 
 pub returns-in_ok-go_way-in-None : goal.returns-in_ok-go_way-in-None
 returns-in_ok-go_way-in-None c =
     let e : to_z w64 (of_z w64 c.args.buffer) ≡ c.args.buffer = search rules in
     let n : ℤ = to_z w64 (of_z w64 c.args.buffer) in
     let same : c.as_slice.result.now ≡ redo_legs (sealed_undo (seen_buffer_now (content_at c.args.self.now n))) =
-    redo_slice n c.args.self.now c.seal_buffer.new.self c.known_buffer.ensures.buffer c.in_ok-seal_buffer.ensures.sealed c.as_slice.result.now (ahead_none (content_at c.seal_buffer.new.self n).undo c.as_slice.result.now c.as_slice.ensures c.in-None.ensures.number) in
+    redo_slice n c.args.self.now c.seal_buffer.new.self c.seal_buffer.ensures.known c.in_ok-seal_buffer.ensures.sealed c.as_slice.result.now (ahead_none (content_at c.seal_buffer.new.self n).undo c.as_slice.result.now c.as_slice.ensures c.in-None.ensures.number) in
     subst (λ (k : ℤ).
     Replies
     (replied nil
@@ -42,7 +42,7 @@ returns-in_ok-go_way-in-None c =
     (undo_splices (seen_buffer_now (content_at c.args.self.now k)) (redo_legs (sealed_undo (seen_buffer_now (content_at c.args.self.now k)))))))
     nil c.args.self.now c.go_way.new.self c.args.happened.now c.go_way.new.happened) e
     (undo_replies n c.args.self.now c.seal_buffer.new.self c.go_way.new.self c.args.happened.now c.go_way.new.happened c.as_slice.result.now
-    (redo_legs (sealed_undo (seen_buffer_now (content_at c.args.self.now n)))) c.known_buffer.ensures.buffer c.in_ok-seal_buffer.ensures.sealed
+    (redo_legs (sealed_undo (seen_buffer_now (content_at c.args.self.now n)))) c.seal_buffer.ensures.known c.in_ok-seal_buffer.ensures.sealed
     c.in_ok-go_way-in-None.ensures same)
 
 pub returns-in_ok-go_way-in-Some : goal.returns-in_ok-go_way-in-Some
@@ -50,7 +50,7 @@ returns-in_ok-go_way-in-Some c =
     let e : to_z w64 (of_z w64 c.args.buffer) ≡ c.args.buffer = search rules in
     let n : ℤ = to_z w64 (of_z w64 c.args.buffer) in
     let same : c.as_slice-in-Some.result.now ≡ redo_legs (sealed_undo (seen_buffer_now (content_at c.args.self.now n))) =
-    redo_slice n c.args.self.now c.seal_buffer.new.self c.known_buffer.ensures.buffer c.in_ok-seal_buffer.ensures.sealed c.as_slice-in-Some.result.now (ahead_one (content_at c.seal_buffer.new.self n).undo c.as_slice-in-Some.result.now c.in-Some.child c.as_slice-in-Some.ensures c.in-Some.ensures.number) in
+    redo_slice n c.args.self.now c.seal_buffer.new.self c.seal_buffer.ensures.known c.in_ok-seal_buffer.ensures.sealed c.as_slice-in-Some.result.now (ahead_one (content_at c.seal_buffer.new.self n).undo c.as_slice-in-Some.result.now c.in-Some.child c.as_slice-in-Some.ensures c.in-Some.ensures.number) in
     subst (λ (k : ℤ).
     Replies
     (replied nil
@@ -59,5 +59,5 @@ returns-in_ok-go_way-in-Some c =
     (undo_splices (seen_buffer_now (content_at c.args.self.now k)) (redo_legs (sealed_undo (seen_buffer_now (content_at c.args.self.now k)))))))
     nil c.args.self.now c.go_way-in-Some.new.self c.args.happened.now c.go_way-in-Some.new.happened) e
     (undo_replies n c.args.self.now c.seal_buffer.new.self c.go_way-in-Some.new.self c.args.happened.now c.go_way-in-Some.new.happened c.as_slice-in-Some.result.now
-    (redo_legs (sealed_undo (seen_buffer_now (content_at c.args.self.now n)))) c.known_buffer.ensures.buffer c.in_ok-seal_buffer.ensures.sealed
+    (redo_legs (sealed_undo (seen_buffer_now (content_at c.args.self.now n)))) c.seal_buffer.ensures.known c.in_ok-seal_buffer.ensures.sealed
     c.in_ok-go_way-in-Some.ensures same)

@@ -1,6 +1,7 @@
-use Rattle.std.proofs.Common.{◌≡◌, ℤ, ◌∙◌, List, [], ◌∷◌, ap, sym, subst, rules, to_z, of_z, w64}
+use Rattle.std.proofs.Common.{◌≡◌, ◌<◌, ℤ, ◌∙◌, List, [], ◌∷◌, ap, sym, subst, rules, to_z, of_z, w64}
 use Rattle.nv_buffer.specs.Content.{Content}
 use Rattle.nv_buffer.specs.Marks.{IsMarkIn}
+use Rattle.nv_model.specs.Keeping.{most_settings}
 use Rattle.nv_model.specs.Operations.{mark_set}
 use Rattle.nv_model.specs.Standing.{PresentEditor}
 use Rattle.nv_editor.specs.Doing.{Does}
@@ -46,6 +47,9 @@ returns-clause-done c =
     let within : IsMarkIn (content_in c.self.inside.buffers n).text c.args.mark =
     subst (λ (k : ℤ). IsMarkIn (content_in c.self.inside.buffers k).text c.args.mark) (sym e)
     (subst (λ (x : PresentEditor). IsMarkIn (content_at x c.args.buffer).text c.args.mark) (sym c.self.view_is) c.requires.places) in
+    let few : (content_in c.self.inside.buffers n).marks.settings < most_settings =
+    subst (λ (k : ℤ). (content_in c.self.inside.buffers k).marks.settings < most_settings) (sym e)
+    (subst (λ (x : PresentEditor). (content_at x c.args.buffer).marks.settings < most_settings) (sym c.self.view_is) c.requires.few) in
     subst (λ (k : ℤ). Does (mark_set k c.args.mark ∷ []) c.args.self.now (editor_of c.set_mark.new.self c.self.inside.stage)) e
     (mark_done c.self.inside.buffers c.set_mark.new.self c.self.inside.stage n c.in_ok-set_mark.ensures.updated c.in_ok-set_mark.ensures.rest
-    c.args.self.now c.args.mark c.self.view_is c.in_ok-set_mark.ensures.marks within)
+    c.args.self.now c.args.mark c.self.view_is c.in_ok-set_mark.ensures.marks within c.requires.shown few)

@@ -25,16 +25,16 @@ go_way-requires-in_default-clause-tick c =
     subst (λ (k : ℤ).
     ((content_at c.args.self.now k).tick +ℤ pos (length (undo_splices (seen_buffer_now (content_at c.args.self.now k)) (undo_legs (sealed_undo (seen_buffer_now (content_at c.args.self.now k))))))) ≤ℤ _)
     (sym e) c.requires.tick in
-    undo_tick n c.args.self.now c.seal_buffer.new.self c.known_buffer.ensures.buffer c.in_ok-seal_buffer.ensures.sealed c.as_slice-in_default.result.now
+    undo_tick n c.args.self.now c.seal_buffer.new.self c.seal_buffer.ensures.known c.in_ok-seal_buffer.ensures.sealed c.as_slice-in_default.result.now
     (undo_legs (sealed_undo (seen_buffer_now (content_at c.args.self.now n)))) _
-    (undo_slice n c.args.self.now c.seal_buffer.new.self c.known_buffer.ensures.buffer c.in_ok-seal_buffer.ensures.sealed c.as_slice-in_default.result.now (back_one (content_at c.seal_buffer.new.self n).undo c.as_slice-in_default.result.now c.undone.result c.as_slice-in_default.ensures c.undone.ensures.value (omega arith))) within
+    (undo_slice n c.args.self.now c.seal_buffer.new.self c.seal_buffer.ensures.known c.in_ok-seal_buffer.ensures.sealed c.as_slice-in_default.result.now (back_one (content_at c.seal_buffer.new.self n).undo c.as_slice-in_default.result.now c.undone.result c.as_slice-in_default.ensures c.undone.ensures.value (omega arith))) within
 
 pub returns-in_ok-go_way-in-0 : goal.returns-in_ok-go_way-in-0
 returns-in_ok-go_way-in-0 c =
     let e : to_z w64 (of_z w64 c.args.buffer) ≡ c.args.buffer = search rules in
     let n : ℤ = to_z w64 (of_z w64 c.args.buffer) in
     let same : c.as_slice.result.now ≡ undo_legs (sealed_undo (seen_buffer_now (content_at c.args.self.now n))) =
-    undo_slice n c.args.self.now c.seal_buffer.new.self c.known_buffer.ensures.buffer c.in_ok-seal_buffer.ensures.sealed c.as_slice.result.now (back_none (content_at c.seal_buffer.new.self n).undo c.as_slice.result.now c.as_slice.ensures (sym c.in-0.is ∙ c.undone.ensures.value)) in
+    undo_slice n c.args.self.now c.seal_buffer.new.self c.seal_buffer.ensures.known c.in_ok-seal_buffer.ensures.sealed c.as_slice.result.now (back_none (content_at c.seal_buffer.new.self n).undo c.as_slice.result.now c.as_slice.ensures (sym c.in-0.is ∙ c.undone.ensures.value)) in
     subst (λ (k : ℤ).
     Replies
     (replied nil
@@ -43,7 +43,7 @@ returns-in_ok-go_way-in-0 c =
     (undo_splices (seen_buffer_now (content_at c.args.self.now k)) (undo_legs (sealed_undo (seen_buffer_now (content_at c.args.self.now k)))))))
     nil c.args.self.now c.go_way.new.self c.args.happened.now c.go_way.new.happened) e
     (undo_replies n c.args.self.now c.seal_buffer.new.self c.go_way.new.self c.args.happened.now c.go_way.new.happened c.as_slice.result.now
-    (undo_legs (sealed_undo (seen_buffer_now (content_at c.args.self.now n)))) c.known_buffer.ensures.buffer c.in_ok-seal_buffer.ensures.sealed
+    (undo_legs (sealed_undo (seen_buffer_now (content_at c.args.self.now n)))) c.seal_buffer.ensures.known c.in_ok-seal_buffer.ensures.sealed
     c.in_ok-go_way-in-0.ensures same)
 
 pub returns-in_ok-go_way-in_default : goal.returns-in_ok-go_way-in_default
@@ -51,7 +51,7 @@ returns-in_ok-go_way-in_default c =
     let e : to_z w64 (of_z w64 c.args.buffer) ≡ c.args.buffer = search rules in
     let n : ℤ = to_z w64 (of_z w64 c.args.buffer) in
     let same : c.as_slice-in_default.result.now ≡ undo_legs (sealed_undo (seen_buffer_now (content_at c.args.self.now n))) =
-    undo_slice n c.args.self.now c.seal_buffer.new.self c.known_buffer.ensures.buffer c.in_ok-seal_buffer.ensures.sealed c.as_slice-in_default.result.now (back_one (content_at c.seal_buffer.new.self n).undo c.as_slice-in_default.result.now c.undone.result c.as_slice-in_default.ensures c.undone.ensures.value (omega arith)) in
+    undo_slice n c.args.self.now c.seal_buffer.new.self c.seal_buffer.ensures.known c.in_ok-seal_buffer.ensures.sealed c.as_slice-in_default.result.now (back_one (content_at c.seal_buffer.new.self n).undo c.as_slice-in_default.result.now c.undone.result c.as_slice-in_default.ensures c.undone.ensures.value (omega arith)) in
     subst (λ (k : ℤ).
     Replies
     (replied nil
@@ -60,5 +60,5 @@ returns-in_ok-go_way-in_default c =
     (undo_splices (seen_buffer_now (content_at c.args.self.now k)) (undo_legs (sealed_undo (seen_buffer_now (content_at c.args.self.now k)))))))
     nil c.args.self.now c.go_way-in_default.new.self c.args.happened.now c.go_way-in_default.new.happened) e
     (undo_replies n c.args.self.now c.seal_buffer.new.self c.go_way-in_default.new.self c.args.happened.now c.go_way-in_default.new.happened c.as_slice-in_default.result.now
-    (undo_legs (sealed_undo (seen_buffer_now (content_at c.args.self.now n)))) c.known_buffer.ensures.buffer c.in_ok-seal_buffer.ensures.sealed
+    (undo_legs (sealed_undo (seen_buffer_now (content_at c.args.self.now n)))) c.seal_buffer.ensures.known c.in_ok-seal_buffer.ensures.sealed
     c.in_ok-go_way-in_default.ensures same)

@@ -3,7 +3,9 @@ use Rattle.std.proofs.lemmas.Option.{slice_get-get_or}
 use Rattle.nv_undo.specs.Ways.{Leads}
 use Rattle.nv_undo.specs.declared.legs.Leg.TheVariants.{Back}
 use Rattle.nv_buffer.specs.Changes.{leg_edits}
+use Rattle.nv_buffer.specs.Steps.{IsBuffer}
 use Rattle.nv_editor.specs.Sound.{content_at, is_live_buffer}
+use Rattle.nv_editor.specs.inside.Kept.{AreKeptEdits}
 use Rattle.nv_editor.specs.inside.Walks.{IsWayMade}
 use Rattle.nv_editor.proofs.Going.{passing_first, passing_tick, passing_on, passed}
 use Rattle.nv_editor.proofs.editor.Editor.walk.Goals as goal
@@ -15,7 +17,9 @@ loop-leg-init c =
     let closed : (content_at c.args.self.now n).unsealed ≡ [] = subst (λ (k : ℤ). (content_at c.args.self.now k).unsealed ≡ []) (sym e) c.requires.closed in
     let live = subst (λ (k : ℤ). is_live_buffer c.args.self.now k ≡ true) (sym e) c.requires.live in
     let way = subst (λ (k : ℤ). (to : ℕ) × Leads (content_at c.args.self.now k).undo (content_at c.args.self.now k).undo.current c.args.legs.now to) (sym e) c.requires.way in
-    passing_first n c.args.legs.now c.args.self.now c.args.happened.now live (c.known_buffer.ensures.buffer, closed) c.known_buffer.ensures.edits way
+    let known = subst (λ (k : ℤ). let b = content_at c.args.self.now k in IsBuffer b.text b.tick b.undo b.unsealed) (sym e) c.requires.known in
+    let edits = subst (λ (k : ℤ). AreKeptEdits (content_at c.args.self.now k)) (sym e) c.requires.edits in
+    passing_first n c.args.legs.now c.args.self.now c.args.happened.now live (known, closed) edits way
 
 pub go-requires-clause-tick : goal.go-requires-clause-tick
 go-requires-clause-tick c =

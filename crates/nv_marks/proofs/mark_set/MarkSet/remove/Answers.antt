@@ -4,6 +4,7 @@ use Rattle.nv_marks.specs.Marks.{Marks, without}
 use Rattle.nv_marks.specs.inside.Records.{marks_among}
 use Rattle.nv_marks.specs.inside.Chunks.{spread_records}
 use Rattle.nv_marks.specs.inside.Names.{IsIndexOf}
+use Rattle.nv_marks.proofs.BandLemmas.{banded_without}
 use Rattle.nv_marks.proofs.IndexLemmas.{index_less}
 use Rattle.nv_marks.proofs.StoredLemmas.{ends_of_stored, stored_less, marks_left, count_less}
 use Rattle.nv_marks.proofs.PartsLemmas.{as_many_without}
@@ -39,6 +40,10 @@ invariant_of-self c = (
       (marks_left c.args.ns c.args.id c.self.inside.store.chunks.items c.take_found.new.store.chunks.items c.self.inside.greatest.entries c.self.invariant.0
       c.take_found.ensures.laid c.take_found.ensures.rest)
       (subst (λ (l : List (ℕ × Reverse ℕ)). IsIndexOf l (marks_among (spread_records c.self.inside.store.chunks.items))) (sym c.take_found.ensures.index) c.self.invariant.2),
+  banded_without c.args.ns c.args.id c.self.inside.bands.items (marks_among (spread_records c.self.inside.store.chunks.items))
+      (marks_among (spread_records c.take_found.new.store.chunks.items)) c.self.invariant.3
+      (marks_left c.args.ns c.args.id c.self.inside.store.chunks.items c.take_found.new.store.chunks.items c.self.inside.greatest.entries c.self.invariant.0
+      c.take_found.ensures.laid c.take_found.ensures.rest),
 )
 
 pub returns-clause-marks : goal.returns-clause-marks

@@ -1,6 +1,7 @@
-use Rattle.std.proofs.Common.{◌≤◌, ◌+◌, ◌∙◌, ap, sym, subst, map, All, ℕ, List, arith}
+use Rattle.std.proofs.Common.{◌≤◌, ◌+◌, ◌∙◌, ap, sym, subst, map, length, All, ℕ, List, arith}
 use Rattle.std.specs.Prelude.{option_map, vec_len, vec_capacity}
 use Rattle.std.specs.declared.cmp.Reverse.{Reverse}
+use Rattle.std.proofs.lemmas.List.{with_items_is}
 use Rattle.nv_marks.specs.Marks.{Marks, mark_at}
 use Rattle.nv_marks.specs.Order.{IsInOrder}
 use Rattle.nv_marks.specs.Cost.{most_steps}
@@ -8,6 +9,9 @@ use Rattle.nv_marks.specs.Moves.{moved_mark, MovesNarrowly}
 use Rattle.nv_marks.specs.inside.Records.{marks_among}
 use Rattle.nv_marks.specs.inside.Chunks.{spread_records}
 use Rattle.nv_marks.specs.inside.Names.{IsIndexOf}
+use Rattle.nv_marks.specs.declared.bands.Band.{Band}
+use Rattle.nv_marks.specs.inside.Bands.{HasBand, IsBanded}
+use Rattle.nv_marks.proofs.BandLemmas.{banded_moved}
 use Rattle.nv_marks.proofs.IndexLemmas.{index_moved}
 use Rattle.nv_marks.proofs.StoredLemmas.{moves_records, records_fit, stored_moved, ordered_moved, found_moved, count_moved, cost_in_marks}
 use Rattle.nv_marks.proofs.mark_set.MarkSet.splice_counted.Goals as goal
@@ -41,6 +45,16 @@ invariant_of-self g c = (
       (found_moved c.args.start c.args.old c.args.new c.self.inside.store.chunks.items c.splice_counted.new.self.chunks.items c.self.inside.greatest.entries
       c.self.invariant.0 c.splice_counted.ensures.laid c.splice_counted.ensures.same_records)
       c.self.invariant.2),
+  subst (λ (l : List Band). IsBanded l (marks_among (spread_records c.splice_counted.new.self.chunks.items)))
+      (sym (with_items_is c.self.inside.bands c.move_bands.new.bands
+      (omega (arith, c.move_bands.ensures.len, ap length c.as_mut_slice-bands.ensures.value, c.self.inside.bands.ok.0))))
+      (banded_moved c.args.start c.args.old c.args.new c.self.inside.bands.items c.move_bands.new.bands (marks_among (spread_records c.self.inside.store.chunks.items))
+      (marks_among (spread_records c.splice_counted.new.self.chunks.items)) c.self.invariant.3
+      (c.move_bands.ensures.len ∙ ap length c.as_mut_slice-bands.ensures.value)
+      (λ m narrow has. c.move_bands.ensures.moved m narrow (subst (λ (l : List Band). HasBand l m) (sym c.as_mut_slice-bands.ensures.value) has))
+      (subst (λ (v : Marks). All (MovesNarrowly c.args.start c.args.old c.args.new) v.marks) (sym c.self.view_is) c.requires.moved)
+      (ordered_moved c.args.start c.args.old c.args.new c.self.inside.store.chunks.items c.splice_counted.new.self.chunks.items c.self.inside.greatest.entries
+      c.self.invariant.0 c.splice_counted.ensures.laid c.splice_counted.ensures.same_records)),
 )
 
 pub returns-clause-marks : goal.returns-clause-marks

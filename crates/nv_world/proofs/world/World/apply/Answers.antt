@@ -5,7 +5,7 @@ use Rattle.nv_history.specs.Worlds.{World, Outcome, step, becomes, idles, refuse
 use Rattle.nv_world.specs.Contents.{plain_entries, plain_event}
 use Rattle.nv_world.specs.Steps.{splices_of_event}
 use Rattle.nv_world.specs.Worlds.{WorldRecord, model_of, outcome_of_event, with_entry}
-use Rattle.nv_world.specs.declared.step.BufferSplice.{BufferSplice}
+use Rattle.nv_world.specs.declared.step.Moved.{Moved}
 use Rattle.nv_world.specs.declared.entry.Entry.{Entry}
 use Rattle.nv_world.specs.declared.state.State.{State}
 use Rattle.nv_world.specs.inside.States.{StandsNumbered}
@@ -64,7 +64,7 @@ invariant_of-self-in-Ok-push c =
       stands = λ w live runs. went_on c.happen.new.state _ _ _ _ _ enters.after w
           (ap (length {A = Entry}) c.in-Ok-push.ensures.ok ∙ length-append c.self.inside.history.entries (entry ∷ [])) c.len.ensures.count (one_world _ enters.after w later runs) enters.stands;
       last = last_pushed c.self.inside.capacity c.self.inside.limits c.self.inside.history.entries c.push.new.self.entries entry p.0 c.happen.new.splices.items c.in-Ok-push.ensures.ok p.1
-          (c.in-Ok.ensures.splices p.0 at ∙ ap (λ (l : List BufferSplice). l ++ splices_of_event p.0 (plain_event c.args.event)) c.new-splices.ensures.items);
+          (c.in-Ok.ensures.splices p.0 at ∙ ap (λ (l : List Moved). l ++ splices_of_event p.0 (plain_event c.args.event)) c.new-splices.ensures.items);
     }
 
 pub returns-in-Ok-push-clause-ok : goal.returns-in-Ok-push-clause-ok
