@@ -172,8 +172,28 @@ def marks_once(words, count):
     whole = get_marks(namespace, integer(0), integer(-1))
     times = max(1, 50_000 // count)
     found[f"{count} marks listed, ms"] = min(server.ask(whole * times) for _ in range(3)) * 1e3 / times
+    clear = request(1, b"nvim_buf_clear_namespace", integer(0), integer(namespace), integer(0), integer(-1))
+    found[f"{count} marks cleared, ms"] = server.ask(clear) * 1e3
     server.close()
     return found
+
+
+def undo_once(words):
+    """The figure of an undo that puts 1,000 marks back, in each of ten buffers whose 1,000 lines were removed. The requests go ahead of their replies; a
+    buffer is made the current one before its undo."""
+    server = Server(words)
+    namespace = server.namespace()
+    server.ask(b"".join(request(n, b"nvim_create_buf", b"\xc3", b"\xc2") for n in range(10)))
+    buffers = range(2, 12)
+    for n in buffers:
+        server.ask(request(1, b"nvim_buf_set_lines", integer(n), integer(0), integer(-1), b"\xc3", items([text(LINE)] * 1_000)))
+        marks = [request(1, b"nvim_buf_set_extmark", integer(n), integer(namespace), integer(row), integer(20), b"\x80") for row in range(1_000)]
+        server.ask(b"".join(marks))
+    switches = [request(1, b"nvim_set_current_buf", integer(n)) for n in buffers]
+    server.ask(b"".join(request(1, b"nvim_buf_set_lines", integer(n), integer(0), integer(-1), b"\xc3", items([])) for n in buffers))
+    undone = server.ask(b"".join(switch + UNDO for switch in switches)) * 1e6
+    server.close()
+    return {"an undo that puts 1000 marks back, us": undone / 10}
 
 
 def small_figures(words):
@@ -243,7 +263,10 @@ def main():
         if sys.argv[1] == "beside":
             beside(program, figures, 3)
         beside(program, lambda words: marks_once(words, 1_000), 50)
-        return beside(program, lambda words: marks_once(words, 100_000), 15)
+        beside(program, undo_once, 50)
+        for count in (10_000, 100_000):
+            beside(program, lambda words: marks_once(words, count), 15)
+        return
     program = sys.argv[1] if len(sys.argv) > 1 else PROGRAM
     if not os.path.exists(program):
         raise SystemExit("build it first: ./nvimd embed </dev/null")
