@@ -1,13 +1,14 @@
-#!/usr/bin/env python3
+#!/usr/bin/python3
 """Measures drawing (crates/draw_bench), and prints microseconds of processor time a screen.
-
-Usage: bench/draw.py [ROUNDS]    how often each measurement is taken (default 7); the best counts
 """
 
 import os
-import resource
 import subprocess
-import sys
+
+from nvimd import Error
+from nvimd.command import Words, run
+from session import processor_time
+
 
 HERE = os.path.dirname(os.path.abspath(__file__))
 CRATE = os.path.join(os.path.dirname(HERE), "crates", "draw_bench")
@@ -17,20 +18,26 @@ TIMES = 2000
 
 def spent(what, times):
     """The processor time of so many screens, in seconds."""
-    before = resource.getrusage(resource.RUSAGE_CHILDREN)
-    subprocess.run([PROGRAM, what, str(times)], stdout=subprocess.DEVNULL, check=True)
-    after = resource.getrusage(resource.RUSAGE_CHILDREN)
-    return after.ru_utime + after.ru_stime - before.ru_utime - before.ru_stime
+    with processor_time() as taken:
+        subprocess.run([PROGRAM, what, str(times)], stdout=subprocess.DEVNULL, check=True)
+    return taken()
 
 
 def main():
-    rounds = int(sys.argv[1]) if len(sys.argv) > 1 else 7
-    for what, words in (
+    words = Words(__doc__)
+    told = "how often each measurement is taken; the best counts"
+    words.add_argument("rounds", metavar="ROUNDS", nargs="?", type=int, default=7, help=told)
+    rounds = words.parse_args().rounds
+    if not os.path.exists(PROGRAM):
+        raise Error("build it first: (cd crates/draw_bench && rt run -- screen 1)")
+    for what, told in (
         ("screen", "120 by 40 in two windows"),
         ("long", "a line of 1 MB in 38 rows"),
     ):
         best = min(spent(what, TIMES) - spent(what, 1) for _ in range(rounds))
-        print("%-28s %8.1f us" % (words, best / TIMES * 1e6))
+        print(f"{told:<28} {best / TIMES * 1e6:8.1f} us")
+    return 0
 
 
-main()
+if __name__ == "__main__":
+    run(main)

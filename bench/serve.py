@@ -1,23 +1,20 @@
 #!/usr/bin/python3
-"""Measures `nvimd serve` over a socket beside Neovim in the same run: round trips, pipelined requests, edits that are
-followed, and what sessions cost that do nothing.
+"""Measures `nvimd serve` over a socket beside Neovim in the same run: round trips, pipelined
+requests, edits that are followed, and what sessions cost that do nothing.
 
-Usage: bench/serve.py [PROGRAM]            default: crates/nvimd/out/nvimd, as the launcher builds it
-Wants `nvim` on the path, and Debian's python3-msgpack for the scripts of clients/ that it stands on.
+Wants `nvim` on the path, and Debian's python3-msgpack.
 """
 
-import os
 import statistics
-import sys
 import threading
 import time
 
-HERE = os.path.dirname(os.path.abspath(__file__))
-sys.path[:0] = [HERE, os.path.join(os.path.dirname(HERE), "clients")]
-from rpc import Serve, limit
-from run import integer, items, text
-from server import socket_at
-from session import PROGRAM, SENTINEL, request, set_rows
+import nvimd
+from nvimd.command import Words, run
+from nvimd.session import socket_at
+from session import last_of, request, set_rows, tell_load
+from spell import integer
+
 
 SESSIONS = 64
 BUSY = 50  # sessions that ask at once
@@ -41,18 +38,17 @@ class Asking:
         while wanted not in self.tail:
             piece = self.socket.recv(1 << 20)
             if not piece:
-                raise SystemExit("a server ended")
-            self.tail = (self.tail + piece)[-(len(piece) + 64):]
-        self.tail = self.tail[self.tail.index(wanted) + len(wanted):]
+                raise nvimd.Ended("a server ended")
+            self.tail = (self.tail + piece)[-(len(piece) + 64) :]
+        self.tail = self.tail[self.tail.index(wanted) + len(wanted) :]
 
     def ask(self, stream):
         """Sends these requests and one more, and waits for the reply to that one."""
         self.count += 1
-        number = SENTINEL + self.count
-        last = items([integer(0), integer(number), text(b"nvim_buf_line_count"), items([integer(0)])])
+        last, wanted = last_of(self.count)
         writer = threading.Thread(target=self.socket.sendall, args=(stream + last,))
         writer.start()
-        self.until(b"\x94\x01\xce" + number.to_bytes(4, "big") + b"\xc0")
+        self.until(wanted)
         writer.join()
 
     def round_trips(self, count):
@@ -65,7 +61,8 @@ class Asking:
 
 
 def pipelined(sessions, stream, count):
-    """Microseconds of a request, where so many in a stream are sent by each of these sessions at once."""
+    """Microseconds of a request, where so many in a stream are sent by each of these sessions at
+    once."""
     threads = [threading.Thread(target=session.ask, args=(stream,)) for session in sessions]
     start = time.perf_counter()
     for thread in threads:
@@ -76,7 +73,8 @@ def pipelined(sessions, stream, count):
 
 
 def followed(sessions, count):
-    """Microseconds of an edit until each of these sessions was told of it and of those before it."""
+    """Microseconds of an edit until each of these sessions was told of it and of those before
+    it."""
     for session in sessions:
         session.ask(ATTACH)
     start = time.perf_counter()
@@ -88,7 +86,7 @@ def followed(sessions, count):
 
 def figures(command):
     """The figures of one run of a server, by name: a number and its unit."""
-    server = Serve(command=command)
+    server = nvimd.Server(command=command)
     found = {}
     one = Asking(server.address)
     found["round trip of one session alone, us"] = one.round_trips(2_000)
@@ -98,10 +96,12 @@ def figures(command):
     found[f"memory with {SESSIONS} sessions, MB"] = server.memory()
     before = server.seconds()
     time.sleep(IDLE)
-    found[f"processor time of {SESSIONS} idle sessions, ms in 1 s"] = (server.seconds() - before) * 1e3 / IDLE
+    spent = (server.seconds() - before) * 1e3 / IDLE
+    found[f"processor time of {SESSIONS} idle sessions, ms in 1 s"] = spent
     found[f"round trip of one beside {SESSIONS - 1} idle ones, us"] = one.round_trips(2_000)
     found["a small request, pipelined by one, us"] = pipelined([one], COUNT * 20_000, 20_000)
-    found[f"a small request, pipelined by {BUSY}, us"] = pipelined(sessions[:BUSY], COUNT * 1_000, 1_000)
+    busy = pipelined(sessions[:BUSY], COUNT * 1_000, 1_000)
+    found[f"a small request, pipelined by {BUSY}, us"] = busy
     found[f"an edit that {BUSY} sessions follow, us"] = followed(sessions[:BUSY], 500)
     for session in sessions:
         session.socket.close()
@@ -110,19 +110,19 @@ def figures(command):
 
 
 def main():
-    limit(1_200)
-    program = sys.argv[1] if len(sys.argv) > 1 else PROGRAM
-    if not os.path.exists(program):
-        raise SystemExit("build it first: ./nvimd embed </dev/null")
-    print(f"load {os.getloadavg()[0]:.1f}" + (": the machine is busy" if os.getloadavg()[0] > 1 else ""))
+    Words(__doc__).parse_args()
+    command = [nvimd.program(), "serve", "--sessions", str(SESSIONS + 4), "--listen"]
+    tell_load()
     ours, theirs = [], []
     for _ in range(3):
         theirs.append(figures(NEOVIM))
-        ours.append(figures([program, "serve", "--sessions", str(SESSIONS + 4), "--listen"]))
+        ours.append(figures(command))
     print(f"    {'medians of three runs':52} {'Neovim':>9} {'nvimd':>9}")
     for name in theirs[0]:
-        print(f"    {name:52} {statistics.median(run[name] for run in theirs):9.1f} {statistics.median(run[name] for run in ours):9.1f}")
+        one, other = (statistics.median(run[name] for run in runs) for runs in (theirs, ours))
+        print(f"    {name:52} {one:9.1f} {other:9.1f}")
+    return 0
 
 
 if __name__ == "__main__":
-    main()
+    run(main, 1_200)

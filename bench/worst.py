@@ -1,22 +1,20 @@
 #!/usr/bin/python3
-"""Measures what one client can cost the others of a server: the processor time of a request, in which no other client is answered,
-and memory. Each row of its tables is some work at N, 2N, 4N and 8N, with the exponent by which its cost grows from 2N to 8N.
+"""Measures what one client can cost the others of a server: the processor time of a request, in
+which no other client is answered, and memory. Each row of its tables is some work at N, 2N, 4N and
+8N, with the exponent by which its cost grows from 2N to 8N.
 
-It ends with status 1, and a line for each such row, where an exponent is above 1.15 for work on all of N, or above 0.3 for work on
-one among N. Its tables, as Markdown, stand in docs/PROTOCOL.md. Times are the processor's, of all threads of the server; memory is
-what it holds above rest, at its peak or for good. What is small is measured several times, and the least counts. Each measurement
-has a server of its own, which may take 8 GB.
-
-Wants Debian's python3-msgpack.
+It ends with status 1, and a line for each such row, where an exponent is above 1.15 for work on all
+of N, or above 0.3 for work on one among N. Its tables, as Markdown, stand in docs/PROTOCOL.md.
+Times are the processor's, of all threads of the server; memory is what it holds above rest, at its
+peak or for good. What is small is measured several times, and the least counts. Each measurement
+has a server of its own, which may take 8 GB. Wants Debian's python3-msgpack.
 """
 
-import argparse
 import math
 import os
 import resource
 import socket
 import subprocess
-import sys
 import tempfile
 import threading
 import time
@@ -27,24 +25,25 @@ from typing import NamedTuple
 
 import msgpack
 
-HERE = os.path.dirname(os.path.abspath(__file__))
-sys.path[:0] = [HERE, os.path.join(os.path.dirname(HERE), "clients")]
 import books
-from hostile import Killed, sent
-from process import forget_peak, memory, runs, seconds
-from rpc import Serve, running
-from serve import ATTACH
-from server import socket_at
-from session import PROGRAM, Server
+import nvimd
+from nvimd.command import Words, run
+from nvimd.process import forget_peak, memory, runs, seconds
+from nvimd.session import socket_at
+from session import Server
+
 
 MOST_MEMORY = 8 << 30  # bytes of addresses for a server
 ALL, ONE = 1.15, 0.3  # the greatest exponents of work on all of N, and of work on one among N
 EACH = 1 + ALL  # of N calls that each work on all of N
 NEAR = 0.3  # an exponent that is above its limit by less is measured again
 LEAST = {"time": 20e-6, "memory": 10}  # a cost that is less at 8N has no exponent
-ROUNDS, LONG = 3, 0.2  # how often a measurement is made at most, and the seconds after which it isn't made again
-QUIET, LOOKS, PATIENCE = 0.5, 8, 600  # seconds that a server sleeps at rest, looks at it meanwhile, and how often that is tried
-MESSAGE, LINES, MARKS = 67_108_864, 16_777_216, 1_000_000  # bytes of a message, lines of a buffer and bytes of a line; marks
+ROUNDS = 3  # how often a measurement is made at most
+LONG = 0.2  # seconds after which it isn't made again
+QUIET, LOOKS = 0.5, 8  # seconds that a server sleeps at rest, and looks at it meanwhile
+PATIENCE = 600  # how often that is tried
+MESSAGE = 67_108_864  # bytes of a message
+LINES, MARKS = 16_777_216, 1_000_000  # lines of a buffer and bytes of a line; marks
 SCREEN = 2_000, 1_000  # the greatest
 WINDOW = 1_000  # the handle of the first window, from which the others count on
 
@@ -92,7 +91,7 @@ class Meter:
     """What a server costs from now on, above what it holds at rest."""
 
     def __init__(self, server):
-        self.pid = server.child.pid
+        self.pid = server.process.pid
         forget_peak(self.pid)
         self.rest, self.begun = memory(self.pid), seconds(self.pid)
 
@@ -152,7 +151,8 @@ def fresh(program, before, stream, told=Meter.peak):
 
 
 def again(server, stream):
-    """The cost of a request that can be made again and again: as many of them at once as take a while."""
+    """The cost of a request that can be made again and again: as many of them at once as take a
+    while."""
     first = asked(server, stream)
     count = 1 + min(1_000, int(LONG / ROUNDS / first.time))
 
@@ -171,12 +171,14 @@ def split(beside, way, enter):
 
 
 def chain(count):
-    """Opens windows up to so many, each split off the one before, below it and beside it in turn."""
+    """Opens windows up to so many, each split off the one before, below it and beside it in
+    turn."""
     return atomic([split(WINDOW + n, ("below", "right")[n % 2], True) for n in range(count - 1)])
 
 
 def balanced(count):
-    """Opens windows up to so many, by splits of all that are there, below them and beside them in turn."""
+    """Opens windows up to so many, by splits of all that are there, below them and beside them in
+    turn."""
     calls, there = [], 1
     while there < count:
         way = ("below", "right")[there.bit_length() % 2]
@@ -188,6 +190,7 @@ def balanced(count):
 UI = {"ext_linegrid": True}
 GREATEST = call("nvim_ui_attach", *SCREEN, UI) + call("nvim_ui_detach")
 EDIT = call("nvim_buf_set_lines", 0, 0, 0, True, ["a"])
+FOLLOW = call("nvim_buf_attach", 0, True, {})  # sent all lines first
 
 
 @row("chain-open", "{} windows opened in a chain of splits, calls in one", 998, EACH)
@@ -230,7 +233,11 @@ def tree_edit(program, count):
 
 @row("tabclose", "tabclose of a tabpage of {} windows in a chain", 960, goal=0.02)
 def tabclose(program, count):
-    before = [GREATEST, chain(count), call("nvim_command", "tabnew") + call("nvim_set_current_tabpage", 1)]
+    before = [
+        GREATEST,
+        chain(count),
+        call("nvim_command", "tabnew") + call("nvim_set_current_tabpage", 1),
+    ]
     return fresh(program, before, call("nvim_command", "tabclose"))
 
 
@@ -244,12 +251,14 @@ def made(count):
 
 @row("names", "a name for each of {} buffers", 16_000, goal=0.2)
 def names(program, count):
-    return fresh(program, [made(count)], b"".join(call("nvim_buf_set_name", 2 + n, f"name {n}") for n in range(count)))
+    calls = [call("nvim_buf_set_name", 2 + n, f"name {n}") for n in range(count)]
+    return fresh(program, [made(count)], b"".join(calls))
 
 
 @row("deletes", "each of {} buffers deleted", 32_000, goal=0.2)
 def deletes(program, count):
-    return fresh(program, [made(count)], b"".join(call("nvim_buf_delete", 2 + n, {}) for n in range(count)))
+    calls = [call("nvim_buf_delete", 2 + n, {}) for n in range(count)]
+    return fresh(program, [made(count)], b"".join(calls))
 
 
 # ---- Marks
@@ -317,7 +326,8 @@ def overlap_calls(program, count):
 
 
 def checked(program, stream, others=(), apart=False):
-    """The cost of `replay --check` of what a session asks for, beside others: ahead, or one request after another."""
+    """The cost of `replay --check` of what a session asks for, beside others: ahead, or one request
+    after another."""
     with tempfile.TemporaryDirectory() as folder:
         path = os.path.join(folder, "book")
         books.recorded(program, path, stream, others, apart)
@@ -332,7 +342,7 @@ def check_marks(program, count):
 
 @row("check-edits", "replay --check of {} lines put in one by one, each followed", 16_000)
 def check_edits(program, count):
-    return checked(program, [EDIT] * count, [ATTACH], apart=True)
+    return checked(program, [EDIT] * count, [FOLLOW], apart=True)
 
 
 # ---- The greatest that the limits let through
@@ -384,12 +394,14 @@ def line(program, count):
 
 @row("marks", "{} marks set by calls in one", MARKS)
 def marks(program, count):
-    return fresh(program, [SPACES], atomic([["nvim_buf_set_extmark", [0, 1, 0, 0, {"hl_group": "NonText"}]]] * count))
+    one = ["nvim_buf_set_extmark", [0, 1, 0, 0, {"hl_group": "NonText"}]]
+    return fresh(program, [SPACES], atomic([one] * count))
 
 
 @row("marks-got", "{} marks listed with details", MARKS)
 def marks_got(program, count):
-    return fresh(program, [marked(count)], call("nvim_buf_get_extmarks", 0, 1, 0, -1, {"details": True}))
+    listing = call("nvim_buf_get_extmarks", 0, 1, 0, -1, {"details": True})
+    return fresh(program, [marked(count)], listing)
 
 
 # ---- Memory
@@ -400,7 +412,9 @@ def screen(program, count):
     return fresh(program, [], call("nvim_ui_attach", count, SCREEN[1], UI))
 
 
-@row("line-edits", "what stays of 100 edits of a byte in a line of {}", LINES - 1, ONE, "memory", 40)
+@row(
+    "line-edits", "what stays of 100 edits of a byte in a line of {}", LINES - 1, ONE, "memory", 40
+)
 def line_edits(program, count):
     places = [n * 7_919 % count for n in range(101)]
     edits = [call("nvim_buf_set_text", 0, 0, place, 0, place + 1, ["y"]) for place in places]
@@ -410,22 +424,25 @@ def line_edits(program, count):
 @row("refused", "what stays of a refused call, {} bytes of lists 60 deep", 4_000_000, ALL, "memory")
 def refused(program, count):
     deep = b"\x91" * 57 + b"\x90"
-    return fresh(program, [], b"\x94\x00\x01\xa9nvim_nope\x91" + array(count // len(deep), deep), Meter.kept)
+    values = array(count // len(deep), deep)
+    return fresh(program, [], b"\x94\x00\x01\xa9nvim_nope\x91" + values, Meter.kept)
 
 
 class Served:
-    """`nvimd serve` with a text of a megabyte, and what it costs from then on; its clients don't read."""
+    """`nvimd serve` with a text of a megabyte, and what it costs from then on; its clients don't
+    read."""
 
     def __init__(self, program, *words):
-        self.server = Serve(*words, command=[program, "serve", "--listen"])
-        self.pid = self.server.child.pid
-        with closing(self.server.client()) as client:
-            client.call("nvim_buf_set_lines", 0, 0, -1, True, ["x" * 9_999] * 100)
+        self.server = nvimd.Server(*words, command=[program, "serve", "--listen"])
+        self.pid = self.server.process.pid
+        with self.server.connect() as client:
+            client.api.buf_set_lines(0, 0, -1, True, ["x" * 9_999] * 100)
         self.at_rest(0)
         self.meter = Meter(self.server)
 
     def at_rest(self, begun):
-        """Waits until it has done something since these seconds of its processor, and then sleeps nearly all the time."""
+        """Waits until it has done something since these seconds of its processor, and then sleeps
+        nearly all the time."""
         for _ in range(PATIENCE):
             done, asleep = seconds(self.pid), 0
             for _ in range(LOOKS):
@@ -433,10 +450,10 @@ class Served:
                 asleep += not runs(self.pid)
             if begun < done and seconds(self.pid) - done < QUIET / 100 and asleep > LOOKS / 2:
                 return
-        raise SystemExit("a server doesn't come to rest")
+        raise nvimd.Error("a server doesn't come to rest")
 
     def asks(self, stream):
-        """A client sends a stream, as far as the server takes it; what makes it go, and what was made for it."""
+        """A client sends a stream, as far as the server takes it; what makes it go."""
         begun = seconds(self.pid)
         client = socket_at(self.server.address)
         writer = threading.Thread(target=sent, args=(client, stream), daemon=True)
@@ -453,10 +470,7 @@ class Served:
         return leave
 
     def close(self):
-        self.server.child.kill()
-        self.server.child.wait()
-        running.remove(self.server.child)
-        self.server.folder.cleanup()
+        self.server.kill()
 
 
 def unread(program, stream):
@@ -477,6 +491,24 @@ def unread_replies(program, count):
 def unread_calls(program, count):
     one = msgpack.unpackb(GET)[2:]
     return unread(program, atomic([one] * max(1, count // len(msgpack.packb(one)))))
+
+
+def sent(connection, data):
+    """Sends what the server takes."""
+    try:
+        connection.sendall(data)
+    except (BrokenPipeError, ConnectionResetError):
+        pass
+
+
+# a client that asks again and again for what it is given, until it is killed
+ENDLESS = (
+    "import socket, sys\n"
+    "connection = socket.socket(socket.AF_UNIX)\n"
+    "connection.connect(sys.argv[1])\n"
+    "data = sys.stdin.buffer.read()\n"
+    "while True: connection.sendall(data)\n"
+)
 
 
 def left(program, count, stream, *words):
@@ -502,7 +534,7 @@ def killed(program, count):
     with closing(Served(program, "--outbox", "128")) as served:
         for _ in range(count):
             begun = seconds(served.pid)
-            words = ["/usr/bin/python3", "-c", Killed.PROGRAM, served.server.address]
+            words = ["/usr/bin/python3", "-c", ENDLESS, served.server.address]
             with subprocess.Popen(words, stdin=subprocess.PIPE, stderr=subprocess.DEVNULL) as child:
                 child.stdin.write(GET)
                 child.stdin.close()
@@ -542,7 +574,8 @@ class Measured:
         self.costs = [row.measure(program, size) for size in self.sizes]
         for _ in range(2):
             if 0 < self.power() - row.limit < NEAR:
-                self.costs = [least([cost, row.measure(program, size)]) for cost, size in zip(self.costs, self.sizes)]
+                pairs = zip(self.costs, self.sizes)
+                self.costs = [least([cost, row.measure(program, size)]) for cost, size in pairs]
 
     def judged(self):
         return [getattr(cost, self.row.judged) for cost in self.costs]
@@ -551,7 +584,9 @@ class Measured:
         """The exponent from 2N to 8N; 0 of what costs next to nothing."""
         _, low, _, high = self.judged()
         none = LEAST[self.row.judged]
-        return math.log(high / max(low, none / 10), self.sizes[3] / self.sizes[1]) if high > none else 0
+        if high <= none:
+            return 0
+        return math.log(high / max(low, none / 10), self.sizes[3] / self.sizes[1])
 
     def grows(self):
         return f"N^{self.power():.1f}" if self.power() > 0.05 else "-"
@@ -565,7 +600,8 @@ class Measured:
         if self.is_above():
             yield f"{row.word}: grows as N^{self.power():.2f}, and not by at most {row.limit}"
         if goals and row.goal and most > row.goal and self.sizes[3] == row.most:
-            yield f"{row.word}: costs {TOLD[row.judged](most)}, and not at most {TOLD[row.judged](row.goal)}"
+            cost, goal = (TOLD[row.judged](part) for part in (most, row.goal))
+            yield f"{row.word}: costs {cost}, and not at most {goal}"
 
     def line(self):
         """The part of the costs that is judged, at all sizes."""
@@ -573,11 +609,14 @@ class Measured:
         return f"    {self.row.word:14} {self.sizes[0]:>10,} {told} {self.grows():>6}"
 
     def markdown(self):
-        """The whole cost, at the greatest size; how it grows is bold where that is above its limit."""
+        """The whole cost, at the greatest size; how it grows is bold where that is above its
+        limit."""
         row, most = self.row, self.costs[3]
         grows = f"**{self.grows()}**" if self.is_above() else self.grows()
         goal = TOLD[row.judged](row.goal) if row.goal else ""
-        return f"| {row.told.format(f'{self.sizes[3]:,}')} | {told_time(most.time)} | {told_memory(most.memory)} | {grows} | {goal} |"
+        told = row.told.format(f"{self.sizes[3]:,}")
+        cost = f"{told_time(most.time)} | {told_memory(most.memory)}"
+        return f"| {told} | {cost} | {grows} | {goal} |"
 
 
 def table(title, measured):
@@ -589,26 +628,24 @@ def table(title, measured):
 def words():
     """The words of the command line."""
     told = "".join(f"\n  {row.word:14} {row.told.format(f'{row.most:,}')}" for row in ROWS)
-    parser = argparse.ArgumentParser(
-        description=__doc__, epilog=f"rows, at 8N:{told}", formatter_class=argparse.RawDescriptionHelpFormatter
-    )
-    parser.add_argument("--only", nargs="+", metavar="ROW", choices=[row.word for row in ROWS], help="these rows alone")
-    parser.add_argument("--part", type=int, default=1, metavar="N", help="divides each size, for small runs")
-    parser.add_argument("--goals", action="store_true", help="fail also where a row costs more than is wanted")
-    parser.add_argument("--program", default=PROGRAM, metavar="FILE", help="the program; that of the launcher without it")
-    return parser.parse_args()
+    found = Words(__doc__, epilog=f"rows, at 8N:{told}")
+    rows = [row.word for row in ROWS]
+    found.add_argument("--only", nargs="+", metavar="ROW", choices=rows, help="these rows alone")
+    found.add_argument("--part", type=int, default=1, metavar="N", help="divides each size")
+    told = "fail also where a row costs more than is wanted"
+    found.add_argument("--goals", action="store_true", help=told)
+    return found.parse_args()
 
 
 def main():
     asked_for = words()
-    if not os.path.exists(asked_for.program):
-        raise SystemExit("build it first: ./nvimd embed </dev/null")
+    program = nvimd.program()
     resource.setrlimit(resource.RLIMIT_AS, (MOST_MEMORY, resource.RLIM_INFINITY))
     print(f"    {'':14} {'N':>10} {'at N':>9} {'2N':>9} {'4N':>9} {'8N':>9} {'grows':>6}")
     measured = []
     for row in ROWS:
         if not asked_for.only or row.word in asked_for.only:
-            measured.append(Measured(row, asked_for.program, asked_for.part))
+            measured.append(Measured(row, program, asked_for.part))
             print(measured[-1].line(), flush=True)
     table("Work of one client", [one for one in measured if one.row.judged == "time"])
     table("Memory of one client", [one for one in measured if one.row.judged == "memory"])
@@ -618,4 +655,4 @@ def main():
 
 
 if __name__ == "__main__":
-    sys.exit(main())
+    run(main)

@@ -1,37 +1,22 @@
 #!/usr/bin/python3
-"""Goes through pynvim: buffers, undo, options, faults, extmarks, highlight groups, windows, tabpages, events of buffers and
-the screen of a UI, with what each must answer; over `nvimd embed` as a child process, by pynvim's own `attach`, or over a
-socket, where two sessions then work on one text at once.
-
-Usage: clients/attach.py                   over a child: the launcher `nvimd` at the top of the repository
-       clients/attach.py --serve           over a socket, of `nvimd serve`, which it starts and ends
-       clients/attach.py --socket PATH     over the socket of a server on which nothing was done yet
-Wants Debian's python3-pynvim.
+"""Goes through pynvim: buffers, undo, options, faults, extmarks, highlight groups, windows,
+tabpages, events of buffers and the screen of a UI, with what each must answer; over `nvimd embed`
+as a child process, by pynvim's own `attach`, or over a socket, where two sessions then work on one
+text at once. Wants Debian's python3-pynvim.
 """
 
-import os
-import sys
 import threading
 
 import pynvim
 
-from follow import Copy
-from grid import Grid
-from rpc import Serve, limit
+import nvimd
+from check import Check, Words, run
+from nvimd.screen import OPTIONS
 
-TOP = os.path.dirname(os.path.dirname(os.path.abspath(__file__)))
+
 MOST_SECONDS = 120
-OPTIONS = {"rgb": True, "ext_linegrid": True}
-wrong = []
-passed = 0
-
-
-def same(what, got, wanted):
-    global passed
-    if got == wanted:
-        passed += 1
-    else:
-        wrong.append(f"{what}: got {got!r}, and not {wanted!r}")
+check = Check()
+same = check.same
 
 
 def refused(what, call, message):
@@ -69,7 +54,12 @@ def buffers(nvim):
 def undo(nvim):
     buffer = nvim.current.buffer
     before = buffer[:]
-    nvim.api.call_atomic([["nvim_buf_set_lines", [0, 0, 0, True, ["a"]]], ["nvim_buf_set_lines", [0, 0, 0, True, ["b"]]]])
+    nvim.api.call_atomic(
+        [
+            ["nvim_buf_set_lines", [0, 0, 0, True, ["a"]]],
+            ["nvim_buf_set_lines", [0, 0, 0, True, ["b"]]],
+        ]
+    )
     same("two calls in one", buffer[:2], ["b", "a"])
     nvim.command("undo")
     same("undone as one change", buffer[:], before)
@@ -86,21 +76,37 @@ def options(nvim):
     nvim.api.set_option_value("tabstop", 4, {})
     same("tabstop put", nvim.api.get_option_value("tabstop", {}), 4)
     nvim.api.set_option_value("modifiable", False, {})
-    refused("not modifiable", lambda: nvim.api.buf_set_lines(0, 0, 1, True, ["q"]), "Buffer is not 'modifiable'")
+    refused(
+        "not modifiable",
+        lambda: nvim.api.buf_set_lines(0, 0, 1, True, ["q"]),
+        "Buffer is not 'modifiable'",
+    )
     nvim.api.set_option_value("modifiable", True, {})
-    refused("tabstop 0", lambda: nvim.api.set_option_value("tabstop", 0, {}), "Invalid value for key: tabstop")
+    refused(
+        "tabstop 0",
+        lambda: nvim.api.set_option_value("tabstop", 0, {}),
+        "Invalid value for key: tabstop",
+    )
 
 
 def faults(nvim):
     refused("no method", lambda: nvim.request("nvim_nope"), "Invalid method: nvim_nope")
-    refused("count", lambda: nvim.request("nvim_buf_line_count"), "Wrong number of arguments: expecting 1 but got 0")
+    refused(
+        "count",
+        lambda: nvim.request("nvim_buf_line_count"),
+        "Wrong number of arguments: expecting 1 but got 0",
+    )
     refused(
         "type",
         lambda: nvim.request("nvim_buf_line_count", "x"),
         "Wrong type for argument 1 when calling nvim_buf_line_count, expecting Buffer",
     )
     refused("no buffer", lambda: nvim.request("nvim_buf_line_count", 7), "Invalid buffer id: 7")
-    refused("newline", lambda: nvim.api.buf_set_lines(0, 0, 1, True, ["a\nb"]), "String cannot contain newlines")
+    refused(
+        "newline",
+        lambda: nvim.api.buf_set_lines(0, 0, 1, True, ["a\nb"]),
+        "String cannot contain newlines",
+    )
 
 
 def marks(nvim):
@@ -117,16 +123,33 @@ def marks(nvim):
     buffer.api.set_text(0, 3, 0, 3, ["XY"])
     same("moved by text", buffer.api.get_extmarks(first, 0, -1, {}), [[1, 0, 3], [2, 0, 5]])
     same("in reverse", buffer.api.get_extmarks(first, -1, 0, {"limit": 1}), [[2, 0, 5]])
-    listings = [["nvim_buf_get_extmarks", [0, first, 0, -1, {}]], ["nvim_buf_get_extmarks", [0, first, [1, 0], -1, {}]]]
-    same("listed by calls in one", nvim.api.call_atomic(listings), [[[[1, 0, 3], [2, 0, 5]], []], None])
+    listings = [
+        ["nvim_buf_get_extmarks", [0, first, 0, -1, {}]],
+        ["nvim_buf_get_extmarks", [0, first, [1, 0], -1, {}]],
+    ]
+    same(
+        "listed by calls in one",
+        nvim.api.call_atomic(listings),
+        [[[[1, 0, 3], [2, 0, 5]], []], None],
+    )
     same("by id", buffer.api.get_extmark_by_id(first, 2, {}), [0, 5])
     same("by another id", buffer.api.get_extmark_by_id(first, 9, {}), [])
     same("coloured", buffer.api.set_extmark(second, 1, 0, {"end_col": 2, "hl_group": "NonText"}), 1)
     details = {
-        "ns_id": second, "right_gravity": True, "priority": 4096, "end_row": 1, "end_col": 2, "end_right_gravity": False,
-        "hl_group": "NonText", "hl_eol": False,
+        "ns_id": second,
+        "right_gravity": True,
+        "priority": 4096,
+        "end_row": 1,
+        "end_col": 2,
+        "end_right_gravity": False,
+        "hl_group": "NonText",
+        "hl_eol": False,
     }
-    same("overlap", buffer.api.get_extmarks(second, [1, 1], -1, {"overlap": True, "details": True}), [[1, 1, 0, details]])
+    same(
+        "overlap",
+        buffer.api.get_extmarks(second, [1, 1], -1, {"overlap": True, "details": True}),
+        [[1, 1, 0, details]],
+    )
     nvim.command("undo")
     same("moved back by undo", buffer.api.get_extmarks(first, 0, -1, {}), [[1, 0, 3], [2, 0, 3]])
     same("removed", buffer.api.del_extmark(first, 1), True)
@@ -148,7 +171,9 @@ def groups(nvim):
     nvim.api.set_hl(0, "Mine", {"fg": 1, "default": True})
     same("it stays", nvim.api.get_hl(0, {"name": "Mine"}), {"fg": 0x0A00FF, "bold": True})
     same("its id", nvim.api.get_hl_id_by_name("Mine"), 8)
-    refused("a colour", lambda: nvim.api.set_hl(0, "Mine", {"fg": "red"}), "Invalid value for key: fg")
+    refused(
+        "a colour", lambda: nvim.api.set_hl(0, "Mine", {"fg": "red"}), "Invalid value for key: fg"
+    )
     refused("namespace 1", lambda: nvim.api.set_hl(1, "Mine", {}), "Index out of bounds")
 
 
@@ -164,7 +189,9 @@ def windows(nvim):
     nvim.current.buffer[:] = ["ab", "cd"]
     second.cursor = (2, 1)
     same("cursor", second.cursor, [2, 1])
-    refused("cursor outside", lambda: nvim.api.win_set_cursor(second, [9, 0]), "Index out of bounds")
+    refused(
+        "cursor outside", lambda: nvim.api.win_set_cursor(second, [9, 0]), "Index out of bounds"
+    )
     nvim.command("tabnew")
     same("tabpages", len(nvim.tabpages), 2)
     same("tabpage's number", nvim.current.tabpage.number, 2)
@@ -192,7 +219,11 @@ def tabpages(nvim):
     nvim.command("tabclose")
     same("valid tabpages", (first.valid, second.valid), (True, False))
     refused("last tabpage", lambda: nvim.command("tabclose"), "Cannot close the last one")
-    refused("a tabpage's windows", lambda: nvim.api.tabpage_list_wins(second), f"Invalid tabpage id: {second.handle}")
+    refused(
+        "a tabpage's windows",
+        lambda: nvim.api.tabpage_list_wins(second),
+        f"Invalid tabpage id: {second.handle}",
+    )
 
 
 def splits(nvim):
@@ -204,10 +235,18 @@ def splits(nvim):
     other = nvim.api.create_buf(True, False)
     left = nvim.api.open_win(other, False, {"split": "left", "win": below, "width": 10})
     same("no window was entered", nvim.current.window.handle, first.handle)
-    same("windows in order", [w.handle for w in nvim.windows], [first.handle, left.handle, below.handle])
+    same(
+        "windows in order",
+        [w.handle for w in nvim.windows],
+        [first.handle, left.handle, below.handle],
+    )
     same("sizes", [(w.width, w.height) for w in nvim.windows], [(80, 11), (10, 10), (69, 10)])
     same("places", [(w.row, w.col) for w in nvim.windows], [(0, 0), (12, 0), (12, 11)])
-    same("buffers shown", [w.buffer.number for w in nvim.windows], [buffer.number, other.number, buffer.number])
+    same(
+        "buffers shown",
+        [w.buffer.number for w in nvim.windows],
+        [buffer.number, other.number, buffer.number],
+    )
     first.cursor, below.cursor = (2, 1), (3, 4)
     buffer.append("new", 0)
     same("cursors move with the text", (first.cursor, below.cursor), ([3, 1], [4, 4]))
@@ -218,8 +257,16 @@ def splits(nvim):
     nvim.api.buf_delete(other, {})
     for window in (left, below):
         nvim.api.win_close(window, False)
-    same("one window", [(w.handle, w.width, w.height) for w in nvim.windows], [(first.handle, 80, 22)])
-    refused("a wrong side", lambda: nvim.api.open_win(buffer, True, {"split": "up"}), "Invalid value for key: split")
+    same(
+        "one window",
+        [(w.handle, w.width, w.height) for w in nvim.windows],
+        [(first.handle, 80, 22)],
+    )
+    refused(
+        "a wrong side",
+        lambda: nvim.api.open_win(buffer, True, {"split": "up"}),
+        "Invalid value for key: split",
+    )
 
 
 def told(nvim, count):
@@ -228,7 +275,9 @@ def told(nvim, count):
     for _ in range(count):
         kind, name, arguments = nvim.next_message()
         same("kind of message", kind, "notification")
-        found.append([name, *(a.number if isinstance(a, pynvim.api.Buffer) else a for a in arguments)])
+        found.append(
+            [name, *(a.number if isinstance(a, pynvim.api.Buffer) else a for a in arguments)]
+        )
     return found
 
 
@@ -244,8 +293,10 @@ def events(nvim):
     same("detached", buffer.api.detach(), True)
     lines = "nvim_buf_lines_event"
     wanted = [
-        [lines, number, tick, 0, -1, ["a", "b"], False], [lines, number, tick + 1, 2, 2, ["c"], False],
-        [lines, number, tick + 2, 0, 1, ["x", "y"], False], [lines, number, tick + 3, 0, 2, ["a"], False],
+        [lines, number, tick, 0, -1, ["a", "b"], False],
+        [lines, number, tick + 1, 2, 2, ["c"], False],
+        [lines, number, tick + 2, 0, 1, ["x", "y"], False],
+        [lines, number, tick + 3, 0, 2, ["a"], False],
         ["nvim_buf_detach_event", number],
     ]
     same("events", told(nvim, 5), wanted)
@@ -254,17 +305,25 @@ def events(nvim):
     buffer.api.detach()
     same("its last event", told(nvim, 1), [["nvim_buf_detach_event", number]])
     nvim.request("nvim_nope", async_=True)
-    same("behind a notification that fails", told(nvim, 1), [["nvim_error_event", 0, "Invalid method: nvim_nope"]])
+    same(
+        "behind a notification that fails",
+        told(nvim, 1),
+        [["nvim_error_event", 0, "Invalid method: nvim_nope"]],
+    )
 
 
 def screen(nvim):
     """A UI: its screen after some calls, and that it goes and comes."""
-    grid = Grid()
+    grid = nvimd.Screen()
     buffer = nvim.current.buffer
     buffer[:] = ["first", "second"]
     nvim.ui_attach(20, 6, **OPTIONS)
     grid.take(drawn(nvim))
-    same("UIs", [(ui["width"], ui["height"], ui["rgb"]) for ui in nvim.api.list_uis()], [(20, 6, True)])
+    same(
+        "UIs",
+        [(ui["width"], ui["height"], ui["rgb"]) for ui in nvim.api.list_uis()],
+        [(20, 6, True)],
+    )
     same("screen", rows(grid), ["first", "second", "~", "~", "[No Name] [+]", ""])
     buffer[0] = "other"
     grid.take(drawn(nvim))
@@ -293,7 +352,7 @@ def drawn(nvim):
 
 
 def rows(grid):
-    return ["".join(text for text, _ in row).rstrip() for row in grid.shown()]
+    return [row.rstrip() for row in grid.rows]
 
 
 PARTS = [buffers, undo, options, faults, marks, groups, windows, tabpages, splits, events, screen]
@@ -308,11 +367,12 @@ def edits(path, word, count):
 
 
 def together(path, first, second):
-    """Two sessions on one text: one edits and the other follows; then both edit at once, and a copy is the text."""
+    """Two sessions on one text: one edits and the other follows; then both edit at once, and a copy
+    is the text."""
     same("two sessions", len({first.channel_id, second.channel_id}), 2)
     buffer = first.buffers[1]
     buffer[:] = ["zero"]
-    copy = Copy()
+    copy = nvimd.Follower()
     second.buffers[1].api.attach(True, {})
     editors = [threading.Thread(target=edits, args=(path, word, 200)) for word in ("one", "two")]
     for editor in editors:
@@ -328,15 +388,23 @@ def together(path, first, second):
         copy.take(name, *arguments)
     same("a copy", copy.lines, lines)
     for word in ("one", "two", "own"):
-        same(f"lines of {word}", [l for l in lines if l.startswith(word)], [f"{word} {n}" for n in range(200)])
+        same(
+            f"lines of {word}",
+            [l for l in lines if l.startswith(word)],
+            [f"{word} {n}" for n in range(200)],
+        )
     second.ui_attach(30, 10, **OPTIONS)
     first.ui_attach(40, 8, **OPTIONS)
-    same("the screen of two UIs", (second.current.window.width, second.current.window.height), (30, 6))
+    same(
+        "the screen of two UIs",
+        (second.current.window.width, second.current.window.height),
+        (30, 6),
+    )
     same("UIs of two sessions", len(second.api.list_uis()), 2)
     first.ui_detach()
     second.buffers[1].api.detach()
     second.buffers[1][:] = ["last"]
-    grid = Grid()
+    grid = nvimd.Screen()
     while (grid.height, grid.flushed and rows(grid)[0]) != (10, "last"):
         kind, name, batch = second.next_message()
         if name == "redraw":
@@ -353,7 +421,7 @@ def over_socket(path):
 
 
 def over_child():
-    nvim = pynvim.attach("child", argv=[os.path.join(TOP, "nvimd"), "embed"])
+    nvim = pynvim.attach("child", argv=[nvimd.program(), "embed"])
     same("channel", nvim.channel_id, 1)
     for part in PARTS:
         part(nvim)
@@ -361,20 +429,24 @@ def over_child():
 
 
 def main():
-    limit(MOST_SECONDS)
-    if sys.argv[1:2] == ["--socket"]:
-        over_socket(sys.argv[2])
-    elif sys.argv[1:] == ["--serve"]:
-        server = Serve()
+    words = Words(__doc__)
+    words.add_argument(
+        "--serve", action="store_true", help="over a socket of a server that it starts"
+    )
+    words.add_argument(
+        "--socket", metavar="PATH", help="over that of a server that did nothing yet"
+    )
+    asked = words.parse_args()
+    if asked.socket:
+        over_socket(asked.socket)
+    elif asked.serve:
+        server = nvimd.Server()
         over_socket(server.address)
         same("status", server.quit(), 0)
     else:
         over_child()
-    for line in wrong:
-        print(line, file=sys.stderr)
-    print(f"{passed} passed, {len(wrong)} failed")
-    return 1 if wrong else 0
+    return check.end()
 
 
 if __name__ == "__main__":
-    sys.exit(main())
+    run(main, MOST_SECONDS)

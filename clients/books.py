@@ -1,13 +1,14 @@
 #!/usr/bin/python3
-"""Books of `nvimd` beside a reader of their own (clients/book.py): those that `generate` and `serve --book` write.
+"""Books of `nvimd` beside a reader of their own (python/nvimd/book.py): those that `generate` and
+`serve --book` write.
 
-Each is spelled as it must be, `replay --check` finds it right and counts its entries, and `replay` gives each session what it was
-sent. What `generate` has its sessions ask is what the rules give (clients/script.py). A session isn't heard while half an outbox
-waits for it, and ends where its outbox runs over. Values in their longest spellings are read as well. What is no book is refused
-with the place of the value that is wrong, a changed output is found, and so is what can't be read or written: each by its status
-and its line, and nothing else is written.
+Each is spelled as it must be, `replay --check` finds it right and counts its entries, and `replay`
+gives each session what it was sent. What `generate` has its sessions ask is what the rules give
+(clients/script.py). A session isn't heard while half an outbox waits for it, and ends where its
+outbox runs over. Values in their longest spellings are read as well. What is no book is refused
+with the place of the value that is wrong, a changed output is found, and so is what can't be read
+or written: each by its status and its line, and nothing else is written.
 
-Usage: clients/books.py       from anywhere; it starts the launcher `nvimd`
 Wants Debian's python3-msgpack.
 """
 
@@ -15,16 +16,16 @@ import bisect
 import hashlib
 import os
 import subprocess
-import sys
 import tempfile
 
 import msgpack
 
-from book import PIECE, Values, held, held_by_sessions, spelled
-from rpc import LONG, Serve, finished, limit
-from scenes import Count
+import nvimd
+from check import LONG, Check, Words, finished, run
+from held import held, held_by_sessions, spelled
+from nvimd.book import PIECE, Values
 from script import script
-from server import Ended
+
 
 MOST_SECONDS = 300
 MOST_BYTES = 67_109_120  # of a value of a book
@@ -35,14 +36,30 @@ GENERATED = {
 }
 SUMMARY = "entries 6871 sessions 3 takes 4862 bytes 728618 ok\n"  # of the book of 7
 
-# of a number, how many requests of its script there are of each of these methods, how many others, and the sum of the letters put
-METHODS = ["nvim_buf_set_lines", "nvim_buf_set_extmark", "nvim_command", "nvim_win_set_cursor", "nvim_buf_get_lines"]
-SUMS = {7: [987, 400, 221, 199, 193, 3, 1_481_881], (1 << 64) - 1: [990, 419, 213, 186, 192, 3, 1_523_997]}
+# of a number, how many requests of its script there are of each of these methods, how many others,
+# and the sum of the letters put
+METHODS = [
+    "nvim_buf_set_lines",
+    "nvim_buf_set_extmark",
+    "nvim_command",
+    "nvim_win_set_cursor",
+    "nvim_buf_get_lines",
+]
+SUMS = {
+    7: [987, 400, 221, 199, 193, 3, 1_481_881],
+    (1 << 64) - 1: [990, 419, 213, 186, 192, 3, 1_523_997],
+}
 
 OUTBOX = 16  # the least
 NAME = "nvim_buf_line_count"
 SMALL = [
-    ["nvimd-book", 1, 4096], ["o", 0], ["r", 0, 1, 1, NAME, [0]], ["t", 0, 1, 1], b"\x94\x01\x01\xc0\x01", ["c", 0, 1], ["end", 4],
+    ["nvimd-book", 1, 4096],
+    ["o", 0],
+    ["r", 0, 1, 1, NAME, [0]],
+    ["t", 0, 1, 1],
+    b"\x94\x01\x01\xc0\x01",
+    ["c", 0, 1],
+    ["end", 4],
 ]
 DEEP = [0]
 for _ in range(63):
@@ -50,25 +67,64 @@ for _ in range(63):
 # what is wrong in place of each value of the small book
 WRONG = {
     0: [
-        ["nvimd-cook", 1, 4096], ["nvimd-book", 0, 4096], ["nvimd-book", 1, 15], ["nvimd-book", 1, 1_048_577], ["nvimd-book", 1],
-        "nvimd-book", [],
+        ["nvimd-cook", 1, 4096],
+        ["nvimd-book", 0, 4096],
+        ["nvimd-book", 1, 15],
+        ["nvimd-book", 1, 1_048_577],
+        ["nvimd-book", 1],
+        "nvimd-book",
+        [],
     ],
-    1: [["o", -1], ["o", 1 << 32], ["o"], ["o", 0, 0], ["x", 0], [b"o", 0], [], 0, None, {"o": 0}, ["c", 0, 1], ["end", 4]],
+    1: [
+        ["o", -1],
+        ["o", 1 << 32],
+        ["o"],
+        ["o", 0, 0],
+        ["x", 0],
+        [b"o", 0],
+        [],
+        0,
+        None,
+        {"o": 0},
+        ["c", 0, 1],
+        ["end", 4],
+    ],
     2: [
-        ["r", 0, 2, 1, NAME, [0]], ["r", 0, 0, 1, NAME, [0]], ["r", 0, 1, 1 << 32, NAME, [0]], ["r", 0, 1, -1, NAME, [0]],
-        ["r", 0, 1, 1, NAME.encode(), [0]], ["r", 0, 1, 1, NAME, {}], ["r", 0, 1, 1, NAME, DEEP], ["t", 0, 1, 0],
+        ["r", 0, 2, 1, NAME, [0]],
+        ["r", 0, 0, 1, NAME, [0]],
+        ["r", 0, 1, 1 << 32, NAME, [0]],
+        ["r", 0, 1, -1, NAME, [0]],
+        ["r", 0, 1, 1, NAME.encode(), [0]],
+        ["r", 0, 1, 1, NAME, {}],
+        ["r", 0, 1, 1, NAME, DEEP],
+        ["t", 0, 1, 0],
     ],
     3: [["t", 0, 2, 1], ["t", 0, 1, -1], ["t", 0, 1], b"\x94\x01\x01\xc0\x01"],
     4: [b"", "text", 5, ["t", 0, 1, 1], b"x" * (PIECE + 1)],
     5: [["c", 0, 2], ["c", 0], ["t", 0, 1, 0], ["end", 4]],
-    6: [["end", 3], ["end", 5], ["end", -1], ["end"], ["fin", 4], ["c", 0, 1], ["r", 0, 1, 2, NAME, [0]]],
+    6: [
+        ["end", 3],
+        ["end", 5],
+        ["end", -1],
+        ["end"],
+        ["fin", 4],
+        ["c", 0, 1],
+        ["r", 0, 1, 2, NAME, [0]],
+    ],
 }
 # the small book with a number of pieces that its one piece isn't
 MISCOUNTED = [["t", 0, 1, 0], ["t", 0, 1, 2]]
 BAD_WORDS = [
-    ["replay"], ["replay", "--check"], ["replay", "one", "two"], ["replay", "one", "--book", "two"],
+    ["replay"],
+    ["replay", "--check"],
+    ["replay", "one", "two"],
+    ["replay", "one", "--book", "two"],
     ["serve", "--listen", "/x", "--book"],
-    ["generate"], ["generate", "-1"], ["generate", str(1 << 64)], ["generate", "seven"], ["generate", "7", "8"],
+    ["generate"],
+    ["generate", "-1"],
+    ["generate", str(1 << 64)],
+    ["generate", "seven"],
+    ["generate", "7", "8"],
 ]
 
 
@@ -76,7 +132,8 @@ def sums(entries):
     """The sums of the requests among the entries of a script."""
     asked = [told[4:] for told in entries if told[0] == "r"]
     counts = [sum(name == method for name, _ in asked) for method in METHODS]
-    letters = sum(sum(line.encode()) for name, params in asked if name == METHODS[0] for line in params[4])
+    put = [line for name, params in asked if name == METHODS[0] for line in params[4]]
+    letters = sum(sum(line.encode()) for line in put)
     return [*counts, len(asked) - sum(counts), letters]
 
 
@@ -99,7 +156,9 @@ def longest(value):
     if isinstance(value, bool) or value is None:
         return msgpack.packb(value)
     if isinstance(value, int):
-        return b"\xcf" + value.to_bytes(8, "big") if value >= 1 << 63 else b"\xd3" + value.to_bytes(8, "big", signed=True)
+        if value >= 1 << 63:
+            return b"\xcf" + value.to_bytes(8, "big")
+        return b"\xd3" + value.to_bytes(8, "big", signed=True)
     head = {str: b"\xdb", bytes: b"\xc6", list: b"\xdd", dict: b"\xdf"}[type(value)]
     held_there = value.encode(errors="surrogateescape") if isinstance(value, str) else value
     head += len(held_there).to_bytes(4, "big")
@@ -107,6 +166,11 @@ def longest(value):
         return head + held_there
     parts = value if isinstance(value, list) else [part for pair in value.items() for part in pair]
     return head + b"".join(map(longest, parts))
+
+
+def values_of(book):
+    """All values of a book."""
+    return [*book.values(), ["end", len(book.entries)]]
 
 
 def laid(path):
@@ -119,7 +183,7 @@ def laid(path):
     return [*places, len(values.data)]
 
 
-class Books(Count):
+class Books(Check):
     """What is said of the books in a folder."""
 
     def __init__(self, folder):
@@ -134,7 +198,8 @@ class Books(Count):
 
     def refused(self, what, data, status, line, *words):
         """`replay` of these bytes writes nothing, and ends with this status and line."""
-        self.same(f"{what} {words}", finished("replay", self.write("bad", data), *words), (b"", status, line))
+        got = finished("replay", self.write("bad", data), *words)
+        self.same(f"{what} {words}", got, (b"", status, line))
 
     def malformed(self, what, data, place):
         for words in ([], ["--check"]):
@@ -144,11 +209,14 @@ class Books(Count):
         """The same bytes each time, of the size and the sum that the rules give."""
         for number, (size, wanted) in GENERATED.items():
             data, *end = finished("generate", str(number))
-            self.same(f"the book of {number}", (len(data), hashlib.sha256(data).hexdigest(), *end), (size, wanted, 0, ""))
-            self.same(f"the book of {number} again", finished("generate", str(number))[0] == data, True)
+            got = (len(data), hashlib.sha256(data).hexdigest(), *end)
+            self.same(f"the book of {number}", got, (size, wanted, 0, ""))
+            again = finished("generate", str(number))[0]
+            self.same(f"the book of {number} again", again == data, True)
             book = held(self, self.write(str(number), data))
             entries = [entry for entry, _ in book.entries if entry[0] != "t"]
-            self.same(f"what is asked by the script of {number}", entries == script(number), True)
+            same = entries == script(number)
+            self.same(f"what is asked by the script of {number}", same, True)
             self.same(f"the sums of the script of {number}", sums(entries), SUMS[number])
             if number == 7:
                 self.same("what it counts", book.summary(), SUMMARY)
@@ -157,9 +225,11 @@ class Books(Count):
 
     def long_forms(self, book):
         """Its values in their longest spellings are the same book."""
-        path = self.write("long", b"".join(map(longest, book.values())))
-        self.same("long forms, checked", finished("replay", path, "--check"), (book.summary().encode(), 0, ""))
-        self.same("long forms", finished("replay", path) == (spelled(map(list, book.pieces())), 0, ""), True)
+        path = self.write("long", b"".join(map(longest, values_of(book))))
+        summary = book.summary().encode()
+        self.same("long forms, checked", finished("replay", path, "--check"), (summary, 0, ""))
+        pieces = spelled(map(list, book.pieces()))
+        self.same("long forms", finished("replay", path) == (pieces, 0, ""), True)
 
     def changed(self, book):
         """Two outputs are changed by a bit: the first is found."""
@@ -168,8 +238,10 @@ class Books(Count):
         for number in (first, second):
             told, output = book.entries[number]
             book.entries[number] = told, output[:-1] + bytes([output[-1] ^ 1])
-        data = spelled(book.values())
-        self.refused("two changed outputs", data, 8, f"nvimd: check differs at entry {first}", "--check")
+        data = book.whole()
+        self.refused(
+            "two changed outputs", data, 8, f"nvimd: check differs at entry {first}", "--check"
+        )
 
     def small(self):
         """A small book: right, cut at each byte, and with each value wrong in some way."""
@@ -192,7 +264,8 @@ class Books(Count):
             changed = spelled([*SMALL[:4], output, *SMALL[5:]])
             self.refused("another output", changed, 8, "nvimd: check differs at entry 2", "--check")
             true = spelled([[2, 1, SMALL[4]]])
-            self.same("another output, replayed", finished("replay", self.write("changed", changed)), (true, 0, ""))
+            got = finished("replay", self.write("changed", changed))
+            self.same("another output, replayed", got, (true, 0, ""))
 
     def whole(self, values):
         """A book of these values is right."""
@@ -200,57 +273,69 @@ class Books(Count):
         held(self, self.write("whole", spelled([*values, ["end", entries]])))
 
     def outboxes(self):
-        """Sessions that take nothing meanwhile: one that asks, and one that is told what another does."""
+        """Sessions that take nothing meanwhile: one that asks, and one that is told what another
+        does."""
         waiting = [["nvimd-book", 1, OUTBOX], ["o", 0], *(edit(1, n) for n in range(1, 9))]
         replies = b"".join(map(replied, range(1, 9)))
         taken = [*waiting, ["t", 0, 1, 1], replies, edit(1, 9), ["t", 0, 1, 1], replied(9)]
         self.whole(taken)
-        self.malformed("a ninth request while eight replies wait", spelled([*waiting, edit(1, 9)]), len(spelled(waiting)))
+        ninth = spelled([*waiting, edit(1, 9)])
+        self.malformed("a ninth request while eight replies wait", ninth, len(spelled(waiting)))
         front = [
-            ["nvimd-book", 1, OUTBOX], ["o", 0], ["o", 0], ["r", 0, 2, 1, "nvim_buf_attach", [1, False, {}]], ["t", 0, 2, 1],
+            *(["nvimd-book", 1, OUTBOX], ["o", 0], ["o", 0]),
+            *(["r", 0, 2, 1, "nvim_buf_attach", [1, False, {}]], ["t", 0, 2, 1]),
             event("nvim_buf_changedtick_event", 2) + replied(1, True),
         ]
         for n in range(1, OUTBOX + 2):
             front += [edit(1, n), ["t", 0, 1, 1], replied(n)]
-        events = b"".join(event("nvim_buf_lines_event", tick, 0, 0, ["a"], False) for tick in range(3, 3 + OUTBOX))
+        ticks = range(3, 3 + OUTBOX)
+        told = [event("nvim_buf_lines_event", tick, 0, 0, ["a"], False) for tick in ticks]
+        events = b"".join(told)
         over = [*front, ["t", 0, 2, 1], events]
         self.whole([*over, edit(1, 18), ["t", 0, 1, 1], replied(18), ["c", 0, 1]])
         for entry in (["t", 0, 2, 0], ["t", 0, 2, 1], edit(2, 2)):
-            self.malformed(f"{entry[0]} of a session whose outbox ran over", spelled([*over, entry]), len(spelled(over)))
+            what = f"{entry[0]} of a session whose outbox ran over"
+            self.malformed(what, spelled([*over, entry]), len(spelled(over)))
 
     def served(self):
-        """The book of a server over a longer file: what its clients asked for, and what they read; an output is of three pieces."""
+        """The book of a server over a longer file: what its clients asked for, and what they read;
+        an output is of three pieces."""
         path = self.write("served", b"\xc1" * (8 * PIECE))
-        server = Serve("--sessions", "4", "--outbox", "64", "--book", path)
-        sessions = [server.client() for _ in range(3)]
+        server = nvimd.Server("--sessions", "4", "--outbox", "64", book=path)
+        sessions = [server.connect() for _ in range(3)]
         for session in sessions:
             session.kept = bytearray()
             session.number = session.call("nvim_get_api_info")[0]
         editor, follower, ui = sessions
         ui.call("nvim_ui_attach", 40, 12, {"ext_linegrid": True})
         follower.call("nvim_buf_attach", 1, True, {})
-        editor.send(spelled([[2, "nvim_nope", []], [2, b"nvim_list_bufs", []], [2, NAME, [msgpack.ExtType(0, b"\x01")]]]))
+        buffer = msgpack.ExtType(0, b"\x01")
+        notes = [[2, "nvim_nope", []], [2, b"nvim_list_bufs", []], [2, NAME, [buffer]]]
+        editor.send(spelled(notes))
         editor.call("nvim_buf_set_lines", 0, 0, -1, True, ["x" * 100_000] * 22)
         editor.call("nvim_buf_get_lines", 0, 0, -1, True)
-        for session in (follower, ui):  # reads what it is told; a client that doesn't keeps the server from ending
-            session.call(NAME, 0)
+        for session in (follower, ui):
+            session.call(NAME, 0)  # reads what it is told, without which the server doesn't end
         self.same("a server's status", server.quit(LONG), 0)
         for session in sessions:
             session.rest()
             session.close()
         book = held(self, path)
         self.same("its first value", book.head, ["nvimd-book", 1, 64])
-        held_by_sessions(self, book, {session.number: (session.kept, True) for session in sessions})
-        asked = [told[3:] for told, _ in book.entries if told[0] == "r" and told[2] == editor.number]
-        names = ["nvim_get_api_info", "nvim_nope", "nvim_list_bufs", NAME, "nvim_buf_set_lines", "nvim_buf_get_lines"]
+        read = {session.number: (session.kept, True) for session in sessions}
+        held_by_sessions(self, book, read)
+        requests = [told for told, _ in book.entries if told[0] == "r"]
+        asked = [told[3:] for told in requests if told[2] == editor.number]
+        names = ["nvim_get_api_info", "nvim_nope", "nvim_list_bufs", NAME]
+        names += ["nvim_buf_set_lines", "nvim_buf_get_lines"]
         self.same("what was asked", [name for _, name, _ in asked], names)
         self.same("their numbers", [msgid for msgid, _, _ in asked], [1, None, None, None, 2, 3])
-        self.same("a handle", asked[3][2], [msgpack.ExtType(0, b"\x01")])
+        self.same("a handle", asked[3][2], [buffer])
         self.cut_otherwise(book)
 
     def cut_otherwise(self, book):
         """A byte of the first of three pieces stands in the second."""
-        values = list(book.values())
+        values = values_of(book)
         number = next(n for n, value in enumerate(values) if value[0] == "t" and value[3] == 3)
         one, two = values[number + 1 : number + 3]
         values[number + 1 : number + 3] = [one[:-1], one[-1:] + two]
@@ -269,35 +354,42 @@ class Books(Count):
                 self.malformed("a value of a byte more", data, len(spelled(begun)))
             else:
                 told = f"entries 4 sessions 1 takes 1 bytes {len(reply)} ok\n".encode()
-                self.same("the greatest value", finished("replay", self.write("greatest", data), "--check"), (told, 0, ""))
+                got = finished("replay", self.write("greatest", data), "--check")
+                self.same("the greatest value", got, (told, 0, ""))
 
     def devices(self):
         """What can't be read or written."""
         path = self.write("small", spelled(SMALL))
         for name in (os.path.join(self.folder, "nothing"), self.folder):
             for words in ([], ["--check"]):
-                self.same(f"replay of {name} {words}", finished("replay", name, *words), (b"", 3, "nvimd: read fault"))
+                got = finished("replay", name, *words)
+                self.same(f"replay of {name} {words}", got, (b"", 3, "nvimd: read fault"))
         for words in (["replay", path], ["replay", path, "--check"], ["generate", "7"]):
             with open("/dev/full", "wb") as full:
-                self.same(f"{words} on a full disk", finished(*words, into=full), (None, 4, "nvimd: write fault"))
+                got = finished(*words, into=full)
+                self.same(f"{words} on a full disk", got, (None, 4, "nvimd: write fault"))
         socket = os.path.join(self.folder, "socket")
         for name in (os.path.join(self.folder, "nowhere", "book"), self.folder):
             done = finished("serve", "--listen", socket, "--book", name)
-            self.same(f"a book in {name}", (*done, os.path.exists(socket)), (b"", 4, "nvimd: write fault", False))
-        server = Serve("--book", "/dev/full", errors=subprocess.PIPE)
-        self.same("a book on a full disk", (server.quit(), server.child.stderr.read()), (4, b"nvimd: write fault\n"))
-        server.child.stderr.close()
+            got = (*done, os.path.exists(socket))
+            self.same(f"a book in {name}", got, (b"", 4, "nvimd: write fault", False))
+        server = nvimd.Server(book="/dev/full", stderr=subprocess.PIPE)
+        got = (server.quit(), server.process.stderr.read())
+        self.same("a book on a full disk", got, (4, b"nvimd: write fault\n"))
+        server.process.stderr.close()
         taken = self.write("taken", b"old")
-        done = finished("serve", "--listen", os.path.join(self.folder, "nowhere", "socket"), "--book", taken)
+        nowhere = os.path.join(self.folder, "nowhere", "socket")
+        done = finished("serve", "--listen", nowhere, "--book", taken)
         self.same("no address", done, (b"", 5, "nvimd: listener fault"))
 
     def bad_words(self):
         for words in BAD_WORDS:
-            self.same(f"the words {words}", finished(*words), (b"", 2, "nvimd: bad command line"))
+            wanted = (b"", 2, "nvimd: bad command line")
+            self.same(f"the words {words}", finished(*words), wanted)
 
 
 def main():
-    limit(MOST_SECONDS)
+    Words(__doc__).parse_args()
     with tempfile.TemporaryDirectory() as folder:
         books = Books(folder)
         for part in (
@@ -311,10 +403,10 @@ def main():
         ):
             try:
                 part()
-            except Ended as ended:
-                books.same(part.__name__, str(ended), "no fault")
+            except nvimd.Error as error:
+                books.same(part.__name__, str(error), "no fault")
     return books.end()
 
 
 if __name__ == "__main__":
-    sys.exit(main())
+    run(main, MOST_SECONDS)

@@ -1,18 +1,17 @@
 #!/usr/bin/python3
-"""Writes docs/rows/by_chance.rows: edits, undos and visits that are drawn from a number, with what a plain model in Python gives.
-
-Usage: clients/by_chance.py [--check]     writes the file, or looks whether it is what would be written
-Wants Debian's python3-msgpack.
+"""Writes docs/rows/by_chance.rows: edits, undos and visits that are drawn from a number, with what
+a plain model in Python gives.
 """
 
 import os
-import sys
 import textwrap
 from itertools import groupby
 
-from undo_tree import TOP, Model
+from check import DOCS, Check, Words, run
+from undo_tree import Model
 
-FILE = os.path.join(TOP, "docs", "rows", "by_chance.rows")
+
+FILE = os.path.join(DOCS, "rows", "by_chance.rows")
 HEAD = """\
 # Edits, undos and visits of changes, drawn from a number by clients/by_chance.py, which wrote this
 # file: what is answered is what a plain list of lines, and a list of the changes, gives. A visit
@@ -35,11 +34,17 @@ class Story:
     """A story as it is written, beside a model of its buffer."""
 
     def __init__(self, comment, title):
-        self.rows = ["", *textwrap.wrap(comment, 100, initial_indent="# ", subsequent_indent="# "), f"= {title}"]
-        self.model = Model(empty="")
+        told = textwrap.wrap(comment, 100, initial_indent="# ", subsequent_indent="# ")
+        self.rows = ["", *told, f"= {title}"]
+        self.model = Model()
 
     def say(self, row):
-        self.rows += textwrap.wrap(row, 100, subsequent_indent=" " * 8, break_long_words=False, break_on_hyphens=False)
+        whole = {"break_long_words": False, "break_on_hyphens": False}
+        self.rows += textwrap.wrap(row, 100, subsequent_indent=" " * 8, **whole)
+
+    def offset(self, row):
+        wanted = sum(len(line) + 1 for line in self.model.lines[:row])
+        self.say(f"nvim_buf_get_offset(0, {row}) -> {wanted}")
 
     def holds(self):
         self.say(f"nvim_buf_get_lines(0, 0, -1, true) -> {lines(self.model.lines)}")
@@ -52,7 +57,10 @@ class Story:
 
 def edits():
     """Up to 89 lines are put in place of up to 39."""
-    story = Story("Each line has one byte, so that offsets are twice the rows.", "Sixty edits keep step with a plain list")
+    story = Story(
+        "Each line has one byte, so that offsets are twice the rows.",
+        "Sixty edits keep step with a plain list",
+    )
     seed, model = 7, story.model
     for turn in range(EDITS):
         seed = (seed * 1664525 + 1013904223) % 2**32
@@ -67,8 +75,8 @@ def edits():
         if turn % 6 == 5:
             story.holds()
             count = len(model.lines)
-            story.say(f"nvim_buf_get_offset(0, {count // 2}) -> {sum(len(line) + 1 for line in model.lines[: count // 2])}")
-            story.say(f"nvim_buf_get_offset(0, {count}) -> {sum(len(line) + 1 for line in model.lines)}")
+            story.offset(count // 2)
+            story.offset(count)
     for number in (len(model.kept) // 2, 0, len(model.kept) - 1):
         story.visit(number)
     return story.rows
@@ -97,7 +105,10 @@ def changes():
         row = chance.below(len(model.lines))
         new = [[""], ["yz"], ["", "", ""]][chance.below(3)]
         put = model.lines[:row] + new + model.lines[row + 1 :]
-        calls = f'["nvim_buf_set_lines", [0, {row}, {row + 1}, true, {lines(new)}]], ["nvim_buf_set_text", [0, 0, 0, 0, 0, ["p", ""]]]'
+        calls = (
+            f'["nvim_buf_set_lines", [0, {row}, {row + 1}, true, {lines(new)}]], '
+            '["nvim_buf_set_text", [0, 0, 0, 0, 0, ["p", ""]]]'
+        )
         story.say(f"notify nvim_call_atomic([{calls}]) -> nothing")
         model.change(["p", *put])
     for _ in range(VISITS):
@@ -106,9 +117,13 @@ def changes():
 
 
 def steps():
-    """Undo, redo or a new change by chance, against a list of what was entered, each with its parent."""
-    story = Story("The text of each change is its number, and a session is told what the text becomes.", "A hundred steps keep step with a list")
-    chance, model = Chance(), story.model
+    """Undo, redo or a new change by chance, against a list of what was entered, each with its
+    parent."""
+    story = Story(
+        "The text of each change is its number, and a session is told what the text becomes.",
+        "A hundred steps keep step with a list",
+    )
+    chance = Chance()
     story.say("nvim_buf_attach(0, false, {}) -> true")
     story.say("    tells nvim_buf_changedtick_event(B1, 2)")
     entered, at, last, tick = [], 0, 0, 2
@@ -129,21 +144,25 @@ def steps():
             story.say(f'nvim_buf_set_lines(0, 0, 1, true, ["{at}"]) -> nil')
         if at != before:
             tick += 1
-            story.rows.append(f'    tells nvim_buf_lines_event(B1, {tick}, 0, 1, ["{at or ""}"], false)')
+            told = f'nvim_buf_lines_event(B1, {tick}, 0, 1, ["{at or ""}"], false)'
+            story.rows.append(f"    tells {told}")
     return story.rows
 
 
 def main():
+    words = Words(__doc__)
+    words.add_argument("--check", action="store_true", help="look whether it is what is there")
+    asked = words.parse_args()
     text = HEAD + "\n".join(edits() + changes() + steps()) + "\n"
-    if "--check" in sys.argv[1:]:
-        with open(FILE, encoding="utf-8") as file:
-            same = file.read() == text
-        print("1 passed, 0 failed" if same else "0 passed, 1 failed")
-        return 0 if same else 1
-    with open(FILE, "w", encoding="utf-8") as file:
-        file.write(text)
-    return 0
+    if not asked.check:
+        with open(FILE, "w", encoding="utf-8") as file:
+            file.write(text)
+        return 0
+    check = Check()
+    with open(FILE, encoding="utf-8") as file:
+        check.same("docs/rows/by_chance.rows is what would be written", file.read() == text, True)
+    return check.end()
 
 
 if __name__ == "__main__":
-    sys.exit(main())
+    run(main)

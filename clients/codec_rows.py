@@ -1,25 +1,28 @@
 #!/usr/bin/python3
-"""Compares docs/rows/codec.rows with msgpack for Python, with the input of codec_bench, and with what `nvimd embed` says.
+"""Compares docs/rows/codec.rows with msgpack for Python, with the input of codec_bench, and with
+what `nvimd embed` says.
 
-Usage: clients/codec_rows.py [--write] [--program PROGRAM]
 1. Each row beside msgpack for Python, which reads the value and packs it in its shortest form.
-2. crates/codec_bench is run (by `rt ci`) on the bytes of each row, and has to write what the row says: its files stdin and
-   stdout are the ones that the rows make. With `--write` they are written, and nothing else is done.
-3. The program ends as the row says for the bytes of each flaw, in one piece and, where they are few, byte by byte.
+2. crates/codec_bench is run (by `rt ci`) on the bytes of each row, and has to write what the row
+   says: its files stdin and stdout are the ones that the rows make.
+3. The program ends as the row says for the bytes of each flaw, in one piece and, where they are
+   few, byte by byte.
+
 Wants Debian's python3-msgpack.
 """
 
 import os
 import subprocess
-import sys
 
 import msgpack
 
+import nvimd
+from check import DOCS, TOP, Words, run
 from examples import Unwritten, packed, unpacker, value_in
-from row_file import bytes_in, lines_of
+from row_file import Wrong, bytes_in, lines_of
 
-TOP = os.path.dirname(os.path.dirname(os.path.abspath(__file__)))
-ROWS = os.path.join(TOP, "docs", "rows", "codec.rows")
+
+ROWS = os.path.join(DOCS, "rows", "codec.rows")
 CRATE = os.path.join(TOP, "crates", "codec_bench")
 WORDS = ("bad", "deep", "long", "cut")
 FEW = 1000
@@ -27,7 +30,8 @@ LONG = 60  # seconds
 
 
 class Row:
-    """Bytes, and those after them; and what they are: the shortest spelling and perhaps the value in text, or a flaw."""
+    """Bytes, and those after them; and what they are: the shortest spelling and perhaps the value
+    in text, or a flaw."""
 
     def __init__(self, line, data, after, said):
         self.line, self.data, self.after = line, data, after
@@ -55,7 +59,7 @@ def rows_of(number, text):
     """The rows of a line."""
     left, arrow, said = text.partition(" -> ")
     if not arrow:
-        raise SystemExit(f"{ROWS}:{number}: no arrow")
+        raise Wrong(ROWS, number, "no arrow")
     if not left.startswith("each "):
         data, _, after = left.partition("|")
         return [Row(number, bytes_in(data), bytes_in(after), said)]
@@ -65,7 +69,7 @@ def rows_of(number, text):
         return [Row(number, data, b"", said) for data in each]
     values = value_in(f"[{values}]")
     if spelled != "same" or len(values) != len(each):
-        raise SystemExit(f"{ROWS}:{number}: not as many values as bytes")
+        raise Wrong(ROWS, number, "not as many values as bytes")
     rows = [Row(number, data, b"", "same") for data in each]
     for row, value in zip(rows, values):
         row.value = value
@@ -79,12 +83,13 @@ def rows():
             try:
                 found += rows_of(number, text)
             except (Unwritten, ValueError) as error:
-                raise SystemExit(f"{ROWS}:{number}: {error}") from None
+                raise Wrong(ROWS, number, error) from None
     return found
 
 
 def read(data):
-    """The value at the front of the bytes and its length, or None, as msgpack for Python reads them."""
+    """The value at the front of the bytes and its length, or None, as msgpack for Python reads
+    them."""
     reader = unpacker()
     reader.feed(data)
     try:
@@ -97,7 +102,11 @@ def is_as_python_says(row):
     found = read(row.data + row.after)
     if row.flaw:
         return found is None or row.flaw[0] == "deep"  # Python has no such limit
-    if not found or found[1] != len(row.data) or read(row.shortest) != (found[0], len(row.shortest)):
+    if (
+        not found
+        or found[1] != len(row.data)
+        or read(row.shortest) != (found[0], len(row.shortest))
+    ):
         return False
     # Python packs each float in eight bytes, so one of four is compared by its value alone
     is_shortest = packed(found[0]) == row.shortest or b"\xca" in row.data
@@ -106,10 +115,10 @@ def is_as_python_says(row):
     return is_shortest and is_named
 
 
-def ended(program, pieces):
+def ended(pieces):
     """What the program writes for this input, its status and its line."""
     pipes = {"stdin": subprocess.PIPE, "stdout": subprocess.PIPE, "stderr": subprocess.PIPE}
-    with subprocess.Popen([program, "embed"], bufsize=0, **pipes) as child:
+    with subprocess.Popen([nvimd.program(), "embed"], bufsize=0, **pipes) as child:
         try:
             for piece in pieces:
                 child.stdin.write(piece)
@@ -119,11 +128,11 @@ def ended(program, pieces):
     return output, child.returncode, line.decode()
 
 
-def is_as_the_program_says(row, program):
+def is_as_the_program_says(row):
     data = row.data
     singles = [data[place : place + 1] for place in range(len(data))]
     cuts = [[data], singles] if len(data) <= FEW else [[data]]
-    return all(ended(program, pieces) == row.ends() for pieces in cuts)
+    return all(ended(pieces) == row.ends() for pieces in cuts)
 
 
 def written(found):
@@ -143,25 +152,31 @@ def is_there(name, data):
         return False
 
 
+def unlike(files):
+    """The names of the files that are others."""
+    return [name for name, data in files.items() if not is_there(name, data)]
+
+
 def main():
-    words = sys.argv[1:]
-    program = words[words.index("--program") + 1] if "--program" in words else os.path.join(TOP, "nvimd")
+    words = Words(__doc__)
+    words.add_argument("--write", action="store_true", help="write these files, and nothing else")
+    asked = words.parse_args()
     found = rows()
     files = written(found)
-    if "--write" in words:
+    if asked.write:
         for name, data in files.items():
             with open(os.path.join(CRATE, name), "wb") as file:
                 file.write(data)
         return 0
     flaws = [row for row in found if row.flaw]
-    failed = [f"line {row.line}: Python says otherwise" for row in found if not is_as_python_says(row)]
-    failed += [f"crates/codec_bench/{name} is another: --write" for name, data in files.items() if not is_there(name, data)]
-    failed += [f"line {row.line}: the program says otherwise" for row in flaws if not is_as_the_program_says(row, program)]
-    for line in failed:
-        print(line)
-    print(f"{len(found) - len(flaws)} values, {len(flaws)} flaws, {len(failed)} failed")
-    return 1 if failed else 0
+    wrong = [f"line {row.line}: Python" for row in found if not is_as_python_says(row)]
+    wrong += [f"crates/codec_bench/{name}, or else --write" for name in unlike(files)]
+    wrong += [f"line {row.line}: the program" for row in flaws if not is_as_the_program_says(row)]
+    for line in wrong:
+        print(f"another answer: {line}")
+    print(f"{len(found) - len(flaws)} values, {len(flaws)} flaws, {len(wrong)} failed")
+    return 1 if wrong else 0
 
 
 if __name__ == "__main__":
-    sys.exit(main())
+    run(main)

@@ -1,85 +1,65 @@
 #!/usr/bin/python3
-"""Many sessions of `nvimd serve` at once over a socket, each a seeded series of calls, and each reply looked at.
+"""Many sessions of `nvimd serve` at once over a socket, each a seeded series of calls, and each
+reply looked at.
 
-Editors follow two texts that all of them change, and compare their copies with the texts at each of their calls; some of them
-stay, and read to the end. Owners change a text of their own, and compare each reply with a plain model. UIs fold their screens,
-which must be the text in the end. Some sessions end in the middle of a message and come again, and some don't read. Then the
-server is asked to end. The book that it recorded is right, by `nvimd replay`, and gives each session what its client read.
-Last, sessions open, work and close, as many as it takes, three times over: its descriptors and its memory come back.
-
-Usage: clients/crowd.py [SEED] [--sessions N] [--steps N]       from anywhere; it starts the launcher `nvimd`
-Wants Debian's python3-msgpack.
+Editors follow two texts that all of them change, and compare their copies with the texts at each of
+their calls; some of them stay, and read to the end. Owners change a text of their own, and compare
+each reply with a plain model. UIs fold their screens, which must be the text in the end. Some
+sessions end in the middle of a message and come again, and some don't read. Then the server is
+asked to end. The book that it recorded is right, by `nvimd replay`, and gives each session what its
+client read. Last, sessions open, work and close, as many as it takes, three times over: its
+descriptors and its memory come back. Wants Debian's python3-msgpack.
 """
 
-import argparse
 import os
 import random
-import sys
 import tempfile
 import threading
 import time
 
-import msgpack
-
-from book import held, held_by_sessions
-from follow import Copy
-from grid import Grid
-from rpc import LONG, Refused, Serve, limit
-from server import Ended
+import nvimd
+from check import LONG, Check, Words, run
+from held import held, held_by_sessions
+from nvimd.screen import OPTIONS
+from nvimd.values import packed
 from undo_tree import Model
+
 
 MOST_SECONDS = 600
 MOST = 256  # sessions at once
 SHARED = (1, 2)
-OPTIONS = {"ext_linegrid": True, "rgb": True}
 PATIENCE = 30  # seconds until a screen must show a text
 ROUND = 8  # MB that a round of short sessions may leave behind, with its entries of the history
 
 
-class Findings:
-    """What was compared, by all sessions together."""
-
-    def __init__(self):
-        self.lock = threading.Lock()
-        self.passed = self.failed = 0
-
-    def same(self, what, got, wanted):
-        with self.lock:
-            if got == wanted:
-                self.passed += 1
-                return
-            self.failed += 1
-            if self.failed < 10:
-                print(f"{what}: got {str(got)[:300]}, not {str(wanted)[:300]}", file=sys.stderr)
-
-
 class Part(threading.Thread):
-    """One session, in a thread of its own, of so many steps; what ends it early counts as failed."""
+    """One session, in a thread of its own, of so many steps; what ends it early counts as
+    failed."""
 
     is_read = True  # what its client reads is compared with the book
     is_whole = False  # its client reads to the end
 
-    def __init__(self, server, findings, seed, steps):
+    def __init__(self, server, check, seed, steps):
         super().__init__(daemon=True)
-        self.server, self.findings, self.steps = server, findings, steps
+        self.server, self.check, self.steps = server, check, steps
         self.random = random.Random(f"{type(self).__name__} {seed}")
         self.session = None
         self.has_worked = threading.Event()
         self.name = f"{type(self).__name__} {seed}"
 
     def same(self, what, got, wanted):
-        self.findings.same(f"{self.name}: {what}", got, wanted)
+        self.check.same(f"{self.name}: {what}", got, wanted)
 
     def run(self):
         try:
-            self.session = self.server.client()
+            self.session = self.server.connect()
             self.session.kept = bytearray()
             self.number_of_session = self.session.call("nvim_get_api_info")[0]
             self.begin()
             self.work()
             self.has_worked.set()
             self.end()
-        except (Ended, Refused, AssertionError, OSError) as error:
+        except (nvimd.Error, AssertionError, OSError) as error:
             self.same("its end", repr(error), "no error")
         self.has_worked.set()
 
@@ -97,22 +77,26 @@ class Part(threading.Thread):
         self.session.close()
 
     def lines(self, most):
-        return ["".join(self.random.choices("abcdef ", k=self.random.randint(0, 9))) for _ in range(self.random.randint(0, most))]
+        return [self.line() for _ in range(self.random.randint(0, most))]
+
+    def line(self):
+        return "".join(self.random.choices("abcdef ", k=self.random.randint(0, 9)))
 
 
 class Editor(Part):
     """Follows the shared texts and changes them."""
 
     def begin(self):
-        self.copies = {number: Copy() for number in SHARED}
+        self.copies = {number: nvimd.Follower() for number in SHARED}
         for number in SHARED:
             self.session.call("nvim_buf_attach", number, True, {})
         self.take()
 
     def take(self):
         """The events up to now; the lines of each text at each changedtick that they tell."""
-        seen = {(number, copy.tick): list(copy.lines or ()) for number, copy in self.copies.items()}
-        for name, arguments in self.session.taken():
+        copies = self.copies.items()
+        seen = {(number, copy.tick): list(copy.lines or ()) for number, copy in copies}
+        for name, arguments in self.session.pending():
             number, *told = arguments
             before = self.copies[number].tick
             self.copies[number].take(name, *told)
@@ -131,7 +115,8 @@ class Editor(Part):
         end = min(count, start + self.random.randint(0, 3))
         new = self.lines(3 if count < 60 else 1)
         edit = ["nvim_buf_set_lines", [number, start, end, False, new]]
-        seen, (before, _, after, lines) = self.together(number, ["nvim_buf_get_changedtick", [number]], edit)
+        tick = ["nvim_buf_get_changedtick", [number]]
+        seen, (before, _, after, lines) = self.together(number, tick, edit)
         at = seen[number, before]
         start, end = min(start, len(at)), min(end, len(at))
         wanted = (at[:start] + new + at[end:]) or [""]
@@ -144,13 +129,15 @@ class Editor(Part):
 
     def together(self, number, *calls):
         """Calls in one request, and the text behind them, which the copy must be."""
-        looks = [["nvim_buf_get_changedtick", [number]], ["nvim_buf_get_lines", [number, 0, -1, True]]]
+        looks = [["nvim_buf_get_changedtick", [number]]]
+        looks += [["nvim_buf_get_lines", [number, 0, -1, True]]]
         results, error = self.session.call("nvim_call_atomic", [*calls, *looks])
-        if error is not None and error[2] == "Index out of bounds":  # `undo 1`, where nothing was changed yet
-            return self.take(), None
+        if error is not None and error[2] == "Index out of bounds":
+            return self.take(), None  # `undo 1`, where nothing was changed yet
         self.same("calls in one", error, None)
         seen = self.take()
-        self.same("a copy", (self.copies[number].tick, self.copies[number].lines), (results[-2], results[-1]))
+        copy = self.copies[number]
+        self.same("a copy", (copy.tick, copy.lines), (results[-2], results[-1]))
         return seen, results
 
 
@@ -169,7 +156,7 @@ class Owner(Part):
 
     def begin(self):
         self.number = self.session.call("nvim_create_buf", True, False)
-        self.model = Model("")
+        self.model = Model()
 
     def call(self):
         """A call, and its reply by the model."""
@@ -185,11 +172,14 @@ class Owner(Part):
             return model.tick, "nvim_buf_get_changedtick", self.number
         if kind < 0.7:
             row = self.random.randint(0, count)
-            return sum(len(line) + 1 for line in model.lines[:row]), "nvim_buf_get_offset", self.number, row
+            offset = sum(len(line) + 1 for line in model.lines[:row])
+            return offset, "nvim_buf_get_offset", self.number, row
         row = self.random.randrange(count)
-        start, end = sorted((self.random.randint(0, len(model.lines[row])), self.random.randint(0, len(model.lines[row]))))
+        length = len(model.lines[row])
+        start, end = sorted((self.random.randint(0, length), self.random.randint(0, length)))
         if kind < 0.8:
-            return [model.lines[row][start:end]], "nvim_buf_get_text", self.number, row, start, row, end, {}
+            text = [model.lines[row][start:end]]
+            return text, "nvim_buf_get_text", self.number, row, start, row, end, {}
         new = self.lines(2) or [""]
         model.set_text((row, start), (row, end), new)
         return None, "nvim_buf_set_text", self.number, row, start, row, end, new
@@ -199,7 +189,8 @@ class Owner(Part):
         numbers = self.session.post_all([(name, params) for _, name, *params in calls])
         for msgid, (wanted, name, *_) in zip(numbers, calls):
             self.same(name, self.session.answer(msgid), (None, wanted))
-        self.same("its text", self.session.call("nvim_buf_get_lines", self.number, 0, -1, True), self.model.lines)
+        lines = self.session.api.buf_get_lines(self.number, 0, -1, True)
+        self.same("its text", lines, self.model.lines)
 
     def end(self):
         self.session.call("nvim_buf_delete", self.number, {"force": True})
@@ -210,19 +201,21 @@ class Ui(Part):
     """Folds its screen; it stays until the text at the end is shown."""
 
     def begin(self):
-        self.grid = Grid()
-        self.session.call("nvim_ui_attach", self.random.randint(30, 60), self.random.randint(10, 20), OPTIONS)
+        self.screen = nvimd.Screen()
+        size = self.random.randint(30, 60), self.random.randint(10, 20)
+        self.session.call("nvim_ui_attach", *size, OPTIONS)
 
     def fold(self):
-        for name, batch in self.session.taken():
+        for name, batch in self.session.pending():
             self.same("what it is told", name, "redraw")
-            self.grid.take(batch)
+            self.screen.take(batch)
 
     def step(self):
         if self.random.random() < 0.3:
-            self.session.call("nvim_ui_try_resize", self.random.randint(30, 60), self.random.randint(10, 20))
+            size = self.random.randint(30, 60), self.random.randint(10, 20)
+            self.session.call("nvim_ui_try_resize", *size)
         else:
-            self.session.answer(self.session.post("nvim_win_set_cursor", 0, [self.random.randint(1, 9), 0]))
+            self.session.ask("nvim_win_set_cursor", 0, [self.random.randint(1, 9), 0])
         self.fold()
 
     def end(self):
@@ -239,8 +232,8 @@ class Ui(Part):
         while time.monotonic() < until and got != wanted:
             self.session.poll(0.1)
             self.fold()
-            if self.grid.flushed and (self.grid.width, self.grid.height) == size:
-                got = ["".join(text for text, _ in row).rstrip() for row in self.grid.shown()[:rows]]
+            if self.screen.flushed and (self.screen.width, self.screen.height) == size:
+                got = [row.rstrip() for row in self.screen.rows[:rows]]
         self.same("its screen", got, wanted)
 
 
@@ -251,10 +244,10 @@ class Cut(Part):
 
     def step(self):
         self.session.call("nvim_buf_line_count", self.random.choice(SHARED))
-        message = msgpack.packb([0, 9, "nvim_buf_get_lines", [1, 0, -1, True]])
+        message = packed([0, 9, "nvim_buf_get_lines", [1, 0, -1, True]])
         self.session.send(message[: self.random.randint(1, len(message) - 1)])
         self.session.close()
-        self.session = self.server.client()
+        self.session = self.server.connect()
 
 
 class Deaf(Part):
@@ -265,12 +258,12 @@ class Deaf(Part):
     def begin(self):
         for number in SHARED:
             self.session.post("nvim_buf_attach", number, True, {})
-        self.session.socket.setblocking(False)
+        self.session.connection.setblocking(False)
 
     def step(self):
         try:
             self.session.post("nvim_buf_get_lines", self.random.choice(SHARED), 0, -1, True)
-        except (BlockingIOError, BrokenPipeError, ConnectionResetError):
+        except BlockingIOError:
             pass
         time.sleep(0.002)
 
@@ -280,33 +273,36 @@ ROLES = [Editor, Editor, Follower, Owner, Owner, Ui, Cut, Deaf]
 
 def is_there(session, number):
     """Makes the second of the shared texts."""
-    while session.call("nvim_buf_line_count", 1) and not session.call("nvim_buf_is_valid", number):
-        session.call("nvim_create_buf", True, False)
+    while session.api.buf_line_count(1) and not session.api.buf_is_valid(number):
+        session.api.create_buf(True, False)
 
 
-def crowd(server, findings, seed, count, steps):
-    """So many sessions at once, and what their UIs show behind it; then the server's end. Answers what clients read, by session."""
-    judge = server.client()
+def crowd(server, check, seed, count, steps):
+    """So many sessions at once, and what their UIs show behind it; then the server's end. Answers
+    what clients read, by session."""
+    judge = server.connect()
     is_there(judge, SHARED[1])
-    parts = [ROLES[n % len(ROLES)](server, findings, f"{seed} {n}", steps) for n in range(count)]
+    parts = [ROLES[n % len(ROLES)](server, check, f"{seed} {n}", steps) for n in range(count)]
     for part in parts:
         part.start()
     for part in parts:
         part.has_worked.wait()
-    judge.call("nvim_call_atomic", [["nvim_set_current_buf", [1]], ["nvim_win_set_cursor", [0, [1, 0]]]])
+    calls = [["nvim_set_current_buf", [1]], ["nvim_win_set_cursor", [0, [1, 0]]]]
+    judge.call("nvim_call_atomic", calls)
     lines = judge.call("nvim_buf_get_lines", 1, 0, -1, True)
     size = judge.call("nvim_win_get_width", 0), judge.call("nvim_win_get_height", 0) + 2
     shown = [part for part in parts if isinstance(part, Ui)]
-    findings.same("the UIs that are there", len(judge.call("nvim_list_uis")), len(shown))
+    check.same("the UIs that are there", len(judge.call("nvim_list_uis")), len(shown))
     for part in shown:
         part.shows(size, lines)
     for part in shown:  # the screen grows when the smallest UI goes
         part.session.close()
     judge.close()
-    findings.same("status", server.quit(LONG), 0)
+    check.same("status", server.quit(LONG), 0)
     for part in parts:
         part.join()
-    return {part.number_of_session: (bytes(part.session.kept), part.is_whole) for part in parts if part.is_read}
+    read = [part for part in parts if part.is_read]
+    return {part.number_of_session: (bytes(part.session.kept), part.is_whole) for part in read}
 
 
 def settled(server):
@@ -320,11 +316,12 @@ def settled(server):
     return told, server.memory()
 
 
-def rounds(server, findings, count):
-    """So many sessions open, work and close, three times; what is left behind the first time is what is left later."""
+def rounds(server, check, count):
+    """So many sessions open, work and close, three times; what is left behind the first time is
+    what is left later."""
     left = []
     for _ in range(3):
-        sessions = [server.client() for _ in range(count)]
+        sessions = [server.connect() for _ in range(count)]
         for n, session in enumerate(sessions):
             session.call("nvim_buf_set_lines", 1, 0, -1, True, [f"session {n}"])
         for session in sessions:
@@ -332,33 +329,31 @@ def rounds(server, findings, count):
             session.call("nvim_buf_detach", 1)
             session.close()
         left.append(settled(server))
-    findings.same("descriptors behind each round", {told for told, _ in left}, {left[0][0]})
-    findings.same("memory behind a third round", left[2][1] - left[1][1] < ROUND, True)
+    check.same("descriptors behind each round", {told for told, _ in left}, {left[0][0]})
+    check.same("memory behind a third round", left[2][1] - left[1][1] < ROUND, True)
     return [memory for _, memory in left]
 
 
 def main():
-    limit(MOST_SECONDS)
-    words = argparse.ArgumentParser(description="Many sessions of a server at once.")
-    words.add_argument("seed", nargs="?", type=int, default=1)
-    words.add_argument("--sessions", type=int, default=64)
-    words.add_argument("--steps", type=int, default=60)
+    words = Words(__doc__)
+    words.add_argument("seed", nargs="?", type=int, default=1, metavar="SEED")
+    words.add_argument("--sessions", type=int, default=64, metavar="N")
+    words.add_argument("--steps", type=int, default=60, metavar="N", help="of each session")
     asked = words.parse_args()
-    findings = Findings()
+    check = Check()
     with tempfile.TemporaryDirectory() as folder:
         path = os.path.join(folder, "book")
-        server = Serve("--sessions", str(min(asked.sessions + 8, MOST)), "--book", path)
-        read = crowd(server, findings, asked.seed, asked.sessions, asked.steps)
-        book = held(findings, path)
-        held_by_sessions(findings, book, read)
+        server = nvimd.Server("--sessions", str(min(asked.sessions + 8, MOST)), book=path)
+        read = crowd(server, check, asked.seed, asked.sessions, asked.steps)
+        book = held(check, path)
+        held_by_sessions(check, book, read)
         print(f"the book: {book.summary()}", end="")
-    server = Serve("--sessions", str(MOST))
-    left = rounds(server, findings, MOST)
-    findings.same("status", server.quit(), 0)
+    server = nvimd.Server("--sessions", str(MOST))
+    left = rounds(server, check, MOST)
+    check.same("status", server.quit(), 0)
     print(f"{MOST} sessions three times over: {', '.join(f'{n:.1f}' for n in left)} MB")
-    print(f"{findings.passed} passed, {findings.failed} failed")
-    return 1 if findings.failed else 0
+    return check.end()
 
 
 if __name__ == "__main__":
-    sys.exit(main())
+    run(main, MOST_SECONDS)

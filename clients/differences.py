@@ -1,51 +1,49 @@
 #!/usr/bin/python3
 """Makes the same calls to Neovim and to `nvimd embed`, and compares what they are answered.
 
-Each row of the table in rows.py is calls to a fresh server and what the last of them is answered: its result, or its
-error, and the events that it tells. Rows with two answers are the part "Call by call" of docs/PROTOCOL.md.
+Each row of the table in rows.py is calls to a fresh server and what the last of them is answered:
+its result, or its error, and the events that it tells. Rows with two answers are the part "Call by
+call" of docs/PROTOCOL.md, which is printed.
 
-Usage: clients/differences.py             compares, and prints that part
-       clients/differences.py --check     compares, and looks whether docs/PROTOCOL.md has it
-       clients/differences.py --write     compares, and puts it there
-from anywhere; it starts `nvim` on the path and the launcher `nvimd` at the top of the repository. Without Neovim, or beside
-another release of it, `nvimd` alone is compared. Wants Debian's python3-msgpack and neovim.
+It starts `nvim` on the path. Without Neovim, or beside another release of it, `nvimd` alone is
+compared. Wants Debian's python3-msgpack and neovim.
 """
 
 import os
 import shutil
 import subprocess
-import sys
 import tempfile
 import textwrap
 from concurrent.futures import ThreadPoolExecutor
 
+import nvimd
+from check import DOCS, Check, Words, run
 from examples import calls_in, handle, written
 from rows import AT_ONCE, ROWS
-from rpc import LAUNCHER, TOP, Child, Ended
+
 
 RELEASE = "0.7.2"
-PAGE = os.path.join(TOP, "docs", "PROTOCOL.md")
+PAGE = os.path.join(DOCS, "PROTOCOL.md")
 HEADING = "### Call by call"
 NEOVIM = ["nvim", "--embed", "--headless", "-u", "NONE", "-i", "NONE", "-n"]
-NVIMD = [LAUNCHER, "embed"]
 
 
 def answer(words, text):
     """What a fresh server answers the last of these calls, in text."""
-    child = Child(words, handle, "/")
+    nvim = nvimd.start(words, handle, cwd="/")
     calls = calls_in(text.removeprefix(AT_ONCE))[0]
     try:
         if text.startswith(AT_ONCE):
-            error, result = [child.answer(msgid) for msgid in child.post_all(calls)][-1]
+            error, result = [nvim.answer(msgid) for msgid in nvim.post_all(calls)][-1]
         else:
             for name, params in calls:
-                child.taken()
-                error, result = child.answer(child.post(name, *params))
-    except (Ended, BrokenPipeError):
+                nvim.pending()
+                error, result = nvim.ask(name, *params)
+    except nvimd.Ended:
         return "no reply"
     finally:
-        child.kill()
-    told = [written(event) for event in child.taken() if event[0] != "redraw"]
+        nvim.kill()
+    told = [written(event) for event in nvim.pending() if event.name != "redraw"]
     given = written(result) if error is None else f"error {written(error)}"
     return given + ("" if not told else f", told {', '.join(told)}")
 
@@ -54,7 +52,9 @@ def release():
     """The release of Neovim on the path, or None."""
     if shutil.which("nvim") is None:
         return None
-    told = subprocess.run(["nvim", "--version"], stdout=subprocess.PIPE, text=True, check=True).stdout
+    told = subprocess.run(
+        ["nvim", "--version"], stdout=subprocess.PIPE, text=True, check=True
+    ).stdout
     return told.split()[1].lstrip("v")
 
 
@@ -63,9 +63,11 @@ def part():
     rows = [row for group in ROWS.values() for row in group]
     alike = sum(len(row) == 2 for row in rows)
     opening = (
-        f"Beside Debian's `neovim` {RELEASE}: of {len(rows)} examples, each some calls to a fresh server, {alike} are answered "
-        f"alike, and {len(rows) - alike} aren't. `clients/differences.py` makes them to both programs; what the last call of "
-        "those that differ is answered stands here, `error` before the kind and the message of a fault, `told` before events."
+        f"Beside Debian's `neovim` {RELEASE}: of {len(rows)} examples, each some calls to a fresh "
+        f"server, {alike} are answered alike, and {len(rows) - alike} aren't. "
+        "`clients/differences.py` makes them to both programs; what the last call of those that "
+        "differ is answered stands here, `error` before the kind and the message of a fault, "
+        "`told` before events."
     )
     parts = [HEADING, textwrap.fill(opening, 100)]
     for name, group in ROWS.items():
@@ -78,9 +80,8 @@ def part():
 def filled(title, calls, ours, theirs):
     calls = f"`{calls.removeprefix(AT_ONCE)}`{' at once' if calls.startswith(AT_ONCE) else ''}"
     text = f"{title}: {calls}: nvimd `{ours}`, Neovim `{theirs}`."
-    return textwrap.fill(
-        text, 100, initial_indent="- ", subsequent_indent="  ", break_long_words=False, break_on_hyphens=False
-    )
+    indents = {"initial_indent": "- ", "subsequent_indent": "  "}
+    return textwrap.fill(text, 100, **indents, break_long_words=False, break_on_hyphens=False)
 
 
 def page():
@@ -92,48 +93,44 @@ def page():
     return before, heading + held, next_heading + rest
 
 
-def compare(program, words, place):
-    """Prints what is answered otherwise than the table says."""
-    rows = [row if len(row) == 2 else (row[1], row[place]) for group in ROWS.values() for row in group]
-    wrong = 0
+def compare(check, program, words, place):
+    """Compares what is answered with what the table says."""
+    rows = [row for group in ROWS.values() for row in group]
+    rows = [row if len(row) == 2 else (row[1], row[place]) for row in rows]
     with ThreadPoolExecutor(4) as pool:
-        for (calls, wanted), got in zip(rows, pool.map(lambda row: answer(words, row[0]), rows)):
-            if got != wanted:
-                wrong += 1
-                print(f"{program}, {calls}: got {got}, and not {wanted}", file=sys.stderr)
-    return len(rows) - wrong, wrong
-
-
-def look():
-    """Whether the page has the part."""
-    before, held, behind = page()
-    if held == part() or held + "\n" == part():
-        return 1, 0
-    print("docs/PROTOCOL.md differs from the table: clients/differences.py --write", file=sys.stderr)
-    return 0, 1
+        answers = pool.map(lambda row: answer(words, row[0]), rows)
+        for (calls, wanted), got in zip(rows, answers):
+            check.same(f"{program}, {calls}", got, wanted)
 
 
 def main():
+    words = Words(__doc__)
+    told = words.add_mutually_exclusive_group()
+    told.add_argument("--check", action="store_true", help="look whether docs/PROTOCOL.md has it")
+    told.add_argument("--write", action="store_true", help="put it there")
+    asked = words.parse_args()
+    check = Check()
     found = release()
     with tempfile.TemporaryDirectory() as folder:
         os.environ["TMPDIR"] = folder
-        results = [compare("nvimd", NVIMD, 2)]
+        compare(check, "nvimd", [nvimd.program(), "embed"], 2)
         if found == RELEASE:
-            results.append(compare("Neovim", NEOVIM, 3))
+            compare(check, "Neovim", NEOVIM, 3)
+        elif found is None:
+            print("skipped: no nvim")
         else:
-            print("skipped: no nvim" if found is None else f"skipped: nvim is {found}, and the table is of {RELEASE}")
-    if "--write" in sys.argv:
-        before, _, behind = page()
+            print(f"skipped: nvim is {found}, and the table is of {RELEASE}")
+    before, held, after = page()
+    if asked.write:
         with open(PAGE, "w", encoding="utf-8") as file:
-            file.write(before + part() + behind)
-    elif "--check" in sys.argv:
-        results.append(look())
+            file.write(before + part() + after)
+    elif asked.check:
+        same = part() in (held, held + "\n")
+        check.same("docs/PROTOCOL.md has the table (or else --write)", same, True)
     else:
         print(part())
-    passed, failed = map(sum, zip(*results))
-    print(f"{passed} passed, {failed} failed")
-    return 1 if failed else 0
+    return check.end()
 
 
 if __name__ == "__main__":
-    sys.exit(main())
+    run(main)

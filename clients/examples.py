@@ -1,8 +1,10 @@
-"""Calls and answers as docs/PROTOCOL.md and docs/rows write them: `nvim_buf_line_count(0)`, `[B1, nil]`.
+"""Calls and answers as docs/PROTOCOL.md and docs/rows write them: `nvim_buf_line_count(0)`, `[B1,
+nil]`.
 
-A value is JSON, with nil for null, and B1, W1000, T1 for handles; `bin"00ff"` is a binary, `ext5"00ff"` another ext value of type 5,
-and in a string `\\udcff` is the byte ff, which isn't UTF-8. A key of a map may be any value. `3*"ab"` is the string "ababab", and in a
-list `3*(0, 1)` stands for 0, 1, 0, 1, 0, 1.
+A value is JSON, with nil for null, and B1, W1000, T1 for handles; `bin"00ff"` is a binary,
+`ext5"00ff"` another ext value of type 5, and in a string `\\udcff` is the byte ff, which isn't
+UTF-8. A key of a map may be any value. `3*"ab"` is the string "ababab", and in a list `3*(0, 1)`
+stands for 0, 1, 0, 1, 0, 1.
 """
 
 import json
@@ -10,12 +12,16 @@ import re
 
 import msgpack
 
+from nvimd import values
+
 KINDS = {0: "B", 1: "W", 2: "T"}
 CALL = re.compile(r"(nvim_\w+)(\(.*\))( \[0\])?$", re.DOTALL)
 WORDS = {"nil": None, "null": None, "true": True, "false": False}
 TOKEN = re.compile(
-    r"""\s*(?:(?P<string>"(?:[^"\\]|\\.)*")|(?P<times>\d+)\*|(?P<float>-?\d+(?:\.\d+(?:[eE][-+]?\d+)?|[eE][-+]?\d+))|(?P<int>-?\d+)"""
-    r"""|(?P<handle>[BWT]-?\d+)\b|(?P<bin>bin"[0-9a-f]*")|ext(?P<kind>-?\d+)(?P<ext>"[0-9a-f]*")|(?P<word>[a-z]+)\b|(?P<sign>[][{}(),:]))"""
+    r"""\s*(?:(?P<string>"(?:[^"\\]|\\.)*")|(?P<times>\d+)\*"""
+    r"""|(?P<float>-?\d+(?:\.\d+(?:[eE][-+]?\d+)?|[eE][-+]?\d+))|(?P<int>-?\d+)"""
+    r"""|(?P<handle>[BWT]-?\d+)\b|(?P<bin>bin"[0-9a-f]*")|ext(?P<kind>-?\d+)(?P<ext>"[0-9a-f]*")"""
+    r"""|(?P<word>[a-z]+)\b|(?P<sign>[][{}(),:]))"""
 )
 
 
@@ -39,7 +45,11 @@ def handle(kind, held):
     """What an ext value is written as."""
     if kind in KINDS:
         number = whole(held)
-        if isinstance(number, int) and not isinstance(number, bool) and msgpack.packb(number) == held:
+        if (
+            isinstance(number, int)
+            and not isinstance(number, bool)
+            and msgpack.packb(number) == held
+        ):
             return Handle(KINDS[kind] + str(number))
     return Ext((kind, held))
 
@@ -61,7 +71,8 @@ def map_of(pairs):
 
 def text_of(string):
     """A string as JSON spells it, with `\\udcff` for a byte that isn't UTF-8."""
-    return re.sub("[\ud800-\udfff]", lambda found: f"\\u{ord(found[0]):04x}", json.dumps(string, ensure_ascii=False))
+    text = json.dumps(string, ensure_ascii=False)
+    return re.sub("[\ud800-\udfff]", lambda found: f"\\u{ord(found[0]):04x}", text)
 
 
 def written(value):
@@ -78,7 +89,8 @@ def written(value):
         return text_of(value)
     if isinstance(value, (dict, Pairs)):
         pairs = value.items() if isinstance(value, dict) else value
-        return f"{{{', '.join(f'{written(key)}: {written(held)}' for key, held in pairs)}}}"
+        parts = [f"{written(key)}: {written(held)}" for key, held in pairs]
+        return f"{{{', '.join(parts)}}}"
     if isinstance(value, (list, tuple)):
         return f"[{', '.join(map(written, value))}]"
     return json.dumps(value)
@@ -91,7 +103,9 @@ class Reader:
         self.text, self.at = text, at
 
     def fail(self, what):
-        raise Unwritten(f"{what} at column {self.at + 1}: {self.text[self.at : self.at + 30] or 'its end'}")
+        raise Unwritten(
+            f"{what} at column {self.at + 1}: {self.text[self.at : self.at + 30] or 'its end'}"
+        )
 
     def token(self):
         found = TOKEN.match(self.text, self.at)
@@ -222,15 +236,13 @@ def packed(value):
         return packed_ext(*value)
     if isinstance(value, (dict, Pairs)):
         pairs = list(value.items()) if isinstance(value, dict) else value
-        return msgpack.Packer().pack_map_header(len(pairs)) + b"".join(packed(key) + packed(held) for key, held in pairs)
+        parts = [packed(part) for pair in pairs for part in pair]
+        return msgpack.Packer().pack_map_header(len(pairs)) + b"".join(parts)
     if isinstance(value, (list, tuple)):
         return msgpack.Packer().pack_array_header(len(value)) + b"".join(map(packed, value))
-    return msgpack.packb(value, unicode_errors="surrogateescape")
+    return values.packed(value)
 
 
 def unpacker():
     """Reads values as they are written here."""
-    return msgpack.Unpacker(
-        raw=False, unicode_errors="surrogateescape", strict_map_key=False, max_buffer_size=0, ext_hook=handle,
-        object_pairs_hook=map_of,
-    )
+    return values.unpacker(handle, most=0, object_pairs_hook=map_of)

@@ -1,65 +1,33 @@
 #!/usr/bin/python3
-"""Follows two buffers by their events with pynvim over a child process: a copy of each text is kept in step through a
-thousand seeded edits, undos, redos and calls in one, and compared with nvim_buf_get_lines after each. Now and then a
-copy is given up and taken again, with the lines or with the changedtick alone.
-
-Usage: clients/follow.py [SEED]     from anywhere; it starts the launcher `nvimd` at the top of the repository.
-Wants Debian's python3-pynvim.
+"""Follows two buffers by their events with pynvim over a child process: a copy of each text is kept
+in step through a thousand seeded edits, undos, redos and calls in one, and compared with
+nvim_buf_get_lines after each. Now and then a copy is given up and taken again, with the lines or
+with the changedtick alone. Wants Debian's python3-pynvim.
 """
 
-import os
 import random
-import signal
-import sys
 
 import pynvim
 
-TOP = os.path.dirname(os.path.dirname(os.path.abspath(__file__)))
+import nvimd
+from check import Check, run, seeded
+
+
 STEPS = 1_000
 MOST_SECONDS = 600
 
 
-class Copy:
-    """What a follower knows of one buffer: nothing, or its changedtick, and its lines where they were sent."""
-
-    def __init__(self):
-        self.tick = None
-        self.lines = None
-
-    def take(self, name, tick=None, first=None, last=None, lines=None, more=None):
-        """One event of the buffer, with what stands behind its handle."""
-        if name == "nvim_buf_detach_event":
-            self.tick = self.lines = None
-            return
-        self.tick = tick
-        if name == "nvim_buf_changedtick_event":
-            self.lines = None
-        elif last == -1:
-            self.lines = list(lines)
-        elif self.lines is not None:
-            assert 0 <= first <= last <= len(self.lines) and not more, (first, last, more)
-            self.lines[first:last] = lines
-
-
-class Check:
+class Copies(Check):
     """The program, and a copy of each of its two buffers."""
 
     def __init__(self, seed):
+        super().__init__()
         self.random = random.Random(seed)
-        self.nvim = pynvim.attach("child", argv=[os.path.join(TOP, "nvimd"), "embed"])
+        self.nvim = pynvim.attach("child", argv=[nvimd.program(), "embed"])
         first = self.nvim.current.buffer
         second = self.nvim.api.create_buf(True, False)
         self.buffers = {b.number: b for b in (first, second)}
-        self.copies = {n: Copy() for n in self.buffers}
-        self.passed = 0
-        self.failed = 0
-
-    def same(self, what, got, wanted):
-        if got == wanted:
-            self.passed += 1
-        else:
-            self.failed += 1
-            print(f"{what}: got {got}, not {wanted}", file=sys.stderr)
+        self.copies = {n: nvimd.Follower() for n in self.buffers}
 
     def events(self, count):
         """The next events, each taken by the copy of its buffer."""
@@ -75,12 +43,14 @@ class Check:
     def detach(self, number):
         self.same("detached", self.buffers[number].api.detach(), True)
         self.events(1)
-        self.same("nothing is known", (self.copies[number].tick, self.copies[number].lines), (None, None))
+        copy = self.copies[number]
+        self.same("nothing is known", (copy.tick, copy.lines), (None, None))
 
     def compare(self):
         """Takes the events up to now, and looks at each copy beside its buffer."""
         now = {number: buffer.api.get_changedtick() for number, buffer in self.buffers.items()}
-        self.events(sum(now[n] - copy.tick for n, copy in self.copies.items() if copy.tick is not None))
+        followed = {n: copy for n, copy in self.copies.items() if copy.tick is not None}
+        self.events(sum(now[n] - copy.tick for n, copy in followed.items()))
         for number, copy in self.copies.items():
             if copy.tick is not None:
                 self.same(f"changedtick of {number}", copy.tick, now[number])
@@ -88,13 +58,20 @@ class Check:
                 self.same(f"lines of {number}", copy.lines, self.buffers[number][:])
 
     def strings(self, most):
-        return ["".join(self.random.choices("abc é", k=self.random.randint(0, 6))) for _ in range(self.random.randint(0, most))]
+        count = self.random.randint(0, most)
+        return [self.string() for _ in range(count)]
+
+    def string(self):
+        return "".join(self.random.choices("abc é", k=self.random.randint(0, 6)))
 
     def edit_of(self, number, count):
         """An edit of a buffer of so many lines, as a method and its arguments."""
         if self.random.random() < 0.7:
             start, end = sorted((self.random.randint(0, count), self.random.randint(0, count)))
-            return ["nvim_buf_set_lines", [number, start, min(end, start + 4), True, self.strings(4)]]
+            return [
+                "nvim_buf_set_lines",
+                [number, start, min(end, start + 4), True, self.strings(4)],
+            ]
         start, end = sorted((self.random.randrange(count), self.random.randrange(count)))
         end = min(end, start + 3)
         return ["nvim_buf_set_text", [number, start, 0, end, -1, self.strings(3)]]
@@ -104,13 +81,17 @@ class Check:
         self.nvim.request(name, *arguments)
 
     def atomic(self):
-        """Edits of both buffers in one request: each is of line 0, which is always there; the last call is refused."""
-        calls = [
-            ["nvim_buf_set_lines", [self.random.choice(list(self.buffers)), 0, self.random.randint(0, 1), True, self.strings(2)]]
-            for _ in range(self.random.randint(1, 5))
-        ]
+        """Edits of both buffers in one request: each is of line 0, which is always there; the last
+        call is refused."""
+        calls = [["nvim_buf_set_lines", self.front()] for _ in range(self.random.randint(1, 5))]
         results, error = self.nvim.api.call_atomic(calls + [["nvim_nope", []]])
-        self.same("calls in one", (len(results), error), (len(calls), [len(calls), 0, "Invalid method: nvim_nope"]))
+        refusal = [len(calls), 0, "Invalid method: nvim_nope"]
+        self.same("calls in one", (len(results), error), (len(calls), refusal))
+
+    def front(self):
+        """The arguments of an edit of a buffer's first line."""
+        buffer = self.random.choice(list(self.buffers))
+        return [buffer, 0, self.random.randint(0, 1), True, self.strings(2)]
 
     def step(self):
         number = self.random.choice(list(self.buffers))
@@ -127,7 +108,7 @@ class Check:
         elif choice < 0.93:
             self.detach(number)
 
-    def end(self):
+    def last(self):
         """A deleted buffer is told of to whoever is attached, and attaching again says nothing."""
         for number, copy in self.copies.items():
             if copy.tick is None:
@@ -140,8 +121,7 @@ class Check:
 
 
 def main():
-    signal.alarm(MOST_SECONDS)
-    check = Check(int(sys.argv[1]) if len(sys.argv) > 1 else 1)
+    check = Copies(seeded(__doc__))
     for number in check.buffers:
         check.attach(number, True)
         for word in ("one", "two", "three"):
@@ -150,11 +130,10 @@ def main():
     for _ in range(STEPS):
         check.step()
         check.compare()
-    check.end()
+    check.last()
     check.nvim.close()
-    print(f"{check.passed} passed, {check.failed} failed")
-    return 1 if check.failed else 0
+    return check.end()
 
 
 if __name__ == "__main__":
-    sys.exit(main())
+    run(main, MOST_SECONDS)

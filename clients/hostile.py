@@ -1,34 +1,33 @@
 #!/usr/bin/python3
-"""Hostile sessions of `nvimd serve` beside honest ones, seeded: what the honest ones are sent is right all the time.
+"""Hostile sessions of `nvimd serve` beside honest ones, seeded: what the honest ones are sent is
+right all the time.
 
-Twenty honest sessions edit two shared texts and follow them, or change texts of their own. Beside them others send streams
-with wrong bytes at a random place, are killed in the middle of a message, read one byte now and then, open and close at once,
-begin values that never end, and let their outbox run over. Each of these ends as it must: closed by the server, or by
-itself. Behind it all the server has the descriptors that it had, and ends when it is asked to. The book that it recorded is
-right, by `nvimd replay --check`, and gives each honest session what its client read.
+Twenty honest sessions edit two shared texts and follow them, or change texts of their own. Beside
+them others send streams with wrong bytes at a random place, are killed in the middle of a message,
+read one byte now and then, open and close at once, begin values that never end, and let their
+outbox run over. Each of these ends as it must: closed by the server, or by itself. Behind it all
+the server has the descriptors that it had, and ends when it is asked to. The book that it recorded
+is right, by `nvimd replay --check`, and gives each honest session what its client read.
 
-Usage: clients/hostile.py [SEED] [--seeds N] [--seconds N]       from anywhere; it starts the launcher `nvimd`
-SEED is 1 without it, N seeds from it on are tried, one without `--seeds`, each for N seconds, 20 without `--seconds`.
 Wants Debian's python3-msgpack.
 """
 
-import argparse
 import os
 import random
 import select
 import socket
 import subprocess
-import sys
 import tempfile
 import threading
 import time
 
-import msgpack
+import nvimd
+from check import LONG, Check, Words, limit, run
+from crowd import SHARED, Editor, Owner, is_there, settled
+from held import Replayed, held_by_sessions
+from nvimd.session import socket_at
+from nvimd.values import packed
 
-from book import Replayed, held_by_sessions
-from crowd import SHARED, Editor, Findings, Owner, is_there, settled
-from rpc import LONG, Serve, limit
-from server import Ended, socket_at
 
 OUTBOX = 256
 PIECE = 1 << 16
@@ -56,10 +55,14 @@ class HonestOwner(Honest, Owner):
 def calls(draw):
     """A stream of calls as an honest session might make them."""
     names = [
-        ("nvim_buf_line_count", [1]), ("nvim_buf_get_lines", [2, 0, -1, False]), ("nvim_list_bufs", []),
-        ("nvim_create_namespace", ["hostile"]), ("nvim_buf_attach", [1, False, {}]), ("nvim_get_api_info", []),
+        ("nvim_buf_line_count", [1]),
+        ("nvim_buf_get_lines", [2, 0, -1, False]),
+        ("nvim_list_bufs", []),
+        ("nvim_create_namespace", ["hostile"]),
+        ("nvim_buf_attach", [1, False, {}]),
+        ("nvim_get_api_info", []),
     ]
-    return b"".join(msgpack.packb([0, n, *draw.choice(names)]) for n in range(draw.randint(1, 40)))
+    return b"".join(packed([0, n, *draw.choice(names)]) for n in range(draw.randint(1, 40)))
 
 
 def read_out(connection, seconds):
@@ -94,20 +97,20 @@ def ends(connection):
 class Hostile(threading.Thread):
     """Sessions of one kind, one after another, until the time is over."""
 
-    def __init__(self, server, findings, seed, until):
+    def __init__(self, server, check, seed, until):
         super().__init__(daemon=True)
-        self.server, self.findings, self.until = server, findings, until
+        self.server, self.check, self.until = server, check, until
         self.random = random.Random(f"{type(self).__name__} {seed}")
         self.count = 0
 
     def same(self, what, got, wanted):
-        self.findings.same(f"{type(self).__name__}: {what}", got, wanted)
+        self.check.same(f"{type(self).__name__}: {what}", got, wanted)
 
     def run(self):
         while time.monotonic() < self.until:
             try:
                 connection = socket_at(self.server.address)
-            except Ended as ended:
+            except nvimd.Ended as ended:
                 return self.same("its beginning", str(ended), "a connection")
             self.attempt(connection)
             connection.close()
@@ -129,9 +132,17 @@ class BadBytes(Hostile):
 class NoCalls(Hostile):
     """Values that are no calls, too deep, or too long."""
 
+    WRONG = [
+        b"\x91" * 65,
+        b"\xc6\xff\xff\xff\xff",
+        b"\xdd\x04\x00\x00\x01",
+        b"\xc0",
+        b"\x93\x00\x01\x02",
+        b"\x94\x01\x01\xc0\xc0",
+    ]
+
     def attempt(self, connection):
-        wrong = [b"\x91" * 65, b"\xc6\xff\xff\xff\xff", b"\xdd\x04\x00\x00\x01", b"\xc0", b"\x93\x00\x01\x02", b"\x94\x01\x01\xc0\xc0"]
-        sent(connection, calls(self.random) + self.random.choice(wrong))
+        sent(connection, calls(self.random) + self.random.choice(self.WRONG))
         self.same("closed", read_out(connection, PATIENCE), True)
 
 
@@ -139,7 +150,8 @@ class Unended(Hostile):
     """Begins a great value, gives it a little and leaves."""
 
     def attempt(self, connection):
-        sent(connection, b"\xdd\x03\xff\xff\xfb" + b"\x91" * self.random.randint(0, 60) + b"\x01" * self.random.randint(0, 5_000))
+        front = b"\x91" * self.random.randint(0, 60) + b"\x01" * self.random.randint(0, 5_000)
+        sent(connection, b"\xdd\x03\xff\xff\xfb" + front)
         time.sleep(self.random.random() / 2)
 
 
@@ -178,7 +190,7 @@ class Slow(Hostile):
 
     def attempt(self, connection):
         connection.setblocking(False)
-        many = msgpack.packb([0, 1, "nvim_get_api_info", []]) * 20
+        many = packed([0, 1, "nvim_get_api_info", []]) * 20
         until = min(self.until, time.monotonic() + 5)
         while time.monotonic() < until:
             try:
@@ -193,12 +205,13 @@ class Slow(Hostile):
 
 
 class Flooded(Hostile):
-    """Follows a text, reads nothing while another session of its own changes that text, and is closed."""
+    """Follows a text, reads nothing while another session of its own changes that text, and is
+    closed."""
 
     def attempt(self, connection):
-        other = self.server.client()
+        other = self.server.connect()
         number = other.call("nvim_create_buf", True, False)
-        sent(connection, msgpack.packb([0, 1, "nvim_buf_attach", [number, False, {}]]))
+        sent(connection, packed([0, 1, "nvim_buf_attach", [number, False, {}]]))
         while not select.select([connection], [], [], 0.1)[0]:
             pass
         line = "x" * 4_000
@@ -214,55 +227,58 @@ HONEST = [HonestEditor] * 12 + [HonestOwner] * 8
 HOSTILE = [BadBytes, BadBytes, NoCalls, Unended, OpenClose, Killed, Slow, Slow, Flooded]
 
 
-def beside(server, findings, seed, seconds):
-    """Honest and hostile sessions at once, for so many seconds. Answers what the honest clients read, by session."""
-    first = server.client()
+def beside(server, check, seed, seconds):
+    """Honest and hostile sessions at once, for so many seconds. Answers what the honest clients
+    read, by session."""
+    first = server.connect()
     is_there(first, SHARED[1])
     until = time.monotonic() + seconds
-    honest = [kind(server, findings, f"{seed} {n}", 0) for n, kind in enumerate(HONEST)]
+    honest = [kind(server, check, f"{seed} {n}", 0) for n, kind in enumerate(HONEST)]
     for part in honest:
         part.until = until
-    hostile = [kind(server, findings, f"{seed} {n}", until) for n, kind in enumerate(HOSTILE)]
+    hostile = [kind(server, check, f"{seed} {n}", until) for n, kind in enumerate(HOSTILE)]
     for part in honest + hostile:
         part.start()
     for part in honest + hostile:
         part.join(seconds + 2 * PATIENCE)
-        findings.same(f"{part.name} ended", part.is_alive(), False)
+        check.same(f"{part.name} ended", part.is_alive(), False)
     first.close()
     told = {}
     for part in hostile:
         told[type(part).__name__] = told.get(type(part).__name__, 0) + part.count
-    print(f"{sum(part.steps for part in honest)} steps of {len(honest)} honest sessions, beside", ", ".join(f"{n} {k}" for k, n in told.items()))
+    steps = sum(part.steps for part in honest)
+    others = ", ".join(f"{count} {kind}" for kind, count in told.items())
+    print(f"{steps} steps of {len(honest)} honest sessions, beside {others}")
     return {part.number_of_session: (bytes(part.session.kept), False) for part in honest}
 
 
-def attempt(findings, seed, seconds, path):
+def attempt(check, seed, seconds, path):
     """Hostile sessions beside honest ones for one seed, and what the book of it says."""
-    server = Serve("--sessions", "64", "--outbox", str(OUTBOX), "--book", path)
+    server = nvimd.Server("--sessions", "64", "--outbox", str(OUTBOX), book=path)
     at_first, memory = settled(server)
-    read = beside(server, findings, seed, seconds)
+    read = beside(server, check, seed, seconds)
     descriptors, later = settled(server)
-    findings.same("descriptors behind it", descriptors, at_first)
-    findings.same("status", server.quit(LONG), 0)
-    book = Replayed(findings, path)
-    held_by_sessions(findings, book, read)
-    print(f"{memory:.1f} MB before, {later:.1f} MB behind it; the book, {os.path.getsize(path) / 1e6:.1f} MB: {book.summary()}", end="")
+    check.same("descriptors behind it", descriptors, at_first)
+    check.same("status", server.quit(LONG), 0)
+    book = Replayed(check, path)
+    held_by_sessions(check, book, read)
+    size = f"the book, {os.path.getsize(path) / 1e6:.1f} MB"
+    print(f"{memory:.1f} MB before, {later:.1f} MB behind it; {size}: {book.summary()}", end="")
 
 
 def main():
-    words = argparse.ArgumentParser(description="Hostile sessions of a server beside honest ones.")
-    words.add_argument("seed", nargs="?", type=int, default=1)
-    words.add_argument("--seeds", type=int, default=1)
-    words.add_argument("--seconds", type=int, default=20)
+    words = Words(__doc__)
+    words.add_argument("seed", nargs="?", type=int, default=1, metavar="SEED")
+    words.add_argument("--seeds", type=int, default=1, metavar="N", help="how many, from SEED on")
+    words.add_argument("--seconds", type=int, default=20, metavar="N", help="of each seed")
     asked = words.parse_args()
     limit(asked.seeds * (asked.seconds + 10 * PATIENCE))
-    findings = Findings()
+    check = Check()
     for seed in range(asked.seed, asked.seed + asked.seeds):
         with tempfile.TemporaryDirectory() as folder:
-            attempt(findings, seed, asked.seconds, os.path.join(folder, "book"))
-    print(f"{findings.passed} passed, {findings.failed} failed")
-    return 1 if findings.failed else 0
+            attempt(check, seed, asked.seconds, os.path.join(folder, "book"))
+    return check.end()
 
 
 if __name__ == "__main__":
-    sys.exit(main())
+    run(main)

@@ -1,23 +1,29 @@
 #!/usr/bin/python3
-"""Follows the current buffer of a server by its events, and highlights words as others type them, each by an extmark. It ends at a
-line with `.` alone, and then compares the marks with the words of the text: the status is 0 where they are the same.
-
-Usage: clients/marker.py SOCKET
-Wants Debian's python3-pynvim.
+"""Follows the current buffer of a server by its events, and highlights words as others type them,
+each by an extmark. It ends at a line with `.` alone, and then compares the marks with the words of
+the text: the status is 0 where they are the same. Wants Debian's python3-pynvim.
 """
 
 import re
-import sys
 
-import pynvim
+import nvimd
+from check import run
+from nvimd.command import Words
+from typist import attached
 
-from follow import Copy
 
-GROUPS = {"Verb": {"fg": "#a0d890", "bold": True}, "Evil": {"fg": "#1e2029", "bg": "#f0b070"}, "Small": {"fg": "#8a90a0", "italic": True}}
-WORDS = {
-    "Verb": r"be|suffer|take|die|sleep|say|end", "Evil": r"slings|arrows|troubles|heart-ache|shocks", "Small": r"to|or|not|and|the|by|a|of",
+GROUPS = {
+    "Verb": {"fg": "#a0d890", "bold": True},
+    "Evil": {"fg": "#1e2029", "bg": "#f0b070"},
+    "Small": {"fg": "#8a90a0", "italic": True},
 }
-PATTERN = re.compile("|".join(f"(?P<{group}>\\b(?:{words})\\b)" for group, words in WORDS.items()), re.IGNORECASE)
+WORDS = {
+    "Verb": r"be|suffer|take|die|sleep|say|end",
+    "Evil": r"slings|arrows|troubles|heart-ache|shocks",
+    "Small": r"to|or|not|and|the|by|a|of",
+}
+PARTS = [f"(?P<{group}>\\b(?:{words})\\b)" for group, words in WORDS.items()]
+PATTERN = re.compile("|".join(PARTS), re.IGNORECASE)
 
 
 def words_in(row, line):
@@ -31,10 +37,10 @@ class Marker:
     """A session that keeps a copy of a buffer, and a mark on each word of it."""
 
     def __init__(self, path):
-        self.nvim = pynvim.attach("socket", path=path)
+        self.nvim = attached(path)
         self.buffer = self.nvim.current.buffer
         self.space = self.nvim.api.create_namespace("marker")
-        self.copy = Copy()
+        self.copy = nvimd.Follower()
         for name, held in GROUPS.items():
             self.nvim.api.set_hl(0, name, held)
         self.buffer.api.attach(True, {})
@@ -42,10 +48,9 @@ class Marker:
     def hear(self):
         """Takes the next event, and marks the lines that it brings anew."""
         _, name, (buffer, *told) = self.nvim.next_message()
-        self.copy.take(name, *told)
-        if name == "nvim_buf_lines_event":
-            first, lines = told[1], told[3]
-            for row in range(first, first + len(lines)):
+        change = self.copy.take(name, *told)
+        if change:
+            for row in range(change.first, change.first + len(change.lines)):
                 self.mark(row)
 
     def mark(self, row):
@@ -57,15 +62,20 @@ class Marker:
 
     def marks(self):
         """The marks as the server has them, like `words_in`."""
-        for _, row, start, held in self.buffer.api.get_extmarks(self.space, 0, -1, {"details": True}):
+        for _, row, start, held in self.buffer.api.get_extmarks(
+            self.space, 0, -1, {"details": True}
+        ):
             yield row, start, held["end_col"], held["hl_group"]
 
 
 def main():
-    marker = Marker(sys.argv[1])
+    words = Words(__doc__)
+    words.add_argument("socket", metavar="SOCKET")
+    marker = Marker(words.parse_args().socket)
     while marker.copy.lines is None or "." not in marker.copy.lines:
         marker.hear()
-    wanted = [word for row, line in enumerate(marker.copy.lines) for word in words_in(row, line)]
+    rows = enumerate(marker.copy.lines)
+    wanted = [word for row, line in rows for word in words_in(row, line)]
     found = list(marker.marks())
     print(f"marker: {len(found)} words are marked, of {len(wanted)}")
     marker.nvim.close()
@@ -73,4 +83,4 @@ def main():
 
 
 if __name__ == "__main__":
-    sys.exit(main())
+    run(main)

@@ -1,42 +1,46 @@
 #!/usr/bin/python3
-"""Looks at the pictures of clients/picture.py cell by cell: each has the background and the text's colour of the screen that a
-client of its own folds, and a text where that has one. The same screen gives the same bytes, whether from a child, a socket, a
-book or what `replay` writes of one; and what can't be drawn is named in one line.
+"""Looks at the pictures of clients/picture.py cell by cell: each has the background and the text's
+colour of the screen that a client of its own folds, and a text where that has one. The same screen
+gives the same bytes, whether from a child, a socket, a book or what `replay` writes of one; and
+what can't be drawn is named in one line.
 
-Usage: clients/picture_check.py [PROGRAM]     from anywhere; without a program it is the launcher `nvimd` at the top.
 Wants Debian's python3-msgpack, python3-pil and fonts-dejavu-core.
 """
 
 import os
 import subprocess
-import sys
 import tempfile
 
-import msgpack
 from PIL import Image
 
-from picture import answered, screen_of_server
-from scenes import CLIENTS, FIRST, FLAGS, SECOND, TOP, Bridge, Check, flags_in, write_calls
-from server import Server
-from ui import Ui, calls_in
+import nvimd
+from check import CLIENTS, DOCS, Words, run
+from nvimd.screen import OPTIONS
+from nvimd.values import packed
+from picture import screen_of_server
+from scenes import FIRST, FLAGS, SECOND, Bridge, Scenes, flags_in, write_calls
+from ui import calls_in
+
 
 SIZES = [(80, 24), (33, 9)]
 README_SIZE = (72, 18)
 SEEN = 0.4  # of the way from the background to the text's colour, in some pixel of each text
 
 
-def colours_in(grid, row, col):
-    """The text's colour and the background of a cell, as the documentation of the redraw events says; the cursor is a block."""
-    attribute = grid.attributes[grid.rows[row][col][1]]
-    text = attribute.get("foreground", grid.colours[0])
-    behind = attribute.get("background", grid.colours[1])
-    if bool(attribute.get("reverse")) != (grid.cursor == (row, col)):
+def colours_in(screen, row, col):
+    """The text's colour and the background of a cell, as the documentation of the redraw events
+    says; the cursor is a block."""
+    attribute = screen.at(row, col).attribute
+    text = attribute.get("foreground", screen.colours[0])
+    behind = attribute.get("background", screen.colours[1])
+    if bool(attribute.get("reverse")) != (screen.cursor == (row, col)):
         text, behind = behind, text
     return text.to_bytes(3, "big"), behind.to_bytes(3, "big")
 
 
 def share(pixel, text, behind):
-    """How far a pixel is from the background to the text's colour, 0 to 1; None for one that isn't between."""
+    """How far a pixel is from the background to the text's colour, 0 to 1; None for one that isn't
+    between."""
     if not all(min(a, b) <= p <= max(a, b) for p, a, b in zip(pixel, text, behind)):
         return None
     whole = sum(abs(a - b) for a, b in zip(text, behind))
@@ -55,57 +59,44 @@ def wrong_in(pixels, text, behind, is_seen):
     return None
 
 
-def wrong_cells(path, grid):
+def wrong_cells(path, screen):
     """The cells of a picture that don't show the screen."""
     with Image.open(path) as image:
-        columns, rows = image.width // grid.width, image.height // grid.height
-        wrong = [] if (columns * grid.width, rows * grid.height) == image.size else [f"size {image.size}"]
-        for row in range(grid.height):
-            for col in range(grid.width):
-                text, number = grid.rows[row][col]
+        columns, rows = image.width // screen.width, image.height // screen.height
+        is_sized = (columns * screen.width, rows * screen.height) == image.size
+        wrong = [] if is_sized else [f"size {image.size}"]
+        for row in range(screen.height):
+            for col in range(screen.width):
+                text, attribute = screen.at(row, col)
                 if text == "":
                     continue
-                wide = col + 1 < grid.width and grid.rows[row][col + 1][0] == ""
+                wide = col + 1 < screen.width and screen.at(row, col + 1).text == ""
                 box = (col * columns, row * rows, (col + 1 + wide) * columns, (row + 1) * rows)
-                attribute = grid.attributes[number]
-                is_seen = bool(text.strip() or attribute.get("underline") or attribute.get("strikethrough"))
-                found = wrong_in(list(image.crop(box).getdata()), *colours_in(grid, row, col), is_seen)
+                is_lined = attribute.get("underline") or attribute.get("strikethrough")
+                pixels = list(image.crop(box).getdata())
+                colours = colours_in(screen, row, col)
+                found = wrong_in(pixels, *colours, bool(text.strip() or is_lined))
                 wrong += [f"row {row}, column {col}, {text!r}: {found}"] if found else []
     return wrong
 
 
-class Recorder(Server):
-    """A session whose bytes are kept."""
-
-    def __init__(self, words):
-        super().__init__(words)
-        self.kept = []
-
-    def piece(self):
-        self.kept.append(super().piece())
-        return self.kept[-1]
-
-
-def recorded(words, size, calls):
-    """What a session of these calls was sent behind each: name, parameters, pieces."""
-    server = Recorder(words)
-    ui = Ui(server)
-    ui.attach("a screen", *size)
-    entries = [("nvim_ui_attach", [*size, {"ext_linegrid": True, "rgb": True}])]
+def recorded(size, calls):
+    """What a session of these calls was sent behind each: name, parameters, two pieces."""
+    entries = [("nvim_ui_attach", [*size, OPTIONS]), *calls, ("nvim_list_uis", [])]
     told = []
-    for name, params in [*calls, ("nvim_list_uis", [])]:
-        answered(ui)
-        ui.ask(name, name, *params)
-        entries.append((name, params))
-        told.append(server.kept)
-        server.kept = []
-    answered(ui)
-    server.close()
-    return [(*entry, pieces) for entry, pieces in zip(entries, [*told, server.kept])]
+    with nvimd.start() as session:
+        for name, params in entries:
+            session.kept = bytearray()
+            session.call(name, *params)
+            session.call("nvim_strwidth", "")  # what is drawn comes before its reply
+            half = len(session.kept) // 2
+            told.append((name, params, [bytes(session.kept[:half]), bytes(session.kept[half:])]))
+    return told
 
 
 class Book:
-    """A book of one session beside another one, which is sent something that is no screen; and what `replay` writes of it."""
+    """A book of one session beside another one, which is sent something that is no screen; and what
+    `replay` writes of it."""
 
     def __init__(self, entries):
         self.values = [["nvimd-book", 1, 4096], ["o", 0], ["o", 1]]
@@ -114,25 +105,36 @@ class Book:
         self.entry_of = []  # the entry of the book that is the taking behind each call
         for msgid, (name, params, pieces) in enumerate(entries, 1):
             number += 4
-            self.values += [["r", 0, 1, 7, "nvim_nope", []], ["t", 0, 1, 1], b"\x94\x01\x07\xc0\xc0"]
+            self.values += [
+                ["r", 0, 1, 7, "nvim_nope", []],
+                ["t", 0, 1, 1],
+                b"\x94\x01\x07\xc0\xc0",
+            ]
             self.values += [["r", 1, 2, msgid, name, params], ["t", 1, 2, len(pieces)], *pieces]
-            self.replayed += [[number - 3, 1, b"\x94\x01\x07\xc0\xc0"], *[[number - 1, 2, piece] for piece in pieces]]
+            self.replayed += [[number - 3, 1, b"\x94\x01\x07\xc0\xc0"]]
+            self.replayed += [[number - 1, 2, piece] for piece in pieces]
             self.entry_of.append(number - 1)
         self.values += [["c", 0, 1], ["end", number + 1]]
 
     def write(self, path, values):
         with open(path, "wb") as file:
-            file.write(b"".join(msgpack.packb(value) for value in values))
+            file.write(b"".join(packed(value) for value in values))
         return path
 
 
-class Pictures(Check):
+def ran_picture(*words):
+    """A run of picture.py to its end."""
+    command = [os.path.join(CLIENTS, "picture.py"), *words]
+    return subprocess.run(command, capture_output=True, text=True)
+
+
+class Pictures(Scenes):
     """What pictures the program's screens make."""
 
     def run(self, name, *words):
         """A picture: its path; the program's status and lines are kept."""
         path = self.path(name)
-        ran = subprocess.run([os.path.join(CLIENTS, "picture.py"), *words[:-1], path, *words[-1]], capture_output=True, text=True)
+        ran = ran_picture(*words[:-1], path, *words[-1])
         self.said = (ran.returncode, ran.stdout + ran.stderr)
         return path
 
@@ -146,33 +148,44 @@ class Pictures(Check):
     def cells(self):
         """Pictures of two sizes and moments, over a child and over a socket."""
         first = write_calls(self.path("first"), FIRST)
-        bridge = Bridge([self.program, "embed"], self.path("socket"))
+        bridge = Bridge(self.embed, self.path("socket"))
         for size in SIZES:
             word = "{}x{}".format(*size)
-            for name, path, calls in [("early", first, FIRST), ("late", self.calls, FIRST + SECOND)]:
+            for name, path, calls in [
+                ("early", first, FIRST),
+                ("late", self.calls, FIRST + SECOND),
+            ]:
                 made = [
-                    self.picture(f"{name} {word} {number}", "--size", word, "--calls", path, words)
-                    for number, words in enumerate([self.child, [bridge.address]])
+                    self.picture(f"{name} {word} {n}", "--size", word, "--calls", path, words)
+                    for n, words in enumerate([self.child, [bridge.address]])
                 ]
                 self.same(f"{name} {word}: the same bytes", len(set(made)), 1)
-                grid = screen_of_server(self.child, size, [(call, call, *params) for call, params in calls])
-                self.same(f"{name} {word}: flags that are shown", flags_in(grid), FLAGS)
-                self.same(f"{name} {word}: cells that are wrong", wrong_cells(self.path(f"{name} {word} 0"), grid), [])
+                named = [(call, call, *params) for call, params in calls]
+                screen = screen_of_server([], self.embed, size, named)
+                self.same(f"{name} {word}: flags that are shown", flags_in(screen), FLAGS)
+                wrong = wrong_cells(self.path(f"{name} {word} 0"), screen)
+                self.same(f"{name} {word}: cells that are wrong", wrong, [])
 
     def readme(self):
         """The picture of README.md is that of docs/picture.calls."""
-        grid = screen_of_server(self.child, README_SIZE, calls_in(os.path.join(TOP, "docs", "picture.calls")))
-        self.same("docs/picture.png: cells that are wrong", wrong_cells(os.path.join(TOP, "docs", "picture.png"), grid), [])
+        calls = calls_in(os.path.join(DOCS, "picture.calls"))
+        screen = screen_of_server([], self.embed, README_SIZE, calls)
+        wrong = wrong_cells(os.path.join(DOCS, "picture.png"), screen)
+        self.same("docs/picture.png: cells that are wrong", wrong, [])
 
     def books(self):
         """The pictures of a book, and of what `replay` writes of it, are those of the server."""
-        entries = recorded(self.child, SIZES[0], FIRST + SECOND)
-        book = Book(entries)
-        files = [book.write(self.path("book"), book.values), book.write(self.path("replayed"), book.replayed)]
+        book = Book(recorded(SIZES[0], FIRST + SECOND))
+        pairs = [("book", book.values), ("replayed", book.replayed)]
+        files = [book.write(self.path(name), values) for name, values in pairs]
         word = "{}x{}".format(*SIZES[0])
         early = str(book.entry_of[len(FIRST)])
         for number, path in enumerate(files):
-            for name, words in [("late", []), ("late", ["--session", "2"]), ("early", ["--entry", early])]:
+            for name, words in [
+                ("late", []),
+                ("late", ["--session", "2"]),
+                ("early", ["--entry", early]),
+            ]:
                 made = self.picture(f"book {number} {name}", "--book", path, *words, [])
                 with open(self.path(f"{name} {word} 0"), "rb") as file:
                     self.same(f"{name} of {path}", made == file.read(), True)
@@ -181,22 +194,26 @@ class Pictures(Check):
     def bad_books(self, path, replayed, book):
         with open(path, "rb") as file:
             data = file.read()
-        last = len(msgpack.packb(book.values[-1]))
-        cut = [(f"cut at {at}", data[:at], "is cut: the value at byte") for at in (0, 5, len(data) // 2, len(data) - 1, len(data) - last)]
+        last = len(packed(book.values[-1]))
+        places = (0, 5, len(data) // 2, len(data) - 1, len(data) - last)
+        cut = [(f"cut at {at}", data[:at], "is cut: the value at byte") for at in places]
+        begun = packed(book.values[0])
         wrong = [
             ("no list", b"\x01", "is no book"),
             ("more", data + b"\x01", "is no book"),
-            ("no piece", b"".join(map(msgpack.packb, [book.values[0], ["t", 0, 1, 1], ["c", 0, 1]])), "is no book"),
-            ("another end", b"".join(map(msgpack.packb, [book.values[0], ["end", 1]])), "is no book"),
+            ("no piece", begun + packed(["t", 0, 1, 1]) + packed(["c", 0, 1]), "is no book"),
+            ("another end", begun + packed(["end", 1]), "is no book"),
             ("no bytes", b"\xc1", "is no book"),
-            ("no screen", b"".join(map(msgpack.packb, [book.values[0], ["end", 0]])), "no screen in"),
+            ("no screen", begun + packed(["end", 0]), "no screen in"),
         ]
         for name, held, words in cut + wrong:
             with open(self.path("bad"), "wb") as file:
                 file.write(held)
             self.refused(name, words, "--book", self.path("bad"), [])
         self.refused("no book", "no book in /nowhere", "--book", "/nowhere", [])
-        self.refused("no session", "no screen of session 1", "--book", replayed, "--session", "1", [])
+        self.refused(
+            "no session", "no screen of session 1", "--book", replayed, "--session", "1", []
+        )
 
     def refused(self, what, words, *given):
         """It ends with one line that holds these words, and makes no picture."""
@@ -205,30 +222,34 @@ class Pictures(Check):
         if made:
             os.remove(path)
         status, said = self.said
-        is_right = status != 0 and said.count("\n") == 1 and said.startswith("picture: ") and words in said
+        is_line = said.count("\n") == 1 and said.startswith("picture: ")
+        is_right = status != 0 and is_line and words in said
         self.same(f"{what}: {self.said}", (is_right, made), (True, False))
 
     def bad_words(self):
         nope = write_calls(self.path("nope"), [["nvim_nope", []]])
         self.refused("no server", "no server at /nowhere/socket", ["/nowhere/socket"])
         self.refused("a size", "80 is no size", "--size", "80", self.child)
-        self.refused("a small one", "a screen of 40 by 2: Not enough room", "--size", "40x2", self.child)
+        self.refused(
+            "a small one", "a screen of 40 by 2: Not enough room", "--size", "40x2", self.child
+        )
         self.refused("a call", f"line 1 of {nope}, nvim_nope: ", "--calls", nope, self.child)
         self.refused("an end", "ended at byte 0", ["--", "true"])
-        bridge = Bridge([self.program, "embed"], most=100)
+        bridge = Bridge(self.embed, most=100)
         self.refused("a cut", "inside a message", [bridge.address])
-        ran = subprocess.run([os.path.join(CLIENTS, "picture.py"), "/nowhere/picture", *self.child], capture_output=True, text=True)
-        self.same("no folder", (ran.returncode, ran.stderr), (1, "picture: no picture in /nowhere/picture: No such file or directory\n"))
+        ran = ran_picture("/nowhere/picture", *self.child)
+        said = "picture: no picture in /nowhere/picture: No such file or directory\n"
+        self.same("no folder", (ran.returncode, ran.stderr), (1, said))
 
 
 def main():
-    program = sys.argv[1] if len(sys.argv) > 1 else os.path.join(TOP, "nvimd")
+    Words(__doc__).parse_args()
     with tempfile.TemporaryDirectory() as folder:
-        check = Pictures(program, folder)
+        check = Pictures(folder)
         for part in (check.cells, check.readme, check.books, check.bad_words):
             part()
     return check.end()
 
 
 if __name__ == "__main__":
-    sys.exit(main())
+    run(main)

@@ -1,25 +1,23 @@
 #!/usr/bin/python3
-"""Holds docs/PROTOCOL.md against the program: its methods are those that the program answers, each with the parameters and the
-type of result that nvim_get_api_info tells; each example of calls gives what stands behind it, is refused by it, tells these
-events, or draws this batch; each example of a message, an input or a book is answered by the messages, or by the status and the
-line, that stand behind it; and the limits that some thousand calls reach are where the page has them.
+"""Holds docs/PROTOCOL.md against the program: its methods are those that the program answers, each
+with the parameters and the type of result that nvim_get_api_info tells; each example of calls gives
+what stands behind it, is refused by it, tells these events, or draws this batch; each example of a
+message, an input or a book is answered by the messages, or by the status and the line, that stand
+behind it; and the limits that some thousand calls reach are where the page has them.
 
-Each method, fault, event and status must have an example.
-
-Usage: clients/protocol.py     from anywhere; it starts the launcher `nvimd` at the top of the repository.
-Wants Debian's python3-msgpack.
+Each method, fault, event and status must have an example. Wants Debian's python3-msgpack.
 """
 
 import os
 import re
 import subprocess
-import sys
 import tempfile
 
-import msgpack
-
+import nvimd
+from check import DOCS, Check, Words, finished, run
 from examples import calls_in, handle, value_in
-from rpc import LAUNCHER, TOP, finished
+from nvimd.values import packed, unpacker
+
 
 ENTRY = re.compile(r"\[`(nvim_\w+)`\]\([^)]*\)`\(([^)]*)\)` (\w+)")
 EXAMPLE = re.compile(r"`(nvim_\w+\([^`]*)` gives `([^`]*)`")
@@ -27,15 +25,19 @@ REFUSAL = re.compile(r"(?<!th )`(nvim_\w+\([^`]*)` is refused by `([^`]*)`")
 EVENT = re.compile(r"`(nvim_\w+\([^`]*)` tells `([^`]*)`")
 DRAWN = re.compile(r"`(nvim_\w+\([^`]*)` draws `([^`]*)`")
 MESSAGE = re.compile(r"`(\[[012], [^`]*)` is answered by (nothing|`([^`]*)`)")
-INPUT = re.compile(r"[Tt]he input `([0-9a-f ]*)`(?: (\d+) times)? ends? with status (\d)(?: and `([^`]*)`)?")
+INPUT = re.compile(
+    r"[Tt]he input `([0-9a-f ]*)`(?: (\d+) times)? ends? with status (\d)(?: and `([^`]*)`)?"
+)
 BOOK = re.compile(
-    r"[Tt]he book `([0-9a-f ]*)` (?:is replayed as `([0-9a-f ]*)`, and `--check` )?(?:says `([^`]*)`|ends with status (\d) and `([^`]*)`)"
+    r"[Tt]he book `([0-9a-f ]*)` (?:is replayed as `([0-9a-f ]*)`, and `--check` )?"
+    r"(?:says `([^`]*)`|ends with status (\d) and `([^`]*)`)"
 )
 FAULT = re.compile(r"^\| (\d+) \| \d \| .* \|$", re.MULTILINE)
 STATUS = re.compile(r"^\| (\d) \| [^|]* \| (?:`nvimd: |none)", re.MULTILINE)
 LIMIT = re.compile(r"^\| ([^|]*) \| ([\d,]+)[^|]* \| [^|]* \|$", re.MULTILINE)
 
-# limits that are soon reached: the call that reaches them, how many are there at first, and what refuses it then
+# limits that are soon reached: the call that reaches them, how many are there at first, and what
+# refuses it then
 LIMITS = {
     "live buffers": ("nvim_create_buf(true, false)", 1, [0, "Limit reached"]),
     "namespaces": ('nvim_create_namespace("")', 0, [0, "Limit reached"]),
@@ -45,20 +47,26 @@ LIMITS = {
 def ran(data, *words):
     """What the program writes for an input, and its status and what it says."""
     written, status, line = finished("embed", *words, data=data)
-    found = msgpack.Unpacker(raw=False, ext_hook=handle, max_buffer_size=0)
+    found = unpacker(handle, most=0)
     found.feed(written)
     return list(found), status, line
 
 
+def requests(calls):
+    """The bytes of calls, numbered from 0."""
+    return b"".join(packed([0, n, name, params]) for n, (name, params) in enumerate(calls))
+
+
 def session(calls):
     """What a session of these calls is sent, handles written as B1, W1000, T1."""
-    messages, status, line = ran(b"".join(msgpack.packb([0, n, name, params]) for n, (name, params) in enumerate(calls)))
+    messages, status, line = ran(requests(calls))
     assert (status, line) == (0, ""), (status, line)
     return messages
 
 
 def replies(calls):
-    """The replies to calls of one session, each `(error, result)`; events may stand between them."""
+    """The replies to calls of one session, each `(error, result)`; events may stand between
+    them."""
     given = [(message[2], message[3]) for message in session(calls) if message[0] == 1]
     assert len(given) == len(calls), (len(given), len(calls))
     return given
@@ -81,21 +89,15 @@ def events(calls):
     return told
 
 
-class Page:
-    """docs/PROTOCOL.md, each paragraph in one line, and what is wrong with it."""
+class Page(Check):
+    """docs/PROTOCOL.md, each paragraph in one line."""
 
     def __init__(self):
-        with open(os.path.join(TOP, "docs", "PROTOCOL.md"), encoding="utf-8") as file:
+        super().__init__()
+        with open(os.path.join(DOCS, "PROTOCOL.md"), encoding="utf-8") as file:
             self.text = file.read().partition("\n### Call by call\n")[0]
         self.lines = re.sub(r"\s*\n\s+", " ", self.text)
-        self.entries = {name: (parameters, result) for name, parameters, result in ENTRY.findall(self.lines)}
-        self.wrong = []
-        self.count = 0
-
-    def same(self, what, got, wanted):
-        self.count += 1
-        if got != wanted:
-            self.wrong.append(f"{what}: {got}, and not {wanted}")
+        self.entries = {name: (words, result) for name, words, result in ENTRY.findall(self.lines)}
 
     def methods(self):
         """Each method that the program has stands here, as the program tells it, and no other."""
@@ -103,15 +105,20 @@ class Page:
         functions = {f["name"]: f for f in metadata["functions"]}
         refused = [f"Invalid method: {name}" for name in functions]
         for name, (error, _) in zip(functions, replies([(name, ["?"] * 9) for name in functions])):
-            self.same(f"{name} is answered", error is None or error[1] not in refused, name in self.entries)
+            self.same(
+                f"{name} is answered",
+                error is None or error[1] not in refused,
+                name in self.entries,
+            )
         for name, entry in self.entries.items():
             told = functions.get(name, {"parameters": [], "return_type": None})
             parameters = ", ".join(f"{kind} {word}" for kind, word in told["parameters"])
             self.same(f"{name}: parameters and result", entry, (parameters, told["return_type"]))
         for event in metadata["ui_events"]:
             found = re.search(rf"`{event['name']}\(([^`]*)\)`", self.lines)
-            parameters = [word for word in (found.group(1) if found else "").split(", ") if word]
-            self.same(f"{event['name']}: parameters", len(parameters) if found else None, len(event["parameters"]))
+            words = [word for word in (found.group(1) if found else "").split(", ") if word]
+            got = len(words) if found else None
+            self.same(f"{event['name']}: parameters", got, len(event["parameters"]))
 
     def examples(self):
         """Each example of calls; which methods and which faults have one."""
@@ -129,13 +136,15 @@ class Page:
             self.same(text, batch(calls_in(text)[0]), value_in(wanted))
         faults.update(re.findall(r"- (\d+): `nvim_[^`]*` is refused by", self.lines))
         faults.update(re.findall(r"- (\d+): the [\w,]+ `nvim_[^`]*` is refused by", self.lines))
-        self.same("methods without an example", [name for name in self.entries if name not in shown], [])
-        self.same("faults without an example", sorted(set(FAULT.findall(self.text)) - faults, key=int), [])
+        missing = [name for name in self.entries if name not in shown]
+        self.same("methods without an example", missing, [])
+        missing = sorted(set(FAULT.findall(self.text)) - faults, key=int)
+        self.same("faults without an example", missing, [])
 
     def messages(self):
         """Each example of a message and of an input."""
         for text, wanted, answer in MESSAGE.findall(self.lines):
-            self.same(text, ran(msgpack.packb(value_in(text)))[0], value_in(f"[{answer}]"))
+            self.same(text, ran(packed(value_in(text)))[0], value_in(f"[{answer}]"))
         shown = {"0"}
         for data, times, status, line in INPUT.findall(self.lines):
             shown.add(status)
@@ -147,7 +156,8 @@ class Page:
         shown.add(self.device("an input that is a folder", stdin="/"))
         shown.add(self.device("a full disk", stdout="/dev/full"))
         if "5" in told:
-            shown.add(self.device("an address in no folder", words=("serve", "--listen", "/nowhere/socket")))
+            words = ("serve", "--listen", "/nowhere/socket")
+            shown.add(self.device("an address in no folder", words=words))
         shown.add(self.overflow())
         # want of memory has no example
         self.same("statuses without an example", sorted(told - shown - {"1"}), [])
@@ -162,7 +172,9 @@ class Page:
                 file.write(bytes.fromhex(data))
                 file.flush()
                 wanted = (f"{said}\n".encode() if said else b"", int(status or 0), line)
-                self.same(f"the book {data}, checked", finished("replay", file.name, "--check"), wanted)
+                self.same(
+                    f"the book {data}, checked", finished("replay", file.name, "--check"), wanted
+                )
                 wanted = (bytes.fromhex(replayed), 0, "") if replayed else wanted
                 self.same(f"the book {data}", finished("replay", file.name), wanted)
                 shown.add(status)
@@ -170,32 +182,36 @@ class Page:
         return shown
 
     def device(self, what, words=("embed",), stdin=None, stdout="/dev/null"):
-        """A status that comes for these words and devices; its line must stand beside it in the page."""
-        call = msgpack.packb([0, 1, "nvim_list_bufs", []])
+        """A status that comes for these words and devices; its line must stand beside it in the
+        page."""
+        call = packed([0, 1, "nvim_list_bufs", []])
         source = os.open(stdin, os.O_RDONLY) if stdin else None
         with open(stdout, "wb") as file:
             given = {"stdin": source} if stdin else {"input": call}
-            done = subprocess.run([LAUNCHER, *words], **given, stdout=file, stderr=subprocess.PIPE)
+            command = [nvimd.program(), *words]
+            done = subprocess.run(command, **given, stdout=file, stderr=subprocess.PIPE)
         if source is not None:
             os.close(source)
         line = done.stderr.decode().rstrip("\n")
-        row = re.search(rf"^\| {done.returncode} \| [^|]* \| `{re.escape(line)}` \|$", self.text, re.MULTILINE)
-        self.same(f"the status and the line of {what}", (done.returncode, line) if row is None else "there", "there")
+        form = rf"^\| {done.returncode} \| [^|]* \| `{re.escape(line)}` \|$"
+        got = "there" if re.search(form, self.text, re.MULTILINE) else (done.returncode, line)
+        self.same(f"the status and the line of {what}", got, "there")
         return str(done.returncode)
 
     def overflow(self):
         """A call that makes more due than an outbox holds."""
         edits = [["nvim_buf_set_lines", [0, 0, 0, True, ["a"]]]] * 17
         calls = [("nvim_buf_attach", [0, False, {}]), ("nvim_call_atomic", [edits])]
-        data = b"".join(msgpack.packb([0, n, name, params]) for n, (name, params) in enumerate(calls))
-        messages, status, line = ran(data, "--outbox", "16")
+        messages, status, line = ran(requests(calls), "--outbox", "16")
         self.same("messages of an overflow", len(messages), 2 + 16)
         self.same("an overflow", (status, line), (7, "nvimd: outbox overflow at entry 3"))
         return str(status)
 
     def limits(self):
         """Each limit that is soon reached."""
-        found = {name: int(number.replace(",", "")) for names, number in LIMIT.findall(self.text) for name in names.split(", ")}
+        found = {}
+        for names, number in LIMIT.findall(self.text):
+            found.update(dict.fromkeys(names.split(", "), int(number.replace(",", ""))))
         for name, (text, held, refusal) in LIMITS.items():
             (call,), _ = calls_in(text)
             count = found.get(name, 0) - held
@@ -204,16 +220,14 @@ class Page:
 
 
 def main():
+    Words(__doc__).parse_args()
     page = Page()
     page.methods()
     page.examples()
     page.messages()
     page.limits()
-    for line in page.wrong:
-        print(line, file=sys.stderr)
-    print(f"{page.count - len(page.wrong)} passed, {len(page.wrong)} failed")
-    return 1 if page.wrong else 0
+    return page.end()
 
 
 if __name__ == "__main__":
-    sys.exit(main())
+    run(main)

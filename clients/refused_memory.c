@@ -1,6 +1,7 @@
-/* Loaded into a program by LD_PRELOAD: refuses the call for memory of the number that REFUSE tells, from 1, and with REFUSE_ON=1 all behind
-   it too. Only calls that the program itself makes count, and not those of the C library. How many there were stands in the file COUNT_TO, a
-   number of the machine's own form. */
+/* Loaded into a program by LD_PRELOAD: refuses the call for memory of the number that REFUSE tells,
+   from 1, and with REFUSE_ON=1 all behind it too. Only calls that the program itself makes count,
+   and not those of the C library. How many there were stands in the file COUNT_TO, a number of the
+   machine's own form. */
 #define _GNU_SOURCE
 #include <errno.h>
 #include <fcntl.h>
@@ -63,7 +64,9 @@ void *calloc(size_t number, size_t size) { return REFUSED ? NULL : __libc_calloc
 
 void *realloc(void *old, size_t size) { return REFUSED ? NULL : __libc_realloc(old, size); }
 
-void *aligned_alloc(size_t align, size_t size) { return REFUSED ? NULL : __libc_memalign(align, size); }
+void *aligned_alloc(size_t align, size_t size) {
+    return REFUSED ? NULL : __libc_memalign(align, size);
+}
 
 void *memalign(size_t align, size_t size) { return REFUSED ? NULL : __libc_memalign(align, size); }
 

@@ -1,17 +1,16 @@
 #!/usr/bin/python3
 """Refuses each call for memory of `nvimd` in turn, one a run, and judges how the run ends.
 
-With `embed` a run ends with status 0 and all that it writes otherwise, or with status 1, the line that tells it and a front of that.
-With `serve` a session is sent all of it or a front, and the server goes on and serves the next session whole, or ends with status 1;
-where all calls behind one are refused too, it ends with status 1, or ends each session.
-Nothing hangs, and nothing ends by a signal.
+With `embed` a run ends with status 0 and all that it writes otherwise, or with status 1, the line
+that tells it and a front of that. With `serve` a session is sent all of it or a front, and the
+server goes on and serves the next session whole, or ends with status 1; where all calls behind one
+are refused too, it ends with status 1, or ends each session. Nothing hangs, and nothing ends by a
+signal.
 
-Usage: clients/refused_memory.py [--all] [--program FILE]    from anywhere; without --all it takes half a minute at most, and skips calls
-evenly where there are too many; with it no call is skipped, and each is also refused with all that come behind it.
-Wants Debian's python3-msgpack and gcc, whose work is the file of this name that ends in .c.
+It takes half a minute at most, and skips calls evenly where there are too many. Wants Debian's
+python3-msgpack and gcc, whose work is the file of this name that ends in .c.
 """
 
-import argparse
 import os
 import socket
 import subprocess
@@ -20,12 +19,12 @@ import tempfile
 import time
 from concurrent.futures import ThreadPoolExecutor
 
-import msgpack
+import nvimd
+from check import CLIENTS, Words, limit, run
+from nvimd.server import running
+from nvimd.values import packed, unpacker
 
-from rpc import LAUNCHER, TOP, limit, running
 
-HERE = os.path.dirname(os.path.abspath(__file__))
-BUILT = os.path.join(TOP, "crates", "nvimd", "out", "nvimd")
 LINE = b"nvimd: out of memory\n"
 PATIENCE = 30  # seconds that one run may take
 SECONDS = 26  # that all runs may take without --all
@@ -33,6 +32,8 @@ AT_ONCE = os.cpu_count() or 1
 
 COUNT = ("nvim_buf_line_count", [0])
 UI = {"ext_linegrid": True, "rgb": True}
+VIRTUAL = {"end_col": 2, "hl_group": "Word", "virt_text": [["note", "Word"]]}
+ATTACH = ["nvim_buf_attach", [0, False, {}]]
 STREAMS = {
     "a count of lines": [COUNT],
     "a text that is followed, changed and marked": [
@@ -53,25 +54,38 @@ STREAMS = {
         ("nvim_ui_attach", [30, 8, UI]),
         ("nvim_buf_set_lines", [0, 0, -1, True, ["one", "\ttwo", "\u4e09"]]),
         ("nvim_set_hl", [0, "Word", {"fg": "#102030", "bold": True}]),
-        ("nvim_buf_set_extmark", [0, 1, 0, 0, {"end_col": 2, "hl_group": "Word", "virt_text": [["note", "Word"]]}]),
+        ("nvim_buf_set_extmark", [0, 1, 0, 0, VIRTUAL]),
         ("nvim_win_set_cursor", [0, [2, 1]]),
         ("nvim_ui_try_resize", [24, 6]),
         ("nvim_ui_detach", []),
     ],
     "calls at once": [
-        ("nvim_call_atomic", [[["nvim_buf_attach", [0, False, {}]], *[["nvim_buf_set_lines", [0, n, n, True, [f"{n}"]]] for n in range(6)]]]),
-        ("nvim_call_atomic", [[["nvim_buf_get_lines", [0, 0, -1, True]], ["nvim_command", ["undo"]], ["nvim_no_such_call", []]]]),
+        (
+            "nvim_call_atomic",
+            [[ATTACH, *[["nvim_buf_set_lines", [0, n, n, True, [f"{n}"]]] for n in range(6)]]],
+        ),
+        (
+            "nvim_call_atomic",
+            [
+                [
+                    ["nvim_buf_get_lines", [0, 0, -1, True]],
+                    ["nvim_command", ["undo"]],
+                    ["nvim_no_such_call", []],
+                ]
+            ],
+        ),
         ("nvim_create_buf", [True, False]),
         ("nvim_list_bufs", []),
         ("nvim_get_api_info", []),
     ],
 }
-# What is sent of a screen is cut into batches as the threads of a server meet, so a front of it can't be told.
+# What is sent of a screen is cut into batches as the threads of a server meet, so a front of it
+# can't be told.
 VARYING = {"a screen"}
 
 
-def packed(calls):
-    return b"".join(msgpack.packb([0, msgid, name, params]) for msgid, (name, params) in enumerate(calls, 1))
+def requests(calls):
+    return b"".join(packed([0, msgid, *call]) for msgid, call in enumerate(calls, 1))
 
 
 class Trial:
@@ -79,22 +93,29 @@ class Trial:
 
     def __init__(self, program, shim, folder, name):
         self.program, self.shim, self.folder, self.name = program, shim, folder, name
-        self.stream = packed(STREAMS[name])
+        self.stream = requests(STREAMS[name])
         self.ends, self.findings = {}, []
 
     def environment(self, number, goes_on):
         count = os.path.join(self.folder, f"{number}-{goes_on:d}-{id(self)}")
-        words = {"LD_PRELOAD": self.shim, "REFUSE": str(number), "REFUSE_ON": f"{goes_on:d}", "COUNT_TO": count}
+        words = {
+            "LD_PRELOAD": self.shim,
+            "REFUSE": str(number),
+            "REFUSE_ON": f"{goes_on:d}",
+            "COUNT_TO": count,
+        }
         return {**os.environ, **words}, count
 
     def begin(self):
-        """The run in which nothing is refused: what it writes, and how many calls for memory there are."""
+        """The run in which nothing is refused: what it writes, and how many calls for memory there
+        are."""
         start = time.monotonic()
         environment, count = self.environment(0, False)
         status, self.whole, said = self.run(environment)
         self.seconds = time.monotonic() - start
         if status != 0 or said:
-            raise SystemExit(f"{self.name}, {self.command}: status {status} with all memory that it wants: {said!r}")
+            what = f"status {status} with all memory that it wants: {said!r}"
+            raise nvimd.Error(f"{self.name}, {self.command}: {what}")
         with open(count, "rb") as file:
             self.calls = int.from_bytes(file.read(), sys.byteorder)
 
@@ -106,7 +127,8 @@ class Trial:
             end = "hangs"
         self.ends[end] = self.ends.get(end, 0) + 1
         if end not in self.right:
-            self.findings.append(f"{self.name}, {self.command}: {end} where call {number}{' and all behind it are' if goes_on else ' is'} refused")
+            refused = f"call {number}{' and all behind it are' if goes_on else ' is'} refused"
+            self.findings.append(f"{self.name}, {self.command}: {end} where {refused}")
 
 
 class Embed(Trial):
@@ -114,7 +136,8 @@ class Embed(Trial):
     right = ("status 0 and whole", "status 1 and a front")
 
     def run(self, environment):
-        done = subprocess.run([self.program, "embed"], input=self.stream, capture_output=True, timeout=PATIENCE, env=environment)
+        given = {"input": self.stream, "capture_output": True, "timeout": PATIENCE}
+        done = subprocess.run([self.program, "embed"], **given, env=environment)
         return done.returncode, done.stdout, done.stderr
 
     def judged(self, status, out, said, _goes_on):
@@ -134,8 +157,8 @@ class Serve(Trial):
         "status 1 at the beginning",
         "each session is cut",
     )
-    next = packed([COUNT])
-    quit = packed([("nvim_command", ["qall!"])])
+    next = requests([COUNT])
+    quit = requests([("nvim_command", ["qall!"])])
 
     def over(self, address, stream, child):
         """What a session is sent that sends this; None where nobody listens."""
@@ -162,7 +185,8 @@ class Serve(Trial):
                 return got
 
     def end(self, address, child):
-        """Asks the server to end, more than once, since the session that asks may be the one that finds no memory."""
+        """Asks the server to end, more than once, since the session that asks may be the one that
+        finds no memory."""
         for _ in range(3):
             if self.over(address, self.quit, child) != b"":
                 child.wait(PATIENCE)
@@ -177,7 +201,8 @@ class Serve(Trial):
         with tempfile.TemporaryDirectory(dir=self.folder) as folder:
             address = os.path.join(folder, "socket")
             words = [self.program, "serve", "--sessions", "1", "--listen", address]
-            child = subprocess.Popen(words, stdin=subprocess.DEVNULL, stdout=subprocess.PIPE, stderr=subprocess.PIPE, env=environment)
+            pipes = {"stdout": subprocess.PIPE, "stderr": subprocess.PIPE}
+            child = subprocess.Popen(words, stdin=subprocess.DEVNULL, **pipes, env=environment)
             running.append(child)
             try:
                 sent = [self.over(address, stream, child) for stream in (self.stream, self.next)]
@@ -197,7 +222,7 @@ class Serve(Trial):
         """Whether all that is due to the first session is in what it was sent."""
         if self.name not in VARYING:
             return sent == self.whole
-        messages = msgpack.Unpacker(strict_map_key=False)
+        messages = unpacker()
         messages.feed(sent)
         return any(message[:2] == [1, len(STREAMS[self.name])] for message in messages)
 
@@ -207,7 +232,8 @@ class Serve(Trial):
             return "status 1 at the beginning"
         is_front = first is not None and (self.name in VARYING or self.whole.startswith(first))
         cuts = (first is None or not self.has_all(first)) + (not after)
-        if out == b"" and is_front and (not after or (len(after) == 5 and after.startswith(b"\x94\x01\x01\xc0"))):
+        is_next = not after or (len(after) == 5 and after.startswith(b"\x94\x01\x01\xc0"))
+        if out == b"" and is_front and is_next:
             if (status, said) == (1, LINE):
                 return "status 1 and a front"
             if (status, said, cuts) == (0, b"", 0):
@@ -216,22 +242,22 @@ class Serve(Trial):
                 return "each session is cut"
             if (status, said) == (0, b"") and (cuts == 1 or goes_on):
                 return "status 0 and a session cut"
-        return f"status {status}, {len(first or b'')} of {len(self.whole)} bytes and then {after!r}, {said!r}"
+        got = f"{len(first or b'')} of {len(self.whole)} bytes and then {after!r}"
+        return f"status {status}, {got}, {said!r}"
 
 
 def main():
-    words = argparse.ArgumentParser(add_help=False)
-    words.add_argument("--all", action="store_true")
-    words.add_argument("--program")
+    words = Words(__doc__)
+    told = "skip no call, and refuse each with all that come behind it too"
+    words.add_argument("--all", action="store_true", help=told)
     asked = words.parse_args()
     limit(3_600 if asked.all else 120)
-    if not asked.program:
-        subprocess.run([LAUNCHER, "embed"], stdin=subprocess.DEVNULL, check=True)
-    program = os.path.abspath(asked.program or BUILT)
+    program = nvimd.program()
     findings = []
     with tempfile.TemporaryDirectory(prefix="nvimd") as folder, ThreadPoolExecutor(AT_ONCE) as pool:
         shim = os.path.join(folder, "refused_memory.so")
-        subprocess.run(["cc", "-O2", "-shared", "-fPIC", "-o", shim, os.path.join(HERE, "refused_memory.c")], check=True)
+        source = os.path.join(CLIENTS, "refused_memory.c")
+        subprocess.run(["cc", "-O2", "-shared", "-fPIC", "-o", shim, source], check=True)
         trials = [kind(program, shim, folder, name) for name in STREAMS for kind in (Embed, Serve)]
         for trial in trials:
             trial.begin()
@@ -239,16 +265,19 @@ def main():
         step = 1 if asked.all else max(1, round(wanted / SECONDS + 0.5))
         for trial in trials:
             numbers = range(1, trial.calls + 1, step)
-            runs = [(number, goes_on) for number in numbers for goes_on in ((False, True) if asked.all else (False,))]
+            ways = (False, True) if asked.all else (False,)
+            runs = [(number, goes_on) for number in numbers for goes_on in ways]
             list(pool.map(lambda run: trial.refuse(*run), runs))
             ends = ", ".join(f"{end}: {count}" for end, count in sorted(trial.ends.items()))
-            print(f"{trial.name}, {trial.command}: {len(runs)} runs over {trial.calls} calls for memory: {ends}", flush=True)
+            told = f"{len(runs)} runs over {trial.calls} calls for memory: {ends}"
+            print(f"{trial.name}, {trial.command}: {told}", flush=True)
             findings += trial.findings
     for finding in findings[:20]:
         print(finding, file=sys.stderr)
     if findings:
-        raise SystemExit(f"{len(findings)} runs ended otherwise than they may")
+        raise nvimd.Error(f"{len(findings)} runs ended otherwise than they may")
+    return 0
 
 
 if __name__ == "__main__":
-    main()
+    run(main)

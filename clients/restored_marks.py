@@ -1,20 +1,18 @@
 #!/usr/bin/python3
-"""Moves a thousand ranges by two thousand random edits, undos and redos over a child process, beside a plain model in Python.
+"""Moves a thousand ranges by two thousand random edits, undos and redos over a child process,
+beside a plain model in Python.
 
-The model has the text as bytes, each change as the list of its splices, and each mark as two offsets; a splice goes over all
-marks. After each step all ranges are listed, now and then with their details, and compared with the model. None may have its end
-before its start: a range whose start goes along with text that is put there has an end that does so too. Some are set anew on
-the way, or removed, and some calls make more than one edit.
-
-Usage: clients/restored_marks.py [SEED]     from anywhere; it starts the launcher `nvimd` at the top of the repository.
-Wants Debian's python3-msgpack.
+The model has the text, each change as the list of its splices, and each mark as two offsets; a
+splice goes over all marks. After each step all ranges are listed, now and then with their details,
+and compared with the model. None may have its end before its start: a range whose start goes along
+with text that is put there has an end that does so too. Some are set anew on the way, or removed,
+and some calls make more than one edit. Wants Debian's python3-msgpack.
 """
 
 import bisect
-import random
-import sys
 
-from undo_tree import Child
+from check import run, seeded
+from undo_tree import Beside
 
 MARKS = 1_000
 STEPS = 2_000
@@ -52,9 +50,12 @@ class Mark:
         return True
 
     def keep(self, start, stop):
-        """The ends that stand in the text that is replaced, and whether the mark is hidden; None where neither does."""
-        within = [p if p is not None and start <= p <= stop else None for p in (self.start, self.stop)]
-        return (*within, self.hidden) if self.keys["undo_restore"] and within != [None, None] else None
+        """The ends that stand in the text that is replaced, and whether the mark is hidden; None
+        where neither does."""
+        ends = (self.start, self.stop)
+        within = [p if p is not None and start <= p <= stop else None for p in ends]
+        is_kept = self.keys["undo_restore"] and within != [None, None]
+        return (*within, self.hidden) if is_kept else None
 
     def is_removed(self, start, stop):
         end = self.start if self.stop is None else self.stop
@@ -76,11 +77,11 @@ def moved(place, right, start, stop, new):
 
 
 class Model:
-    """A text as bytes, its changes as lists of splices, and its marks by their ids."""
+    """A text, its changes as lists of splices, and its marks by their ids."""
 
     def __init__(self):
-        self.text = b"\n"
-        self.changes = [[]]  # of each the splices, each with the bytes that it took and put
+        self.text = "\n"
+        self.changes = [[]]  # of each the splices, each with the text that it took and put
         self.parent = [0]
         self.entered = {}
         self.current = 0
@@ -88,8 +89,12 @@ class Model:
         self.marks = {}
         self.settings = 0
 
+    def count(self):
+        """How many changes there are, the first text with them."""
+        return len(self.changes)
+
     def lines(self):
-        return self.text[:-1].split(b"\n")
+        return self.text[:-1].split("\n")
 
     def starts(self):
         """The offset of each row, and that of the whole text."""
@@ -149,25 +154,8 @@ class Model:
             self.ahead(number)
 
 
-class Check:
-    """Calls of the program and of the model beside each other."""
-
-    def __init__(self, seed):
-        self.random = random.Random(seed)
-        self.child = Child()
-        self.model = Model()
-        self.passed = 0
-        self.failed = 0
-
-    def same(self, what, got, wanted):
-        if got == wanted:
-            self.passed += 1
-        else:
-            self.failed += 1
-            print(f"{what}: got {str(got)[:300]}, not {str(wanted)[:300]}", file=sys.stderr)
-
-    def answers(self, result, method, *params):
-        self.same(f"{method}{params}", self.child.call(method, *params), (None, result))
+class RestoredMarks(Beside):
+    """Sets marks, edits the text, and looks where they are."""
 
     # ---- places
 
@@ -213,7 +201,8 @@ class Check:
         self.model.marks.pop(number, None)
 
     def listed(self, details):
-        """The marks of the model as they are listed: by place, then left before right gravity, then id."""
+        """The marks of the model as they are listed: by place, then left before right gravity, then
+        id."""
         starts = self.model.starts()
         found = []
         for mark in self.model.marks.values():
@@ -225,28 +214,30 @@ class Check:
         return [one for _, one in sorted(found, key=lambda m: m[0])]
 
     def details(self, mark, starts):
-        told = {b"ns_id": 1, b"right_gravity": mark.keys["right_gravity"], b"priority": 4096}
+        told = {"ns_id": 1, "right_gravity": mark.keys["right_gravity"], "priority": 4096}
         if mark.stop is not None:
-            told[b"end_row"], told[b"end_col"] = self.place(starts, mark.stop)
-            told[b"end_right_gravity"] = mark.keys["end_right_gravity"]
+            told["end_row"], told["end_col"] = self.place(starts, mark.stop)
+            told["end_right_gravity"] = mark.keys["end_right_gravity"]
         if not mark.keys["undo_restore"]:
-            told[b"undo_restore"] = False
+            told["undo_restore"] = False
         if mark.keys["invalidate"]:
-            told[b"invalidate"] = True
+            told["invalidate"] = True
         if mark.hidden:
-            told[b"invalid"] = True
+            told["invalid"] = True
         return told
 
     def look(self, details):
         options = {"details": True} if details else {}
         self.answers(self.listed(details), "nvim_buf_get_extmarks", 0, 1, 0, -1, options)
-        reversed_ = [m.number for m in self.model.marks.values() if m.stop is not None and m.stop < m.start]
+        reversed_ = [
+            m.number for m in self.model.marks.values() if m.stop is not None and m.stop < m.start
+        ]
         self.same("ends before their starts", reversed_, [])
 
     # ---- edits
 
-    def bytes(self, most):
-        return bytes(self.random.choices(b"abcdefgh\n", k=self.random.randint(0, most)))
+    def string(self, most):
+        return "".join(self.random.choices("abcdefgh\n", k=self.random.randint(0, most)))
 
     def edit(self):
         """One edit of the model, and the call that makes it."""
@@ -256,9 +247,12 @@ class Check:
             return self.edit_rows(rows, grows)
         start = self.offset()
         stop = self.near(start, 20 if grows else 60)
-        put = self.bytes(60 if grows else 20)
+        put = self.string(60 if grows else 20)
         starts = self.model.starts()
-        call = ["nvim_buf_set_text", [0, *self.place(starts, start), *self.place(starts, stop), put.split(b"\n")]]
+        call = [
+            "nvim_buf_set_text",
+            [0, *self.place(starts, start), *self.place(starts, stop), put.split("\n")],
+        ]
         if start != stop or put:
             self.model.edit(start, stop - start, put)
         return call
@@ -266,13 +260,16 @@ class Check:
     def edit_rows(self, rows, grows):
         first = self.random.randint(0, rows)
         last = min(first + self.random.randint(0, 2 if grows else 5), rows)
-        new = [self.bytes(20).replace(b"\n", b" ") for _ in range(self.random.randint(0, 5 if grows else 2))]
+        new = [
+            self.string(20).replace("\n", " ")
+            for _ in range(self.random.randint(0, 5 if grows else 2))
+        ]
         call = ["nvim_buf_set_lines", [0, first, last, True, new]]
         if last - first == rows and not new:
-            new = [b""]
+            new = [""]
         starts = self.model.starts()
         if first != last or new:
-            put = b"".join(line + b"\n" for line in new)
+            put = "".join(line + "\n" for line in new)
             self.model.edit(starts[first], starts[last] - starts[first], put)
         return call
 
@@ -289,15 +286,11 @@ class Check:
         if choice < 0.4:
             self.change()
         elif choice < 0.65:
-            self.answers(None, "nvim_command", "undo")
-            self.model.undo()
+            self.undo()
         elif choice < 0.85:
-            self.answers(None, "nvim_command", "redo")
-            self.model.redo()
+            self.redo()
         elif choice < 0.9:
-            number = self.random.randrange(len(self.model.changes))
-            self.answers(None, "nvim_command", f"undo {number}")
-            self.model.undo_to(number)
+            self.visit()
         elif choice < 0.98:
             self.set_mark(self.random.randint(1, MARKS))
         else:
@@ -305,11 +298,11 @@ class Check:
 
 
 def main():
-    check = Check(int(sys.argv[1]) if len(sys.argv) > 1 else 1)
+    check = RestoredMarks(seeded(__doc__), Model())
     check.answers(1, "nvim_create_namespace", "ranges")
-    text = [check.bytes(40).replace(b"\n", b"-") for _ in range(ROWS)]
+    text = [check.string(40).replace("\n", "-") for _ in range(ROWS)]
     check.answers(None, "nvim_buf_set_lines", 0, 0, -1, True, text)
-    check.model.edit(0, 1, b"".join(line + b"\n" for line in text))
+    check.model.edit(0, 1, "".join(line + "\n" for line in text))
     check.model.close()
     for number in range(1, MARKS + 1):
         check.set_mark(number)
@@ -317,10 +310,9 @@ def main():
         check.step()
         check.look(step % DETAILS == 0)
     check.answers(check.model.lines(), "nvim_buf_get_lines", 0, 0, -1, True)
-    check.same("status", check.child.end(), 0)
-    print(f"{check.passed} passed, {check.failed} failed")
-    return 1 if check.failed else 0
+    check.same("status", check.nvim.end(), 0)
+    return check.end()
 
 
 if __name__ == "__main__":
-    sys.exit(main())
+    run(main)

@@ -1,10 +1,10 @@
-"""Reads docs/rows/*.rows: stories of sessions, each call with what its session and others are sent (docs/rows/README.md).
-
-Wants Debian's python3-msgpack.
+"""Reads docs/rows/*.rows: stories of sessions, each call with what its session and others are sent
+(docs/rows/README.md). Wants Debian's python3-msgpack.
 """
 
 import re
 
+import nvimd
 from examples import Reader, Unwritten, packed
 
 NOTHING = "nothing"
@@ -12,11 +12,14 @@ INDENT = " " * 8
 TOLD = re.compile(r"    (?:S([1-9]\d*) )?(tells|draws) (.*)", re.DOTALL)
 SESSION = re.compile(r"S([1-9]\d*)(?:: (.*)| (opens|closes))", re.DOTALL)
 ENDS = re.compile(r"ends (\d)(?: (\".*\"))?")
-HEX = re.compile(r'\s*(?:(?P<times>\d+)\*\(|(?P<end>\))|(?P<text>"(?:[^"\\]|\\.)*")|(?P<byte>[0-9a-f]{2}))')
+HEX = re.compile(
+    r'\s*(?:(?P<times>\d+)\*\(|(?P<end>\))|(?P<text>"(?:[^"\\]|\\.)*")|(?P<byte>[0-9a-f]{2}))'
+)
 MOST_SESSIONS = 64
+QUIET = "a notification says `-> nothing`, or lines below it what is sent"
 
 
-class Wrong(Exception):
+class Wrong(nvimd.Error):
     """A line of a file that is none of the forms."""
 
     def __init__(self, path, line, what):
@@ -24,14 +27,17 @@ class Wrong(Exception):
 
 
 class Told:
-    """A message that a session is sent because of a call: its line, its text, and its bytes; whether it goes before the reply."""
+    """A message that a session is sent because of a call: its line, its text, and its bytes;
+    whether it goes before the reply."""
 
     def __init__(self, line, text, session, data, is_event):
-        self.line, self.text, self.session, self.data, self.is_event = line, text, session, data, is_event
+        self.line, self.text, self.session = line, text, session
+        self.data, self.is_event = data, is_event
 
 
 class Step:
-    """A line of a story: who does what, the bytes that it sends, and all that sessions are sent because of it."""
+    """A line of a story: who does what, the bytes that it sends, and all that sessions are sent
+    because of it."""
 
     def __init__(self, line, text, session, kind):
         self.line, self.text, self.session, self.kind = line, text, session, kind
@@ -55,7 +61,8 @@ class Step:
         return found | {self.session} if self.reply else found
 
     def is_quit(self):
-        return self.kind in ("call", "notify") and (self.name, self.params) == ("nvim_command", ["qall!"])
+        is_call = self.kind in ("call", "notify")
+        return is_call and (self.name, self.params) == ("nvim_command", ["qall!"])
 
 
 class Story:
@@ -80,7 +87,9 @@ class Story:
         return any(step.kind == "words" for step in self.steps)
 
     def expects(self):
-        return self.ends is not None or self.is_of_words() or any(step.sessions() for step in self.steps)
+        if self.ends is not None or self.is_of_words():
+            return True
+        return any(step.sessions() for step in self.steps)
 
 
 def lines_of(path):
@@ -99,7 +108,8 @@ def lines_of(path):
 
 
 def bytes_in(text):
-    """Bytes in hexadecimal digits, `N*(..)` for what is repeated, and `"text"` for the bytes of a text."""
+    """Bytes in hexadecimal digits, `N*(..)` for what is repeated, and `"text"` for the bytes of a
+    text."""
     parts = [[1, bytearray()]]
     at = 0
     while text[at:].strip():
@@ -170,7 +180,9 @@ class File:
     def read(self):
         lines = lines_of(self.path)
         if not lines[0][1].startswith("#"):
-            raise Wrong(self.path, 1, "a file begins with a line that says what it shows, after a #")
+            raise Wrong(
+                self.path, 1, "a file begins with a line that says what it shows, after a #"
+            )
         for number, text in lines:
             if not text.strip() or text.startswith("#"):
                 continue
@@ -215,17 +227,22 @@ class File:
         if not self.stories:
             return
         story = self.stories[-1]
-        if story.is_of_words() and (story.words or story.ends or any(step.kind != "words" for step in story.steps)):
-            raise Wrong(story.path, story.line, f"lines of words stand in a story of their own: {story.title}")
+        opened = list(range(1, len(story.sessions()) + 1))
+        others = any(step.kind != "words" for step in story.steps)
+        if story.is_of_words() and (story.words or story.ends or others):
+            self.wrong(story, "lines of words stand in a story of their own")
         if not story.expects():
-            raise Wrong(story.path, story.line, f"the story expects nothing: {story.title}")
+            self.wrong(story, "the story expects nothing")
         if story.ends is not None and not story.is_alone():
-            raise Wrong(story.path, story.line, f"`ends` stands in a story of session 1 alone: {story.title}")
-        if story.sessions() != list(range(1, len(story.sessions()) + 1)) or len(story.sessions()) > MOST_SESSIONS:
-            raise Wrong(story.path, story.line, f"sessions open in their order, 1, 2, 3: {story.title}")
+            self.wrong(story, "`ends` stands in a story of session 1 alone")
+        if story.sessions() != opened or len(opened) > MOST_SESSIONS:
+            self.wrong(story, "sessions open in their order, 1, 2, 3")
         for step in story.steps:
             if step.kind == "notify" and not step.is_quiet and not step.told:
-                raise Wrong(story.path, step.line, "a notification says `-> nothing`, or lines below it what is sent")
+                raise Wrong(story.path, step.line, QUIET)
+
+    def wrong(self, story, what):
+        raise Wrong(story.path, story.line, f"{what}: {story.title}")
 
     def ends(self, story, text):
         story.ends = end_in(text)
@@ -241,7 +258,8 @@ class File:
     def told(self, story, number, text):
         found = TOLD.fullmatch(text)
         if not found or not story.steps:
-            raise Unwritten("after 4 spaces stands what a call above tells or draws: [S2] tells CALL, [S2] draws BATCH")
+            form = "[S2] tells CALL, [S2] draws BATCH"
+            raise Unwritten(f"after 4 spaces stands what a call above tells or draws: {form}")
         step = story.steps[-1]
         session = int(found[1]) if found[1] else step.session
         if session == step.session and (step.is_quiet or step.kind in ("bytes", "closes")):
@@ -296,7 +314,7 @@ class File:
             step.data = packed([2, step.name, step.params])
             step.is_quiet = after == "-> nothing"
             if after and not step.is_quiet:
-                reader.fail("a notification says `-> nothing`, or lines below it what is sent")
+                reader.fail(QUIET)
             return step
         self.counts[session] = step.msgid = self.counts.get(session, 0) + 1
         step.data = packed([0, step.msgid, step.name, step.params])

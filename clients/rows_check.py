@@ -1,15 +1,14 @@
 #!/usr/bin/python3
-"""Runs the stories of docs/rows (docs/rows/README.md) through the program, and compares what sessions are sent byte by byte.
+"""Runs the stories of docs/rows (docs/rows/README.md) through the program, and compares what
+sessions are sent byte by byte.
 
-A story of one session goes through `embed`, its input whole and then byte by byte; one of several sessions through `serve`, one call
-after another. Each story without raw bytes is also made into a book with the outputs that the rows have, which `replay --check` judges.
+A story of one session goes through `embed`, its input whole and then byte by byte; one of several
+sessions through `serve`, one call after another. Each story without raw bytes is also made into a
+book with the outputs that the rows have, which `replay --check` judges.
 
-Usage: clients/rows_check.py [FILE..] [--program P] [--only TITLE]     all files of docs/rows without FILE, the launcher without P
-       clients/rows_check.py --books [--check]      writes the books of crates/book_check, or looks whether they are those of the rows
 Wants Debian's python3-msgpack.
 """
 
-import argparse
 import difflib
 import glob
 import os
@@ -17,29 +16,29 @@ import select
 import shutil
 import signal
 import subprocess
-import sys
 import tempfile
 import time
 from concurrent.futures import ThreadPoolExecutor
 
-import msgpack
-
-from book import PIECE
+import nvimd
+from check import DOCS, LONG, TOP, Check, Words, run
 from examples import packed, unpacker, written
+from nvimd.book import cut as pieces_of
+from nvimd.session import socket_at
 from row_file import Wrong, stories_in
-from rpc import LAUNCHER, TOP
-from server import Ended, socket_at
 
-ROWS = os.path.join(TOP, "docs", "rows")
+
+ROWS = os.path.join(DOCS, "rows")
 BOOKS = os.path.join(TOP, "crates", "book_check")
 CODEC = "codec.rows"  # has forms of its own
 AT_ONCE = 4
 PATIENCE = 60  # seconds for an answer
-LONG = 300  # seconds for a program to end
 MOST_BYTES = 1 << 16  # of a book in the gate
 SINGLE = 1 << 16  # bytes that are written one by one; what is after them is written at once
 MOST_TOLD = 6  # differences of a story
 WIDTH = 400
+PIPES = {"stdout": subprocess.PIPE, "stderr": subprocess.PIPE, "bufsize": 0}
+QUIET = {"stdin": subprocess.DEVNULL, "capture_output": True, "timeout": LONG}
 FENCE = (1 << 32) - 1  # the number of requests that the runner puts in
 
 
@@ -91,7 +90,20 @@ def drawn(wanted, got):
         return []
     changes = difflib.unified_diff(*sides, lineterm="", n=0)
     names = {"-": "wanted", "+": "got   "}
-    return [f"    {names[line[0]]} {short(line[1:])}" for line in list(changes)[2:] if line[0] in names]
+    return [
+        f"    {names[line[0]]} {short(line[1:])}" for line in list(changes)[2:] if line[0] in names
+    ]
+
+
+def pairs_of(wanted, found):
+    """The messages in which two lists differ, None for one that is missing, with their places in
+    the first list."""
+    matcher = difflib.SequenceMatcher(None, wanted, found, autojunk=False)
+    for kind, a, b, c, d in matcher.get_opcodes():
+        for number in range(max(b - a, d - c) if kind != "equal" else 0):
+            place = min(a + number, b if number >= b - a else len(wanted))
+            one = wanted[a + number] if number < b - a else None
+            yield place, one, found[c + number] if number < d - c else None
 
 
 def short(text):
@@ -106,12 +118,16 @@ class Run:
         self.wrong = []
 
     def say(self, line, text, *more):
-        self.wrong.append("\n".join([f"{self.story.path}:{line}: {self.story.title} ({self.way})", f"    row    {text}", *more]))
+        place = f"{self.story.path}:{line}: {self.story.title} ({self.way})"
+        self.wrong.append("\n".join([place, f"    row    {text}", *more]))
 
     def differs(self, line, text, wanted, got):
         """A message that is another one; as bytes too where their values are alike, or none."""
         told = ["nothing" if data is None else shown(data) for data in (wanted, got)]
-        more = drawn(wanted, got) or [f"    wanted {short(told[0])}", f"    got    {short(told[1])}"]
+        more = drawn(wanted, got) or [
+            f"    wanted {short(told[0])}",
+            f"    got    {short(told[1])}",
+        ]
         if told[0] == told[1] or any(word.startswith("bytes ") for word in told):
             for name, data in (("wanted", wanted), ("got   ", got)):
                 if data is not None:
@@ -131,25 +147,22 @@ class Run:
             return
         found = cut(got)
         places.append((self.story.steps[-1].line, f"after {self.story.steps[-1].text}"))
-        told = 0
-        for kind, a, b, c, d in difflib.SequenceMatcher(None, wanted, found, autojunk=False).get_opcodes():
-            for number in range(max(b - a, d - c) if kind != "equal" else 0):
-                told += 1
-                if told <= MOST_TOLD:
-                    line, text = places[min(a + number, b if number >= b - a else len(wanted))]
-                    who = "" if session == 1 else f"S{session}: "
-                    self.differs(
-                        line, who + text, wanted[a + number] if number < b - a else None, found[c + number] if number < d - c else None
-                    )
-        if told > MOST_TOLD:
-            self.wrong.append(f"    and {told - MOST_TOLD} more differences in this run")
+        who = "" if session == 1 else f"S{session}: "
+        differences = list(pairs_of(wanted, found))
+        for place, one, other in differences[:MOST_TOLD]:
+            line, text = places[place]
+            self.differs(line, who + text, one, other)
+        if len(differences) > MOST_TOLD:
+            more = len(differences) - MOST_TOLD
+            self.wrong.append(f"    and {more} more differences in this run")
 
     def end(self, status, line):
         """Holds the end of the program against the rows."""
         wanted = self.story.ends or (0, "")
         if (status, line) != wanted:
             at = self.story.steps[-1].line + bool(self.story.ends)
-            self.say(at, "ends", f"    wanted {wanted[0]} {written(wanted[1])}", f"    got    {status} {written(line)}")
+            told = f"    wanted {wanted[0]} {written(wanted[1])}"
+            self.say(at, "ends", told, f"    got    {status} {written(line)}")
 
 
 # ---- embed
@@ -159,9 +172,7 @@ def embedded(program, story, one_by_one):
     """A story of one session through `embed`."""
     run = Run(story, "embed, byte by byte" if one_by_one else "embed")
     data = b"".join(step.data for step in story.steps)
-    child = subprocess.Popen(
-        [program, "embed", *story.words], stdin=subprocess.PIPE, stdout=subprocess.PIPE, stderr=subprocess.PIPE, bufsize=0
-    )
+    child = subprocess.Popen([program, "embed", *story.words], stdin=subprocess.PIPE, **PIPES)
     try:
         out, errors = communicated(child, data, one_by_one)
     except subprocess.TimeoutExpired:
@@ -225,10 +236,14 @@ def worded(program, story):
     run = Run(story, "words")
     for step in story.steps:
         with tempfile.TemporaryDirectory(prefix="rows") as folder:
-            done = subprocess.run([program, *step.words], stdin=subprocess.DEVNULL, capture_output=True, cwd=folder, timeout=LONG)
+            done = subprocess.run([program, *step.words], cwd=folder, **QUIET)
         got = done.returncode, done.stderr.decode(errors="replace").removesuffix("\n")
         if got != step.ends or (done.stdout == b"") != step.is_quiet:
-            run.say(step.line, step.text, f"    got    {got[0]} {written(got[1])}, {len(done.stdout)} bytes written")
+            run.say(
+                step.line,
+                step.text,
+                f"    got    {got[0]} {written(got[1])}, {len(done.stdout)} bytes written",
+            )
     return run
 
 
@@ -236,7 +251,8 @@ def worded(program, story):
 
 
 class Client:
-    """A session over a socket: all that it was sent but the replies to the runner's own requests."""
+    """A session over a socket: all that it was sent but the replies to the runner's own
+    requests."""
 
     def __init__(self, address):
         self.socket = socket_at(address)
@@ -293,7 +309,8 @@ class Server:
         self.wanted = {}
         self.child = subprocess.Popen(
             [program, "serve", "--listen", self.address, *story.words],
-            stdin=subprocess.DEVNULL, stdout=subprocess.PIPE, stderr=subprocess.PIPE,
+            stdin=subprocess.DEVNULL,
+            **PIPES,
         )
 
     def open(self, session):
@@ -303,7 +320,7 @@ class Server:
             try:
                 self.clients[session] = Client(self.address)
                 break
-            except Ended:
+            except nvimd.Ended:
                 if self.child.poll() is not None or time.monotonic() > late:
                     raise
                 time.sleep(0.005)
@@ -315,7 +332,9 @@ class Server:
         late = time.monotonic() + PATIENCE
         while not is_there():
             left = {client.socket: client for client in self.clients.values() if not client.is_over}
-            ready = select.select(list(left), [], [], max(0, late - time.monotonic()))[0] if left else []
+            if not left:
+                return False
+            ready = select.select(list(left), [], [], max(0, late - time.monotonic()))[0]
             if not ready:
                 return False
             for socket in ready:
@@ -331,7 +350,9 @@ class Server:
         return client.last
 
     def has_come(self):
-        return all(len(client.got) >= self.wanted[session] for session, client in self.clients.items())
+        return all(
+            len(client.got) >= self.wanted[session] for session, client in self.clients.items()
+        )
 
     def step(self, step):
         """Does what a line says, and waits for all that is sent because of it; whether it came."""
@@ -368,7 +389,8 @@ class Server:
             if not client.is_over:
                 self.fence(session, "nvim_command", ["qall!"])
                 self.wait(lambda: all(client.is_over for client in self.clients.values()))
-        if self.child.poll() is None and not any(step.is_quit() for step in self.story.steps) and not self.clients:
+        has_quit = any(step.is_quit() for step in self.story.steps)
+        if self.child.poll() is None and not has_quit and not self.clients:
             self.child.kill()
         try:
             out, errors = self.child.communicate(timeout=PATIENCE)
@@ -389,13 +411,14 @@ def served(program, story):
             for step in story.steps:
                 if not server.step(step):
                     break  # what is missing is told below
-        except Ended as error:
+        except nvimd.Ended as error:
             run.say(story.line, "the server", f"    {error}")
         status, line = server.end()
     for session, client in server.clients.items():
         run.compare(session, client.rest())
     if (status, line) != (0, b""):
-        run.say(story.line, "the server's end", "    wanted 0 \"\"", f"    got    {status} {written(line.decode(errors='replace'))}")
+        got = f"    got    {status} {written(line.decode(errors='replace'))}"
+        run.say(story.line, "the server's end", '    wanted 0 ""', got)
     return run
 
 
@@ -414,7 +437,8 @@ def has_book(story):
 
 
 class Written:
-    """The book of a story, with the outputs that the rows have; the line of the entries' steps; what `replay --check` says."""
+    """The book of a story, with the outputs that the rows have; the line of the entries' steps;
+    what `replay --check` says."""
 
     def __init__(self, story):
         self.entries, self.places = 0, []
@@ -426,14 +450,15 @@ class Written:
         last = story.steps[-1]
         if story.ends and story.ends[0] == 7:  # the last call ended its session
             self.live.pop(last.session, None)
-        for session in list(self.live):  # nothing more is due: what is due to this call is its reply alone
+        for session in list(self.live):  # nothing else is due: what is due now is the reply alone
             self.enter(last, ["r", 0, session, FENCE, "nvim_strwidth", [""]])
             self.take(last, session, packed([1, FENCE, None, 0]))
         for session in list(self.live):
             self.enter(last, ["c", 0, session])
         self.parts.append(packed(["end", self.entries]))
         self.data = b"".join(self.parts)
-        self.line = f"entries {self.entries} sessions {self.opened} takes {self.takes} bytes {self.bytes} ok"
+        counts = f"sessions {self.opened} takes {self.takes} bytes {self.bytes}"
+        self.line = f"entries {self.entries} {counts} ok"
 
     def enter(self, step, entry):
         self.parts.append(packed(entry))
@@ -441,7 +466,7 @@ class Written:
         self.entries += 1
 
     def take(self, step, session, data):
-        pieces = [data[at : at + PIECE] for at in range(0, len(data), PIECE)]
+        pieces = pieces_of(data)
         self.enter(step, ["t", 0, session, len(pieces)])
         self.parts += map(packed, pieces)
         self.takes += 1
@@ -455,11 +480,14 @@ class Written:
             self.opened += 1
             self.live[step.session] = True
         if step.kind in ("call", "notify"):
-            name = step.name if isinstance(step.name, str) else step.name.decode(errors="surrogateescape")
+            name = step.name
+            if isinstance(name, bytes):
+                name = name.decode(errors="surrogateescape")
             self.enter(step, ["r", 0, step.session, step.msgid, name, step.params])
         if step.kind == "closes" and self.live.pop(step.session, None):
             self.enter(step, ["c", 0, step.session])
-        for session in sorted(step.sessions(), key=lambda session: (session != step.session, session)):
+        own = lambda session: (session != step.session, session)  # its own session first
+        for session in sorted(step.sessions(), key=own):
             data = b"".join(told.data for told in step.sent(session))
             if data:
                 self.take(step, session, data)
@@ -474,18 +502,18 @@ def replayed(program, story):
     with tempfile.NamedTemporaryFile(prefix="rows", suffix=".book") as file:
         file.write(book.data)
         file.flush()
-        done = subprocess.run(
-            [program, "replay", file.name, "--check"], stdin=subprocess.DEVNULL, stdout=subprocess.PIPE, stderr=subprocess.PIPE,
-            timeout=LONG,
-        )
-    out, errors = done.stdout.decode(errors="replace"), done.stderr.decode(errors="replace").rstrip("\n")
+        done = subprocess.run([program, "replay", file.name, "--check"], **QUIET)
+    out, errors = (data.decode(errors="replace") for data in (done.stdout, done.stderr))
+    errors = errors.rstrip("\n")
     if (done.returncode, out, errors) == (0, book.line + "\n", ""):
         return run
     words = errors.split()
     step = story.steps[-1]
-    if errors.startswith(("nvimd: check differs", "nvimd: watcher")) and int(words[-1]) < len(book.places):
+    names_entry = errors.startswith(("nvimd: check differs", "nvimd: watcher"))
+    if names_entry and int(words[-1]) < len(book.places):
         step = book.places[int(words[-1])]
-    run.say(step.line, step.text, f"    wanted 0 {book.line}", f"    got    {done.returncode} {out.strip()} {errors}")
+    got = f"    got    {done.returncode} {out.strip()} {errors}"
+    run.say(step.line, step.text, f"    wanted 0 {book.line}", got)
     return run
 
 
@@ -523,15 +551,17 @@ def write_books():
 def check_books():
     """Whether the books are those of the rows."""
     wanted, there = files_of_books(), {}
-    for name in ["args", "stdout", *(f"data/{name}" for name in os.listdir(os.path.join(BOOKS, "data")))]:
+    books = os.listdir(os.path.join(BOOKS, "data"))
+    for name in ["args", "stdout", *(f"data/{name}" for name in books)]:
         with open(os.path.join(BOOKS, name), "rb") as file:
             there[name] = file.read()
-    wrong = sorted(name for name in {*wanted, *there} if wanted.get(name) != there.get(name))
-    for name in wrong:
-        how = "isn't there" if name not in there else "is of no story" if name not in wanted else "isn't that of its story"
-        print(f"{os.path.relpath(BOOKS)}/{name} {how}: clients/rows_check.py --books")
-    print(f"{len(wanted) - sum(name in wanted for name in wrong)} passed, {len(wrong)} failed")
-    return 1 if wrong or len(wanted) == 2 else 0
+    check = Check()
+    for name in sorted({*wanted, *there}):
+        same = name in wanted and wanted.get(name) == there.get(name)
+        check.same(f"{name} is that of its story (or else --books)", same, True)
+    if len(wanted) == 2:
+        raise nvimd.Error("no story has a book")
+    return check.end()
 
 
 # ---- all
@@ -556,41 +586,41 @@ def files_of(names):
     return [os.path.relpath(name) for name in found if os.path.basename(name) != CODEC]
 
 
-def main():
-    words = argparse.ArgumentParser(usage=__doc__.partition("Usage: ")[2])
-    words.add_argument("files", nargs="*")
-    words.add_argument("--program", default=LAUNCHER)
-    words.add_argument("--only")
-    words.add_argument("--books", action="store_true")
-    words.add_argument("--check", action="store_true")
-    words = words.parse_args()
-    if words.books:
-        try:
-            return check_books() if words.check else write_books()
-        except (Wrong, OSError, UnicodeDecodeError) as error:
-            print(error)
-            print("0 passed, 1 failed")
-            return 1
-    signal.signal(signal.SIGPIPE, signal.SIG_IGN)
-    words.program = os.path.abspath(words.program)
-    passed = failed = 0
-    runs = []
-    for path in files_of(words.files):
+def asked_runs(program, asked):
+    """Each story that the words ask for, with its runs; files that can't be read fail."""
+    runs, wrong = [], []
+    for path in files_of(asked.files):
         try:
             stories = stories_in(path)
         except (Wrong, OSError, UnicodeDecodeError) as error:
-            print(error)
-            failed += 1
+            wrong.append(error)
             continue
         for story in stories:
-            if words.only in (None, story.title):
-                runs.append((story, list(runs_of(words.program, story))))
+            if asked.only in (None, story.title):
+                runs.append((story, list(runs_of(program, story))))
+    return runs, wrong
+
+
+def main():
+    words = Words(__doc__)
+    words.add_argument("files", nargs="*", metavar="FILE", help="all of docs/rows without any")
+    words.add_argument("--only", metavar="TITLE", help="this story alone")
+    told = "write the books of crates/book_check, and nothing else"
+    words.add_argument("--books", action="store_true", help=told)
+    told = "with --books: look whether they are those of the rows"
+    words.add_argument("--check", action="store_true", help=told)
+    asked = words.parse_args()
+    if asked.books:
+        return check_books() if asked.check else write_books()
+    signal.signal(signal.SIGPIPE, signal.SIG_IGN)
+    runs, wrong = asked_runs(nvimd.program(), asked)
+    passed, failed = 0, len(wrong)
+    print(*wrong, sep="\n", end="\n" if wrong else "")
     with ThreadPoolExecutor(AT_ONCE) as pool:
-        asked = [(story, [pool.submit(run) for run in several]) for story, several in runs]
-        for story, several in asked:
+        begun = [[pool.submit(run) for run in several] for _, several in runs]
+        for several in begun:
             wrong = [text for run in several for text in run.result().wrong]
-            for text in wrong:
-                print(text)
+            print(*wrong, sep="\n", end="\n" if wrong else "")
             failed += bool(wrong)
             passed += not wrong
     print(f"{passed} passed, {failed} failed")
@@ -598,4 +628,4 @@ def main():
 
 
 if __name__ == "__main__":
-    sys.exit(main())
+    run(main)

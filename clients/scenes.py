@@ -1,6 +1,5 @@
-"""What the checks of the view and of the picture stand on: calls that draw much, a socket before a program, and counts.
-
-Wants Debian's python3-msgpack.
+"""What the checks of the view and of the picture stand on: calls that draw much, and a socket
+before a program. Wants Debian's python3-msgpack.
 """
 
 import json
@@ -10,10 +9,12 @@ import subprocess
 import sys
 import threading
 
-TOP = os.path.dirname(os.path.dirname(os.path.abspath(__file__)))
-CLIENTS = os.path.join(TOP, "clients")
+import nvimd
+from check import Check
+
 PIECE = 1 << 16
-LINES = ["plain", "a\ttab", "wide 世界 and 世", "e\u0301 and é", "\x01 control", "", "x" * 130] + [f"line {n}" for n in range(60)]
+LINES = ["plain", "a\ttab", "wide 世界 and 世", "e\u0301 and é", "\x01 control", "", "x" * 130]
+LINES += [f"line {n}" for n in range(60)]
 GROUPS = {
     "Red": {"fg": 0xC00000, "bold": True},
     "Blue": {"fg": 0xFFFFFF, "bg": 0x2030A0, "italic": True},
@@ -21,11 +22,13 @@ GROUPS = {
     "Turned": {"fg": 0x10FF10, "bg": 0x400040, "reverse": True},
     "Normal": {"fg": 0xE0E0D0, "bg": 0x101020},
 }
-MARKS = [(0, 0, 0, 5, "Red"), (2, 4, 2, 12, "Blue"), (3, 0, 3, 7, "Lined"), (6, 20, 6, 110, "Turned"), (10, 0, 14, 3, "Blue")]
+MARKS = [(0, 0, 0, 5, "Red"), (2, 4, 2, 12, "Blue"), (3, 0, 3, 7, "Lined")]
+MARKS += [(6, 20, 6, 110, "Turned"), (10, 0, 14, 3, "Blue")]
 
 
 def marked(row, col, end_row, end_col, group):
-    return ["nvim_buf_set_extmark", [0, 1, row, col, {"end_row": end_row, "end_col": end_col, "hl_group": group}]]
+    keys = {"end_row": end_row, "end_col": end_col, "hl_group": group}
+    return ["nvim_buf_set_extmark", [0, 1, row, col, keys]]
 
 
 FLAGS = {"bold", "italic", "underline", "strikethrough", "reverse"}
@@ -48,9 +51,15 @@ SECOND = [
 ]
 
 
-def flags_in(grid):
+def flags_in(screen):
     """The flags of the cells that a screen shows."""
-    return {name for row in grid.shown() for _, attribute in row for name in FLAGS if attribute.get(name)}
+    return {
+        name
+        for row in screen.shown()
+        for _, attribute in row
+        for name in FLAGS
+        if attribute.get(name)
+    }
 
 
 def write_calls(path, calls):
@@ -59,31 +68,13 @@ def write_calls(path, calls):
     return path
 
 
-class Count:
-    """What passed and what failed."""
-
-    def __init__(self):
-        self.passed = self.failed = 0
-
-    def same(self, what, got, wanted):
-        if got == wanted:
-            self.passed += 1
-        else:
-            self.failed += 1
-            print(f"{what}: got {got!r}, and not {wanted!r}", file=sys.stderr)
-
-    def end(self):
-        print(f"{self.passed} passed, {self.failed} failed")
-        return 1 if self.failed else 0
-
-
-class Check(Count):
+class Scenes(Check):
     """The program, and a folder for what the checks write, with the calls of both scenes."""
 
-    def __init__(self, program, folder):
+    def __init__(self, folder):
         super().__init__()
-        self.program = program
-        self.child = ["--", program, "embed"]
+        self.embed = [nvimd.program(), "embed"]
+        self.child = ["--", *self.embed]
         self.folder = folder
         self.calls = write_calls(self.path("calls"), FIRST + SECOND)
 
@@ -92,7 +83,8 @@ class Check(Count):
 
 
 class Bridge:
-    """A socket before a program: each connection has a child of its own, and ends behind so many bytes that it was sent."""
+    """A socket before a program: each connection has a child of its own, and ends behind so many
+    bytes that it was sent."""
 
     def __init__(self, words, path=None, most=None):
         self.words, self.most = words, most
@@ -105,11 +97,10 @@ class Bridge:
     def accept(self):
         while True:
             connection, _ = self.listener.accept()
-            child = subprocess.Popen(
-                self.words, stdin=subprocess.PIPE, stdout=subprocess.PIPE, stderr=subprocess.DEVNULL, bufsize=0
-            )
-            threading.Thread(target=self.ask, args=(connection, child), daemon=True).start()
-            threading.Thread(target=self.answer, args=(connection, child), daemon=True).start()
+            pipes = {"stdin": subprocess.PIPE, "stdout": subprocess.PIPE, "bufsize": 0}
+            child = subprocess.Popen(self.words, **pipes, stderr=subprocess.DEVNULL)
+            for way in (self.ask, self.answer):
+                threading.Thread(target=way, args=(connection, child), daemon=True).start()
 
     def ask(self, connection, child):
         """What comes in goes to the child, up to its end."""

@@ -1,33 +1,28 @@
 #!/usr/bin/python3
-"""Shows the editor's screen over a child process: a UI folds the redraw events through a thousand seeded calls (edits, undos,
-cursors, windows, tabpages, sizes, UIs that go and come), and after each its screen is compared with what the text, the windows
-and their status lines look like by Neovim's documentation.
-
-Usage: clients/screen.py [SEED]     from anywhere; it starts the launcher `nvimd` at the top of the repository.
-Wants Debian's python3-msgpack.
+"""Shows the editor's screen over a child process: a UI folds the redraw events through a thousand
+seeded calls (edits, undos, cursors, windows, tabpages, sizes, UIs that go and come), and after each
+its screen is compared with what the text, the windows and their status lines look like by Neovim's
+documentation. Wants Debian's python3-msgpack.
 """
 
-import os
 import random
-import signal
-import subprocess
-import sys
 
-import msgpack
+import nvimd
+from check import Check, run, seeded
+from nvimd.screen import OPTIONS
 
-from grid import Grid
 
-TOP = os.path.dirname(os.path.dirname(os.path.abspath(__file__)))
 STEPS = 1_000
 MOST_SECONDS = 600
-OPTIONS = {"ext_linegrid": True, "rgb": True}
 PLAIN, BOLD = {}, {"bold": True}
 CURRENT, OTHER = {"reverse": True, "bold": True}, {"reverse": True}
 WIDE = "世"
+LETTERS, WEIGHTS = ["a", "b", " ", "é", WIDE, "\t", "\x01"], [5, 5, 3, 2, 2, 1, 1]
 
 
 def cells_of(line, tabstop, width):
-    """The cells of a line in rows of a width, and where the piece at each of its bytes begins (help: 'wrap', 'list')."""
+    """The cells of a line in rows of a width, and where the piece at each of its bytes begins
+    (help: 'wrap', 'list')."""
     cells, starts, count = [], {}, 0
 
     def put(text, attribute):
@@ -76,13 +71,13 @@ def bar_of(text, tabstop, width, attribute):
 class Window:
     """A window as the editor tells it."""
 
-    def __init__(self, place, width, height, cursor, lines, tabstop, bar, current):
+    def __init__(self, place, size, cursor, lines, tabstop, bar, current):
         self.row, self.col = place
-        self.width, self.height = width, height
+        self.width, self.height = size
         self.line, self.byte = cursor[0] - 1, cursor[1]
-        self.lines = [rows_of(cells_of(line, tabstop, width)[0], width) for line in lines]
-        self.starts = cells_of(lines[self.line], tabstop, width)[1]
-        self.bar = bar_of(bar, tabstop, width, CURRENT if current else OTHER)
+        self.lines = [rows_of(cells_of(line, tabstop, self.width)[0], self.width) for line in lines]
+        self.starts = cells_of(lines[self.line], tabstop, self.width)[1]
+        self.bar = bar_of(bar, tabstop, self.width, CURRENT if current else OTHER)
         self.current = current
 
     def text(self, first):
@@ -115,7 +110,10 @@ class Window:
     def cursor(self, first):
         cell = self.starts.get(self.byte, 0)
         above = sum(len(line) for line in self.lines[first : self.line])
-        return self.row + min(above + cell // self.width, self.height - 1), self.col + cell % self.width
+        return (
+            self.row + min(above + cell // self.width, self.height - 1),
+            self.col + cell % self.width,
+        )
 
     def is_shown(self, shown, cursor):
         """Whether the screen shows it, from some first line on."""
@@ -127,57 +125,41 @@ class Window:
         if part(self.height) != self.bar:
             return False
         return any(
-            rows == self.text(first) and (not self.current or cursor == self.cursor(first)) for first in self.firsts()
+            rows == self.text(first) and (not self.current or cursor == self.cursor(first))
+            for first in self.firsts()
         )
 
 
-class Check:
+def places(row, col, height, width):
+    """The cells of a part of the screen."""
+    return {(row + y, col + x) for y in range(height) for x in range(width)}
+
+
+class Drawn(Check):
     """The program, and a UI of it."""
 
     def __init__(self, seed):
+        super().__init__()
         self.random = random.Random(seed)
-        self.child = subprocess.Popen([os.path.join(TOP, "nvimd"), "embed"], stdin=subprocess.PIPE, stdout=subprocess.PIPE)
-        self.messages = msgpack.Unpacker(
-            raw=False, strict_map_key=False, max_buffer_size=1 << 28, ext_hook=lambda kind, held: msgpack.unpackb(held)
-        )
-        self.screen = Grid()
+        self.nvim = nvimd.start()
+        self.screen = nvimd.Screen()
         self.attached = False
-        self.msgid = 0
-        self.passed = 0
-        self.failed = 0
-
-    def same(self, what, got, wanted):
-        if got == wanted:
-            self.passed += 1
-        else:
-            self.failed += 1
-            if self.failed < 10:
-                print(f"{what}: got {got}, not {wanted}", file=sys.stderr)
-
-    def message(self):
-        while True:
-            for message in self.messages:
-                return message
-            piece = os.read(self.child.stdout.fileno(), 1 << 20)
-            if not piece:
-                raise SystemExit("the program ended")
-            self.messages.feed(piece)
 
     def ask(self, *calls):
-        """What calls are answered, and the batches behind the first of them; behind the others is none."""
-        first = self.msgid
-        self.msgid += len(calls)
-        self.child.stdin.write(b"".join(msgpack.packb([0, first + n, name, params]) for n, (name, params) in enumerate(calls)))
-        self.child.stdin.flush()
-        answers, batches = [], []
-        while len(answers) < len(calls):
-            message = self.message()
-            if message[0] == 1:
-                answers.append((message[2], message[3]))
-            else:
-                assert message[1] == "redraw" and len(answers) == 1, (message[1], len(answers))
-                batches.append(message[2])
-        return answers, batches
+        """What calls are answered, and the batches behind the first of them; behind the others is
+        none."""
+        batches, replies = [], self.nvim.replies
+
+        def hears(event):
+            assert (event.name, len(replies)) == ("redraw", 1), (event.name, len(replies))
+            batches.append(event.args)
+            return True
+
+        self.nvim.listeners = [hears]
+        numbers = self.nvim.post_all(calls)
+        while len(replies) < len(calls):
+            self.nvim.read()
+        return [self.nvim.answer(msgid) for msgid in numbers], batches
 
     def results(self, *calls):
         answers, batches = self.ask(*calls)
@@ -185,7 +167,8 @@ class Check:
         return [result for _, result in answers]
 
     def do(self, name, *params):
-        """A call that is seen, and what follows: a batch where there is a UI, and none where it was refused."""
+        """A call that is seen, and what follows: a batch where there is a UI, and none where it was
+        refused."""
         (answer, windows), batches = self.ask((name, list(params)), ("nvim_tabpage_list_wins", [0]))
         if answer[0] is None and name in ("nvim_ui_attach", "nvim_ui_detach"):
             self.attached = name == "nvim_ui_attach"
@@ -198,41 +181,47 @@ class Check:
         """Takes a batch: its last event, and only that, is a flush."""
         before = self.screen.flushes
         self.screen.take(batch)
-        assert self.screen.flushed and self.screen.flushes == before + 1 and not self.screen.others, batch
+        is_one = self.screen.flushed and self.screen.flushes == before + 1
+        assert is_one and not self.screen.others, batch
 
     def windows(self, numbers):
         """The windows of the tabpage."""
         names = ["get_buf", "get_position", "get_width", "get_height", "get_cursor"]
-        told = self.results(("nvim_get_current_win", []), *[(f"nvim_win_{name}", [n]) for n in numbers for name in names])
-        current, told = told[0], [told[at : at + len(names)] for at in range(1, len(told), len(names))]
+        calls = [(f"nvim_win_{name}", [n]) for n in numbers for name in names]
+        current, *told = self.results(("nvim_get_current_win", []), *calls)
+        told = [told[at : at + len(names)] for at in range(0, len(told), len(names))]
         buffers = sorted({buffer for buffer, *_ in told})
         asked = []
         for buffer in buffers:
             asked.append(("nvim_buf_get_lines", [buffer, 0, -1, True]))
             asked.append(("nvim_buf_get_name", [buffer]))
-            asked += [("nvim_get_option_value", [name, {"buf": buffer}]) for name in ("tabstop", "modified")]
+            for name in ("tabstop", "modified"):
+                asked.append(("nvim_get_option_value", [name, {"buf": buffer}]))
         given = self.results(*asked)
         held = {buffer: given[at * 4 : at * 4 + 4] for at, buffer in enumerate(buffers)}
         found = []
         for number, (buffer, place, width, height, cursor) in zip(numbers, told):
             lines, name, tabstop, modified = held[buffer]
             bar = (name or "[No Name]") + (" [+]" if modified else "")
-            found.append(Window(place, width, height, cursor, lines, tabstop, bar, number == current))
+            size = width, height
+            found.append(Window(place, size, cursor, lines, tabstop, bar, number == current))
         return found
 
     def compare(self, what, numbers):
         """Looks at each cell of the screen."""
         shown, cursor = self.screen.shown(), self.screen.cursor
-        free = {(row, col) for row in range(self.screen.height - 1) for col in range(self.screen.width)}
+        free = places(0, 0, self.screen.height - 1, self.screen.width)
         for window in self.windows(numbers):
             self.same(f"a window behind {what}", window.is_shown(shown, cursor), True)
-            free -= {(window.row + row, window.col + col) for row in range(window.height + 1) for col in range(window.width)}
+            free -= places(window.row, window.col, window.height + 1, window.width)
         between = {shown[row][col][0] for row, col in free} - {"│"}
         self.same(f"what stands between windows behind {what}", between, set())
-        self.same(f"the last row behind {what}", shown[-1], [(" ", PLAIN)] * self.screen.width)
+        blank = [(" ", PLAIN)] * self.screen.width
+        self.same(f"the last row behind {what}", shown[-1], blank)
 
     def line(self):
-        return "".join(self.random.choices(["a", "b", " ", "é", WIDE, "\t", "\x01"], [5, 5, 3, 2, 2, 1, 1], k=self.random.randint(0, 40)))
+        count = self.random.randint(0, 40)
+        return "".join(self.random.choices(LETTERS, WEIGHTS, k=count))
 
     def lines(self, most):
         return [self.line() for _ in range(self.random.randint(0, most))]
@@ -261,11 +250,18 @@ class Check:
             return "nvim_command", draw.choice(["undo", "undo", "redo", "undo 2"])
         if kind < 0.66:
             split = draw.choice(["left", "right", "above", "below"])
-            return "nvim_open_win", draw.choice(buffers), draw.random() < 0.5, {"split": split, "win": window}
+            return (
+                "nvim_open_win",
+                draw.choice(buffers),
+                draw.random() < 0.5,
+                {"split": split, "win": window},
+            )
         if kind < 0.73:
             return "nvim_win_close", window, True
         if kind < 0.80:
-            return draw.choice([("nvim_win_set_width", window, draw.randint(1, 40)), ("nvim_win_set_height", window, draw.randint(1, 20))])
+            width = "nvim_win_set_width", window, draw.randint(1, 40)
+            height = "nvim_win_set_height", window, draw.randint(1, 20)
+            return draw.choice([width, height])
         if kind < 0.87:
             return "nvim_ui_try_resize", draw.randint(10, 70), draw.randint(6, 30)
         if kind < 0.91:
@@ -273,15 +269,19 @@ class Check:
         if kind < 0.93:
             return "nvim_win_set_buf", window, draw.choice(buffers)
         if kind < 0.95:
-            return "nvim_set_option_value", "tabstop", draw.randint(1, 9), {"buf": draw.choice(buffers)}
+            return (
+                "nvim_set_option_value",
+                "tabstop",
+                draw.randint(1, 9),
+                {"buf": draw.choice(buffers)},
+            )
         if kind < 0.97:
             return "nvim_command", draw.choice(["tabnew", "tabclose"])
         return ("nvim_ui_detach",)
 
 
 def main():
-    signal.alarm(MOST_SECONDS)
-    check = Check(int(sys.argv[1]) if len(sys.argv) > 1 else 1)
+    check = Drawn(seeded(__doc__))
     (second,) = check.results(("nvim_create_buf", [True, False]))
     check.results(("nvim_buf_set_name", [second, f"a{WIDE}second"]))
     _, numbers = check.do("nvim_ui_attach", 40, 12, OPTIONS)
@@ -290,14 +290,13 @@ def main():
         step = check.step(numbers)
         _, numbers = check.do(*step)
         if not check.attached:
-            _, numbers = check.do("nvim_ui_attach", check.random.randint(10, 70), check.random.randint(6, 30), OPTIONS)
+            size = check.random.randint(10, 70), check.random.randint(6, 30)
+            _, numbers = check.do("nvim_ui_attach", *size, OPTIONS)
         if check.attached:
             check.compare(step[0], numbers)
-    check.child.stdin.close()
-    check.same("status", check.child.wait(), 0)
-    print(f"{check.passed} passed, {check.failed} failed")
-    return 1 if check.failed else 0
+    check.same("status", check.nvim.end(), 0)
+    return check.end()
 
 
 if __name__ == "__main__":
-    sys.exit(main())
+    run(main, MOST_SECONDS)

@@ -1,4 +1,5 @@
-"""The script of a number by its rules (crates/nv_gen/specs): what `nvimd generate` has its three sessions do, but for the takings."""
+"""The script of a number by its rules (crates/nv_gen/specs): what `nvimd generate` has its three
+sessions do, but for the takings."""
 
 FACTOR, TERM = 6364136223846793005, 1442695040888963407
 ROUNDS = 2000
@@ -20,11 +21,13 @@ class Draws:
 
     def edit(self):
         first, more, count = self.below(12), self.below(3), self.below(4)
-        return 1, "nvim_buf_set_lines", [0, first, first + more, False, [self.line() for _ in range(count)]]
+        lines = [self.line() for _ in range(count)]
+        return 1, "nvim_buf_set_lines", [0, first, first + more, False, lines]
 
     def mark(self):
         row, col, number, gravity = self.below(6), self.below(10), self.below(50), self.below(2)
-        return 1, "nvim_buf_set_extmark", [0, 1, row, col, {"id": 1 + number, "strict": False, "right_gravity": gravity == 1}]
+        keys = {"id": 1 + number, "strict": False, "right_gravity": gravity == 1}
+        return 1, "nvim_buf_set_extmark", [0, 1, row, col, keys]
 
     def command(self):
         return 1, "nvim_command", ["undo" if self.below(2) == 0 else "redo"]
@@ -37,7 +40,8 @@ class Draws:
         return 2, "nvim_buf_get_lines", [0, 0, -1, False]
 
     def question(self):
-        """Of ten that are equally likely: five edits, two marks, a command, a cursor's place, a reading."""
+        """Of ten that are equally likely: five edits, two marks, a command, a cursor's place, a
+        reading."""
         kinds = [self.edit] * 5 + [self.mark] * 2 + [self.command, self.cursor, self.reading]
         return kinds[self.below(10)]()
 
@@ -51,5 +55,5 @@ def script(number):
         (1, "nvim_create_namespace", ["g"]),
         *(draws.question() for _ in range(ROUNDS)),
     ]
-    asked = [["r", session, session, msgid, name, params] for msgid, (session, name, params) in enumerate(questions, 1)]
+    asked = [["r", who, who, msgid, *call] for msgid, (who, *call) in enumerate(questions, 1)]
     return [*(["o", n] for n in (1, 2, 3)), *asked, *(["c", n, n] for n in (1, 2, 3))]

@@ -1,17 +1,13 @@
 #!/usr/bin/python3
 """Sets and gets lines over a child process, and compares each reply with what Neovim's API says.
 
-Usage: clients/set_get.py     from anywhere; it starts the launcher `nvimd` at the top of the repository.
 Wants Debian's python3-msgpack.
 """
 
-import os
-import subprocess
-import sys
-
 import msgpack
 
-TOP = os.path.dirname(os.path.dirname(os.path.abspath(__file__)))
+import nvimd
+from check import Check, Words, run
 
 # method, parameters, error, result
 CALLS = [
@@ -38,38 +34,21 @@ CALLS = [
 
 
 def main():
-    child = subprocess.Popen([os.path.join(TOP, "nvimd"), "embed"], stdin=subprocess.PIPE, stdout=subprocess.PIPE)
-    replies = msgpack.Unpacker(raw=False)
-    failed = 0
-    for msgid, (method, params, error, result) in enumerate(CALLS, 1):
-        child.stdin.write(msgpack.packb([0, msgid, method, params]))
-        child.stdin.flush()
-        reply = None
-        while reply is None:
-            piece = os.read(child.stdout.fileno(), 65536)
-            if not piece:
-                break
-            replies.feed(piece)
-            reply = next(replies, None)
-        if reply != [1, msgid, error, result]:
-            failed += 1
-            print(f"{method}{params}: got {reply}", file=sys.stderr)
+    Words(__doc__).parse_args()
+    check = Check()
+    nvim = nvimd.start()
+    for method, params, error, result in CALLS:
+        check.same(f"{method}{params}", nvim.ask(method, *params), (error, result))
     # a notification that succeeds is answered by nothing, one that fails by an event
-    child.stdin.write(msgpack.packb([2, "nvim_buf_set_lines", [0, 0, -1, True, ["z"]]]))
-    child.stdin.write(msgpack.packb([2, "nvim_nope", []]))
-    child.stdin.close()
-    replies.feed(child.stdout.read())
-    events = list(replies)
-    if events != [[2, "nvim_error_event", [0, "Invalid method: nvim_nope"]]]:
-        failed += 1
-        print(f"notifications: got {events}", file=sys.stderr)
-    status = child.wait()
-    if status != 0:
-        failed += 1
-        print(f"status {status}", file=sys.stderr)
-    print(f"{len(CALLS) + 2 - failed} passed, {failed} failed")
-    return 1 if failed else 0
+    nvim.notify("nvim_buf_set_lines", 0, 0, -1, True, ["z"])
+    nvim.notify("nvim_nope")
+    nvim.process.stdin.close()
+    nvim.rest()
+    events = [("nvim_error_event", [0, "Invalid method: nvim_nope"])]
+    check.same("notifications", nvim.pending(), events)
+    check.same("status", nvim.process.wait(), 0)
+    return check.end()
 
 
 if __name__ == "__main__":
-    sys.exit(main())
+    run(main)

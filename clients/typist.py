@@ -1,14 +1,15 @@
 #!/usr/bin/python3
-"""Types a text into the current buffer of a server, letter by letter, with the cursor behind it. A line with `.` alone is its end.
-
-Usage: clients/typist.py SOCKET [SECONDS]     SECONDS is the pause behind each letter, 0 without it.
-Wants Debian's python3-pynvim.
+"""Types a text into the current buffer of a server, letter by letter, with the cursor behind it. A
+line with `.` alone is its end. Wants Debian's python3-pynvim.
 """
 
-import sys
 import time
 
 import pynvim
+
+from check import Words, run
+from nvimd import Ended
+
 
 TEXT = """\
 To be, or not to be: that is the question.
@@ -22,9 +23,21 @@ That flesh is heir to.
 ."""
 
 
+def attached(path):
+    """A session of the server at a socket, by pynvim."""
+    try:
+        return pynvim.attach("socket", path=path)
+    except OSError as error:
+        raise Ended(f"no server at {path}: {error.strerror or error}") from None
+
+
 def main():
-    nvim = pynvim.attach("socket", path=sys.argv[1])
-    pause = float(sys.argv[2]) if len(sys.argv) > 2 else 0
+    words = Words(__doc__)
+    words.add_argument("socket", metavar="SOCKET")
+    told = "seconds behind each letter"
+    words.add_argument("pause", metavar="SECONDS", nargs="?", type=float, default=0, help=told)
+    asked = words.parse_args()
+    nvim, pause = attached(asked.socket), asked.pause
     buffer, window = nvim.current.buffer, nvim.current.window
     buffer.name = "typed"
     for row, line in enumerate(TEXT.split("\n")):
@@ -39,4 +52,4 @@ def main():
 
 
 if __name__ == "__main__":
-    sys.exit(main())
+    run(main)

@@ -1,19 +1,49 @@
-"""A UI of a session, for the clients here: its screen, kept by the redraw events, and the calls that it makes itself."""
+"""A UI of a session for the clients here: which server the words name, and calls that are named in
+the line that is said where one is refused."""
 
 import json
+import subprocess
+import sys
 
-from grid import Grid, Unfit
-from server import Ended
+import nvimd
+from check import Words
+from nvimd.screen import OPTIONS, clamped
 
-OPTIONS = {"ext_linegrid": True, "rgb": True}
-MOST_COLUMNS, MOST_ROWS = 2_000, 1_000  # of a screen
+USAGE = "SOCKET | HOST:PORT | -- PROGRAM [WORD..]"
+
+
+class ServerWords(Words):
+    """The words of a command that end in those that name a server."""
+
+    def __init__(self, doc, *before):
+        options = " ".join(["[--calls FILE]", *before])
+        super().__init__(doc, usage=f"%(prog)s {options} {USAGE}")
+        told = 'calls to make, each a line ["nvim_command", ["undo"]] in JSON'
+        self.add_argument("--calls", metavar="FILE", help=told)
+        self.add_argument("words", nargs="*", help="the server")
+
+    def parse_args(self):
+        given = sys.argv[1:]
+        at = given.index("--") if "--" in given else len(given)
+        asked = super().parse_args(given[:at])
+        asked.child = given[at + 1 :]
+        return asked
+
+
+def session_of(words, child=()):
+    """The session that these words name, or a child of its own."""
+    if child and not words:
+        return nvimd.start(list(child), stderr=subprocess.PIPE)
+    if len(words) == 1 and not child:
+        return nvimd.connect(words[0])
+    raise nvimd.Error(f"the words name no server: {USAGE}")
 
 
 def calls_in(path):
-    """The calls of a file, each a line `["nvim_command", ["undo"]]` in JSON; none without a file."""
+    """The calls of a file, each with what it is called in a line; none without a file."""
+    calls, number = [], 0
     if path is None:
-        return []
-    calls = []
+        return calls
     try:
         with open(path, encoding="utf-8") as file:
             for number, line in enumerate(file, 1):
@@ -21,60 +51,40 @@ def calls_in(path):
                     name, params = json.loads(line)
                     calls.append((f"line {number} of {path}, {name}", name, *params))
     except OSError as error:
-        raise Ended(f"no calls in {path}: {error.strerror}") from None
+        raise nvimd.Error(f"no calls in {path}: {error.strerror}") from None
     except (ValueError, TypeError):
-        raise Ended(f"line {number} of {path} is no call") from None
+        raise nvimd.Error(f"line {number} of {path} is no call") from None
     return calls
-
-
-def options_in(words, names):
-    """The options in front of the words, each `--NAME VALUE`, and the words behind them."""
-    found = {}
-    while words and words[0].startswith("--") and words[0][2:] in names:
-        if len(words) < 2:
-            raise Ended(f"{words[0]} wants a word behind it")
-        found[words[0][2:]], words = words[1], words[2:]
-    return found, words
-
-
-def is_wide(cells, col):
-    """Whether a cell and the one behind it, which has the empty text, are one character."""
-    return col + 1 < len(cells) and cells[col + 1] is not None and cells[col + 1][0] == ""
 
 
 class Ui:
     """The screen of a session, and which of its calls are waiting for their replies."""
 
-    def __init__(self, server):
-        self.server = server
-        self.grid = Grid()
+    def __init__(self, session):
+        self.session, self.screen = session, nvimd.Screen(session)
         self.asked = {}
 
     def ask(self, what, name, *params):
         """Makes a call; `what` names it in the line that is said where it is refused."""
-        self.asked[self.server.call(name, *params)] = what
+        self.asked[self.session.post(name, *params)] = what
 
     def attach(self, what, width, height):
-        self.ask(what, "nvim_ui_attach", min(width, MOST_COLUMNS), min(height, MOST_ROWS), OPTIONS)
+        self.ask(what, "nvim_ui_attach", *clamped(width, height), OPTIONS)
 
     def resize(self, what, width, height):
-        self.ask(what, "nvim_ui_try_resize", min(width, MOST_COLUMNS), min(height, MOST_ROWS))
+        self.ask(what, "nvim_ui_try_resize", *clamped(width, height))
 
-    def take(self, message):
-        """A message of the server: whether it ended in a flush."""
-        if message[0] == 1:
-            what = self.asked.pop(message[1], "a call")
-            if message[2] is not None:
-                raise Ended(f"{what}: {self.refusal(message[2])}")
-        elif message[0] == 2 and message[1] == "redraw":
-            try:
-                self.grid.take(message[2])
-            except (Unfit, TypeError, ValueError) as unfit:
-                raise Ended(f"a redraw event is wrong: {unfit}") from None
-            return self.grid.flushed
-        return False
+    def hear(self):
+        """Waits, and takes in what comes; an `Error` where a call is refused."""
+        self.session.poll(None)
+        for msgid in [msgid for msgid in self.asked if msgid in self.session.replies]:
+            error, _ = self.session.answer(msgid)
+            what = self.asked.pop(msgid)
+            if error is not None:
+                words = " ".join(str(nvimd.Fault.of(error)).split())
+                raise nvimd.Error(f"{what}: {words}")
 
-    def refusal(self, error):
-        """The words of an error, in one line."""
-        words = error[1] if isinstance(error, list) and len(error) == 2 else error
-        return " ".join(str(words).split())
+    def answered(self):
+        """Takes in what comes until each call is answered."""
+        while self.asked:
+            self.hear()

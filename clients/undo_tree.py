@@ -1,66 +1,37 @@
 #!/usr/bin/python3
-"""Edits a text, undoes and redoes over a child process, and compares each text with a plain model in Python.
+"""Edits a text, undoes and redoes over a child process, and compares each text with a plain model.
 
-A tree of a hundred changes is made in a seeded order of edits and undos. Then `undo N` visits its numbers in a seeded
-order, and each text is compared with the one that was kept when the change was made. Each reply is compared too:
-lines, text between places, offsets, the number of lines and the changedtick.
-
-Usage: clients/undo_tree.py [SEED]     from anywhere; it starts the launcher `nvimd` at the top of the repository.
-Wants Debian's python3-msgpack.
+A tree of a hundred changes is made in a seeded order of edits and undos. Then `undo N` visits its
+numbers in a seeded order, and each text is compared with the one that was kept when the change was
+made. Each reply is compared too: lines, text between places, offsets, the number of lines and the
+changedtick. Wants Debian's python3-msgpack.
 """
 
-import os
 import random
-import subprocess
-import sys
 
-import msgpack
+import nvimd
+from check import Check, run, seeded
 
-TOP = os.path.dirname(os.path.dirname(os.path.abspath(__file__)))
 CHANGES = 100
 VISITS = 300
 LONG = 4_000  # bytes
-
-
-class Child:
-    """The program, with its calls answered one by one."""
-
-    def __init__(self):
-        self.child = subprocess.Popen([os.path.join(TOP, "nvimd"), "embed"], stdin=subprocess.PIPE, stdout=subprocess.PIPE)
-        self.replies = msgpack.Unpacker(raw=True)
-        self.msgid = 0
-
-    def call(self, method, *params):
-        """The error, as kind and words or None, and the result."""
-        self.msgid += 1
-        self.child.stdin.write(msgpack.packb([0, self.msgid, method, list(params)]))
-        self.child.stdin.flush()
-        while True:
-            for reply in self.replies:
-                if reply[:2] != [1, self.msgid]:
-                    raise SystemExit(f"{method}: no reply to {self.msgid}: {reply}")
-                return reply[2], reply[3]
-            piece = os.read(self.child.stdout.fileno(), 65536)
-            if not piece:
-                raise SystemExit(f"{method}: the program ended")
-            self.replies.feed(piece)
-
-    def end(self):
-        self.child.stdin.close()
-        return self.child.wait()
+LETTERS = "abc \udcff\x00"  # one of them a byte that isn't UTF-8
 
 
 class Model:
     """A buffer: its lines, its changedtick, and a kept text for each change."""
 
-    def __init__(self, empty=b""):
-        self.empty = empty
-        self.lines = [empty]
+    def __init__(self):
+        self.lines = [""]
         self.tick = 2
-        self.kept = [[empty]]
+        self.kept = [[""]]
         self.parent = [0]
         self.entered = {}
         self.current = 0
+
+    def count(self):
+        """How many changes there are, the first text with them."""
+        return len(self.kept)
 
     def change(self, lines):
         self.lines = lines
@@ -76,11 +47,11 @@ class Model:
     def set_lines(self, start, end, new):
         if start == end and not new:
             return
-        self.change((self.lines[:start] + new + self.lines[end:]) or [self.empty])
+        self.change((self.lines[:start] + new + self.lines[end:]) or [""])
 
     def set_text(self, start, end, new):
-        new = new or [self.empty]
-        if start == end and new == [self.empty]:
+        new = new or [""]
+        if start == end and new == [""]:
             return
         put = list(new)
         put[0] = self.lines[start[0]][: start[1]] + put[0]
@@ -122,25 +93,34 @@ class Model:
         assert self.current == way
 
 
-class Check:
-    """Calls of the program and of the model beside each other."""
+class Beside(Check):
+    """Calls of the program and of a model beside each other; a string has a letter a byte."""
 
-    def __init__(self, seed):
+    def __init__(self, seed, model):
+        super().__init__()
         self.random = random.Random(seed)
-        self.child = Child()
-        self.model = Model()
-        self.passed = 0
-        self.failed = 0
-
-    def same(self, what, got, wanted):
-        if got == wanted:
-            self.passed += 1
-        else:
-            self.failed += 1
-            print(f"{what}: got {got}, not {wanted}", file=sys.stderr)
+        self.nvim = nvimd.start()
+        self.model = model
 
     def answers(self, result, method, *params):
-        self.same(f"{method}{params}", self.child.call(method, *params), (None, result))
+        self.same(f"{method}{params}", self.nvim.ask(method, *params), (None, result))
+
+    def undo(self):
+        self.answers(None, "nvim_command", "undo")
+        self.model.undo()
+
+    def redo(self):
+        self.answers(None, "nvim_command", "redo")
+        self.model.redo()
+
+    def visit(self):
+        number = self.random.randrange(self.model.count())
+        self.answers(None, "nvim_command", f"undo {number}")
+        self.model.undo_to(number)
+
+
+class UndoTree(Beside):
+    """Grows a tree of changes, and looks at it."""
 
     def state(self):
         self.answers(self.model.lines, "nvim_buf_get_lines", 0, 0, -1, True)
@@ -174,34 +154,41 @@ class Check:
         return [self.string() for _ in range(self.random.randint(0, most))]
 
     def string(self):
-        """Few bytes, or so many that of an edit within them undo keeps those alone that it changes."""
+        """Few bytes, or so many that of an edit within them undo keeps those alone that it
+        changes."""
         most = 6 if self.random.random() < 0.9 else LONG
-        return bytes(self.random.choices(b"abc \xff\x00", k=self.random.randint(0, most)))
+        return "".join(self.random.choices(LETTERS, k=self.random.randint(0, most)))
 
     def edit(self):
         if self.random.random() < 0.5:
-            start, end = sorted((self.random.randint(0, len(self.model.lines)), self.random.randint(0, len(self.model.lines))))
+            count = len(self.model.lines)
+            start, end = sorted((self.random.randint(0, count), self.random.randint(0, count)))
             new = self.strings(3)
             self.answers(None, "nvim_buf_set_lines", 0, start, end, True, new)
             self.model.set_lines(start, end, new)
         else:
             start, end = self.span()
             new = self.strings(3)
-            self.answers(None, "nvim_buf_set_text", 0, *self.written(start), *self.written(end), new)
+            self.answers(
+                None, "nvim_buf_set_text", 0, *self.written(start), *self.written(end), new
+            )
             self.model.set_text(start, end, new)
 
     def look(self):
         """Text between two places, and the offset of each row."""
         start, end = self.span()
-        self.answers(self.model.get_text(start, end), "nvim_buf_get_text", 0, *self.written(start), *self.written(end), {})
+        text = self.model.get_text(start, end)
+        places = *self.written(start), *self.written(end)
+        self.answers(text, "nvim_buf_get_text", 0, *places, {})
         if start != end:
             self.same(
                 "a start behind its end",
-                self.child.call("nvim_buf_get_text", 0, *end, *start, {}),
-                ([1, b"'start' is higher than 'end'"], None),
+                self.nvim.ask("nvim_buf_get_text", 0, *end, *start, {}),
+                ([1, "'start' is higher than 'end'"], None),
             )
         row = self.random.randint(0, len(self.model.lines))
-        self.answers(sum(len(line) + 1 for line in self.model.lines[:row]), "nvim_buf_get_offset", 0, row)
+        offset = sum(len(line) + 1 for line in self.model.lines[:row])
+        self.answers(offset, "nvim_buf_get_offset", 0, row)
         self.answers(len(self.model.lines), "nvim_buf_line_count", 0)
 
     def grow(self):
@@ -210,22 +197,15 @@ class Check:
         if choice < 0.6:
             self.edit()
         elif choice < 0.8:
-            self.answers(None, "nvim_command", "undo")
-            self.model.undo()
+            self.undo()
         elif choice < 0.9:
-            self.answers(None, "nvim_command", "redo")
-            self.model.redo()
+            self.redo()
         else:
             self.visit()
 
-    def visit(self):
-        number = self.random.randrange(len(self.model.kept))
-        self.answers(None, "nvim_command", f"undo {number}")
-        self.model.undo_to(number)
-
 
 def main():
-    check = Check(int(sys.argv[1]) if len(sys.argv) > 1 else 1)
+    check = UndoTree(seeded(__doc__), Model())
     check.state()
     while len(check.model.kept) <= CHANGES:
         check.grow()
@@ -234,13 +214,12 @@ def main():
     for _ in range(VISITS):
         check.visit()
         check.state()
-    refused = check.child.call("nvim_command", f"undo {CHANGES + 1}")
-    check.same("above the last change", refused, ([1, b"Index out of bounds"], None))
+    refused = check.nvim.ask("nvim_command", f"undo {CHANGES + 1}")
+    check.same("above the last change", refused, ([1, "Index out of bounds"], None))
     check.state()
-    check.same("status", check.child.end(), 0)
-    print(f"{check.passed} passed, {check.failed} failed")
-    return 1 if check.failed else 0
+    check.same("status", check.nvim.end(), 0)
+    return check.end()
 
 
 if __name__ == "__main__":
-    sys.exit(main())
+    run(main)

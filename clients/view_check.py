@@ -1,9 +1,7 @@
 #!/usr/bin/python3
-"""Looks at clients/view.py under pseudo-terminals: what stands on them, read by pyte, is the screen that a client of its own
-folds, at each size; and however it ends, there is one line that says why, and the terminal is as it was.
-
-Usage: clients/view_check.py [PROGRAM]     from anywhere; without a program it is the launcher `nvimd` at the top.
-Wants Debian's python3-msgpack and python3-pyte.
+"""Looks at clients/view.py under pseudo-terminals: what stands on them, read by pyte, is the screen
+that a client of its own folds, at each size; and however it ends, there is one line that says why,
+and the terminal is as it was. Wants Debian's python3-msgpack and python3-pyte.
 """
 
 import fcntl
@@ -13,7 +11,6 @@ import select
 import signal
 import struct
 import subprocess
-import sys
 import tempfile
 import termios
 import time
@@ -21,16 +18,22 @@ import unicodedata
 
 import pyte
 
+import nvimd
+from check import CLIENTS, Words, run
+from nvimd.screen import OPTIONS
 from picture import screen_of_server
-from scenes import CLIENTS, FIRST, FLAGS, SECOND, TOP, Bridge, Check, flags_in, write_calls
-from server import Server
-from ui import Ui
+from scenes import FIRST, FLAGS, SECOND, Bridge, Scenes, flags_in, write_calls
+
 
 SIZES = [(80, 24), (47, 13)]
 OTHER_SIZES = [(63, 17), (90, 30)]
 PATIENCE = 10  # seconds for what must come
 MODE = re.compile(rb"\x1b\[\?(\d+)([hl])")
-AT_REST = {b"1049": b"l", b"7": b"h", b"25": b"h"}  # the plain screen, lines that wrap, a cursor that is seen
+AT_REST = {
+    b"1049": b"l",
+    b"7": b"h",
+    b"25": b"h",
+}  # the plain screen, lines that wrap, a cursor that is seen
 
 
 class Seen:
@@ -43,10 +46,9 @@ class Seen:
         self.screen = pyte.Screen(*size)
         self.stream = pyte.ByteStream(self.screen)
         self.put_size(size)
-        self.view = subprocess.Popen(
-            [os.path.join(CLIENTS, "view.py"), *words], stdin=self.slave, stdout=self.slave, stderr=subprocess.PIPE,
-            preexec_fn=self.own_terminal,
-        )
+        terminal = {"stdin": self.slave, "stdout": self.slave, "preexec_fn": self.own_terminal}
+        command = [os.path.join(CLIENTS, "view.py"), *words]
+        self.view = subprocess.Popen(command, stderr=subprocess.PIPE, **terminal)
 
     def own_terminal(self):
         os.setsid()
@@ -79,8 +81,10 @@ class Seen:
         return shown()
 
     def cells(self):
-        """What stands there: the cells, each with its attributes, and the cursor's place where it is seen."""
-        rows = [[cell_of(self.screen.buffer[row][col]) for col in range(self.screen.columns)] for row in range(self.screen.lines)]
+        """What stands there: the cells, each with its attributes, and the cursor's place where it
+        is seen."""
+        buffer, columns = self.screen.buffer, range(self.screen.columns)
+        rows = [[cell_of(buffer[row][col]) for col in columns] for row in range(self.screen.lines)]
         cursor = self.screen.cursor
         return rows, None if cursor.hidden else (cursor.y, cursor.x)
 
@@ -95,7 +99,8 @@ class Seen:
         while self.take(0):
             pass
         modes = dict(MODE.findall(self.sent))
-        as_found = termios.tcgetattr(self.slave) == self.found and all(AT_REST[mode] == put for mode, put in modes.items())
+        as_found = termios.tcgetattr(self.slave) == self.found
+        as_found = as_found and all(AT_REST[mode] == put for mode, put in modes.items())
         status = self.view.wait()
         self.view.stderr.close()
         os.close(self.master)
@@ -109,22 +114,27 @@ def cell_of(char):
     return unicodedata.normalize("NFC", char.data), char.fg, char.bg, flags
 
 
+SHOWN = ("bold", "italic", "underline", "strikethrough", "reverse")
 BLANK = (" ", "default", "default", (False,) * 5)
 
 
 def cell_in(cell, colours):
-    """The same of a cell of a grid."""
+    """The same of a cell of a screen."""
     text, attribute = cell
-    foreground, background = (attribute.get(name, own) for name, own in zip(("foreground", "background"), colours))
-    flags = tuple(bool(attribute.get(name)) for name in ("bold", "italic", "underline", "strikethrough", "reverse"))
+    foreground = attribute.get("foreground", colours[0])
+    background = attribute.get("background", colours[1])
+    flags = tuple(bool(attribute.get(name)) for name in SHOWN)
     return unicodedata.normalize("NFC", text), f"{foreground:06x}", f"{background:06x}", flags
 
 
-def cells_in(grid, size):
-    """What a terminal of this size shows of a grid."""
-    rows = [[cell_in(cell, grid.colours) for cell in row[: size[0]]] for row in grid.shown()[: size[1]]]
+def cells_in(screen, size):
+    """What a terminal of this size shows of a screen."""
+    rows = [
+        [cell_in(cell, screen.colours) for cell in row[: size[0]]]
+        for row in screen.shown()[: size[1]]
+    ]
     rows = [row + [BLANK] * (size[0] - len(row)) for row in rows]
-    return rows + [[BLANK] * size[0]] * (size[1] - len(rows)), grid.cursor
+    return rows + [[BLANK] * size[0]] * (size[1] - len(rows)), screen.cursor
 
 
 def difference(got, wanted):
@@ -140,56 +150,64 @@ def named(calls):
     return [(name, name, *params) for name, params in calls]
 
 
-class Views(Check):
+class Views(Scenes):
     """What views of the program's screens show."""
 
-    def shows(self, what, seen, grid):
+    def shows(self, what, seen, screen):
         size = (seen.screen.columns, seen.screen.lines)
-        wanted = cells_in(grid, size)
+        wanted = cells_in(screen, size)
         self.same(what, difference(seen.until(wanted, seen.cells), wanted), None)
 
     def ends(self, what, seen, words):
         """It ends with one line that holds these words, and with a status that isn't 0."""
         status, said, as_found = seen.end()
-        self.same(f"{what}: ended, lines, terminal as found", (status != 0, len(said), as_found), (True, 1, True))
-        self.same(f"{what}: said", [line for line in said if line.startswith("view: ") and words in line], said)
+        got = status != 0, len(said), as_found
+        self.same(f"{what}: ended, lines, terminal as found", got, (True, 1, True))
+        right = [line for line in said if line.startswith("view: ") and words in line]
+        self.same(f"{what}: said", right, said)
 
     def sizes(self):
-        """Each size, then another one, and each way to leave; over a child and over both kinds of socket."""
-        unix = Bridge([self.program, "embed"], os.path.join(self.folder, "socket"))
-        inet = Bridge([self.program, "embed"])
+        """Each size, then another one, and each way to leave; over a child and over both kinds of
+        socket."""
+        unix = Bridge(self.embed, self.path("socket"))
+        inet = Bridge(self.embed)
         servers = [self.child, [unix.address], [inet.address]]
         for number, (size, other) in enumerate(zip(SIZES, OTHER_SIZES)):
             for words in servers:
                 seen = Seen(size, ["--calls", self.calls, *words])
                 calls = named(FIRST + SECOND)
-                grid = screen_of_server(self.child, size, calls)
-                self.same("flags that are shown", flags_in(grid), FLAGS)
-                self.shows(f"{size} over {words}", seen, grid)
+                screen = screen_of_server([], self.embed, size, calls)
+                self.same("flags that are shown", flags_in(screen), FLAGS)
+                self.shows(f"{size} over {words}", seen, screen)
                 calls.append(("size", "nvim_ui_try_resize", *other))
                 seen.resize(other)
-                self.shows(f"{size}, then {other}", seen, screen_of_server(self.child, size, calls))
+                later = screen_of_server([], self.embed, size, calls)
+                self.shows(f"{size}, then {other}", seen, later)
                 seen.press([b"q", b"\x03"][number])
                 self.same("left by a key", seen.end(), (0, [], True))
 
     def cuts(self):
-        """A server that ends inside what it sends: before the first screen, and while it is shown."""
-        server = Server(self.child)
-        ui = Ui(server)
-        ui.attach("a screen", *SIZES[0])
-        while not ui.grid.flushed:
-            for message in server.messages():
-                ui.take(message)
-        server.close()
-        for most, words in [(9, "inside a message"), (server.fed - 1, "inside a message"), (server.fed + 40, "ended")]:
-            bridge = Bridge([self.program, "embed"], most=most)
-            self.ends(f"cut behind {most} bytes", Seen(SIZES[0], ["--calls", self.calls, bridge.address]), words)
+        """A server that ends inside what it sends: before the first screen, and while it is
+        shown."""
+        with nvimd.start() as session:
+            session.call("nvim_ui_attach", *SIZES[0], OPTIONS)
+            while not session.pending():
+                session.read()
+            first = session.fed
+        inside = "inside a message"
+        for most, words in [(9, inside), (first - 1, inside), (first + 40, "ended")]:
+            bridge = Bridge(self.embed, most=most)
+            self.ends(
+                f"cut behind {most} bytes",
+                Seen(SIZES[0], ["--calls", self.calls, bridge.address]),
+                words,
+            )
 
     def bad_words(self):
         """Servers that aren't there or are none, and calls that can't be made."""
-        nope = write_calls(os.path.join(self.folder, "nope"), FIRST[:1] + [["nvim_nope", []]])
-        quits = write_calls(os.path.join(self.folder, "quits"), [["nvim_command", ["qall!"]]])
-        torn = os.path.join(self.folder, "torn")
+        nope = write_calls(self.path("nope"), FIRST[:1] + [["nvim_nope", []]])
+        quits = write_calls(self.path("quits"), [["nvim_command", ["qall!"]]])
+        torn = self.path("torn")
         with open(torn, "w", encoding="utf-8") as file:
             file.write('["nvim_command", ["undo"]')
         for words, said in [
@@ -217,56 +235,53 @@ class Views(Check):
         seen = self.begun()
         seen.view.send_signal(signal.SIGTERM)
         self.ends("a signal", seen, "ended by SIGTERM")
-        told = os.path.join(self.folder, "told")
+        told = self.path("told")
         silent = Bridge(["sh", "-c", f"head -c 1 >{told}; cat >/dev/null"])
         seen = Seen(SIZES[1], [silent.address])
         seen.until(True, lambda: os.path.exists(told) and os.path.getsize(told) == 1)
         seen.press(b"\x03")
         self.ends("Ctrl-C before the first screen", seen, "ended by SIGINT")
-        ran = subprocess.run([os.path.join(CLIENTS, "view.py"), *self.child], stdin=subprocess.DEVNULL, capture_output=True, text=True)
-        self.same("no terminal", (ran.returncode, ran.stdout, len(ran.stderr.splitlines())), (1, "", 1))
+        given = {"stdin": subprocess.DEVNULL, "capture_output": True, "text": True}
+        ran = subprocess.run([os.path.join(CLIENTS, "view.py"), *self.child], **given)
+        got = ran.returncode, ran.stdout, len(ran.stderr.splitlines())
+        self.same("no terminal", got, (1, "", 1))
 
     def begun(self):
         """A view that shows an empty text."""
         seen = Seen(SIZES[1], self.child)
-        self.shows("an empty text", seen, screen_of_server(self.child, SIZES[1], []))
+        self.shows("an empty text", seen, screen_of_server([], self.embed, SIZES[1], []))
         return seen
 
     def several(self):
         """Two views and a client that edits on one server: all show the same."""
-        path = os.path.join(self.folder, "shared")
-        served = subprocess.Popen([self.program, "serve", "--listen", path], stderr=subprocess.DEVNULL)
-        while not os.path.exists(path):
-            if served.poll() is not None:
-                self.same("a server ended", served.returncode, None)
-                return
-            time.sleep(0.05)
+        path = self.path("shared")
+        served = nvimd.Server(address=path, stderr=subprocess.DEVNULL)
+        editor = served.connect()
         views = [Seen(size, [path]) for size in [(60, 16), (48, 20)]]
         for seen in views:
             seen.until(True, lambda: b"[No Name]" in seen.sent)
         calls = named(FIRST + SECOND)
-        grid = screen_of_server([path], (100, 40), calls)
-        self.same("the least size", (grid.width, grid.height), (48, 16))
+        screen = screen_of_server([path], [], (100, 40), calls)
+        self.same("the least size", (screen.width, screen.height), (48, 16))
         for seen in views:
-            self.shows("a view of two", seen, grid)
+            self.shows("a view of two", seen, screen)
         views[1].press(b"q")
         self.same("one leaves", views[1].end(), (0, [], True))
-        self.shows("the other", views[0], screen_of_server([path], (100, 40), []))
-        editor = Server([path])
-        editor.call("nvim_command", "qall!")
+        self.shows("the other", views[0], screen_of_server([path], [], (100, 40), []))
+        editor.command("qall!")
         self.ends("the server is ended", views[0], "the server ended")
         editor.close()
-        self.same("the server's status", served.wait(PATIENCE), 0)
+        self.same("the server's status", served.process.wait(PATIENCE), 0)
 
 
 def main():
-    program = sys.argv[1] if len(sys.argv) > 1 else os.path.join(TOP, "nvimd")
+    Words(__doc__).parse_args()
     with tempfile.TemporaryDirectory() as folder:
-        check = Views(program, folder)
+        check = Views(folder)
         for part in (check.sizes, check.cuts, check.bad_words, check.bad_terminals, check.several):
             part()
     return check.end()
 
 
 if __name__ == "__main__":
-    sys.exit(main())
+    run(main)

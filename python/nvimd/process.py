@@ -5,7 +5,7 @@ import time
 
 
 def seconds(pid):
-    """The processor time so far of all its threads, also of those that ended (clock_getcpuclockid(3))."""
+    """The processor time of all its threads, ended ones too (clock_getcpuclockid(3))."""
     return time.clock_gettime(~pid << 3 | 2)
 
 
@@ -21,8 +21,13 @@ def forget_peak(pid):
         file.write("5")
 
 
+def descriptors(pid):
+    """How many files and sockets it has open (proc_pid_fd(5))."""
+    return len(os.listdir(f"/proc/{pid}/fd"))
+
+
 def runs(pid):
-    """Whether one of its threads is on a processor, or waits for one or for a page (proc_pid_stat(5))."""
+    """Whether a thread of it is on a processor, or waits for one or a page (proc_pid_stat(5))."""
     for thread in os.listdir(f"/proc/{pid}/task"):
         try:
             with open(f"/proc/{pid}/task/{thread}/stat") as stat:

@@ -1,0 +1,77 @@
+#!/usr/bin/python3
+"""Measures a suite of 200 tests, each with an editor of its own, a text, a mark and a screen: at
+nvimd and at Neovim (`nvim` on the path), by the same fixtures. Prints the seconds of each as pytest
+tells them, and those of a processor, of pytest and the editors together: the best of some rounds.
+
+Wants Debian's python3-msgpack, python3-pytest and neovim.
+"""
+
+import os
+import re
+import subprocess
+import sys
+import tempfile
+
+import nvimd
+from nvimd.command import Words, run
+from nvimd.program import TOP
+from session import processor_time, tell_load
+
+TESTS = 200
+ROUNDS = 3
+NEOVIM = ["nvim", "--headless", "-u", "NONE", "-i", "NONE", "-n", "--listen"]
+SUITE = f"""
+import pytest
+
+@pytest.fixture
+def nvimd_command():
+    return COMMAND
+
+@pytest.mark.parametrize("number", range({TESTS}))
+def test_a_mark_on_a_screen(nvimd, number):
+    screen = nvimd.screen(60, 12)
+    space = nvimd.api.create_namespace("suite")
+    nvimd.api.buf_set_lines(0, 0, -1, True, ["one", f"line {{number}}", "three"])
+    nvimd.api.buf_set_extmark(0, space, 1, 0, {{"end_col": 4, "hl_group": "NonText"}})
+    screen.wait(lambda it: it.rows[1].startswith(f"line {{number}}"))
+    assert nvimd.api.buf_get_extmarks(0, space, 0, -1, {{}}) == [[1, 1, 0]]
+"""
+TOLD = re.compile(rf"{TESTS} passed in ([\d.]+)s")
+
+
+def seconds(folder, command):
+    """The seconds of one round, as pytest tells them, and those of a processor."""
+    path = os.path.join(folder, "test_suite.py")
+    with open(path, "w", encoding="utf-8") as file:
+        file.write(SUITE.replace("COMMAND", repr(command)))
+    places = [os.path.join(TOP, "python"), os.environ.get("PYTHONPATH", "")]
+    environment = {**os.environ, "NVIMD": nvimd.program(), "PYTHONPATH": os.pathsep.join(places)}
+    words = [sys.executable, "-m", "pytest", "-q", "-p", "nvimd.plugin", path]
+    given = {"cwd": folder, "env": environment, "capture_output": True, "text": True}
+    with processor_time() as taken:
+        done = subprocess.run(words, **given)
+    found = TOLD.search(done.stdout)
+    if not found:
+        raise nvimd.Error(f"the suite failed: {done.stdout[-2000:]}{done.stderr[-500:]}")
+    return float(found[1]), taken()
+
+
+def main():
+    words = Words(__doc__)
+    told = "how often each suite is run; the best counts"
+    words.add_argument("rounds", metavar="ROUNDS", nargs="?", type=int, default=ROUNDS, help=told)
+    rounds = words.parse_args().rounds
+    tell_load()
+    with tempfile.TemporaryDirectory() as folder:
+        found = {}
+        for name, command in (("Neovim", NEOVIM), ("nvimd", None)):
+            found[name] = list(map(min, zip(*[seconds(folder, command) for _ in range(rounds)])))
+    print(f"    {'ms a test':20} {'Neovim':>9} {'nvimd':>9} {'ratio':>6}")
+    for what, theirs, ours in zip(("in all", "of a processor"), found["Neovim"], found["nvimd"]):
+        each = [f"{seconds / TESTS * 1e3:9.1f}" for seconds in (theirs, ours)]
+        print(f"    {what:20}", *each, f"{ours / theirs:6.2f}")
+    return 0
+
+
+if __name__ == "__main__":
+    run(main, 1_200)
