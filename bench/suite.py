@@ -1,7 +1,8 @@
 #!/usr/bin/python3
 """Measures a suite of 200 tests, each with an editor of its own, a text, a mark and a screen: at
-nvimd and at Neovim (`nvim` on the path), by the same fixtures. Prints the seconds of each as pytest
-tells them, and those of a processor, of pytest and the editors together: the best of some rounds.
+nvimd, at Neovim (`nvim` on the path) as it is installed (`--clean`) and bare, without the plugins
+that come with it (`-u NONE`), by the same fixtures. Prints milliseconds a test, as pytest tells
+them, and those of a processor, of pytest and the editors together: the best of some rounds.
 
 Wants Debian's python3-msgpack, python3-pytest and neovim.
 """
@@ -19,7 +20,11 @@ from session import processor_time, tell_load
 
 TESTS = 200
 ROUNDS = 3
-NEOVIM = ["nvim", "--headless", "-u", "NONE", "-i", "NONE", "-n", "--listen"]
+SERVERS = {
+    "nvimd": None,
+    "Neovim": ["nvim", "--clean", "--headless", "-n", "--listen"],
+    "bare": ["nvim", "--headless", "-u", "NONE", "-i", "NONE", "-n", "--listen"],
+}
 SUITE = f"""
 import pytest
 
@@ -63,13 +68,15 @@ def main():
     rounds = words.parse_args().rounds
     tell_load()
     with tempfile.TemporaryDirectory() as folder:
-        found = {}
-        for name, command in (("Neovim", NEOVIM), ("nvimd", None)):
-            found[name] = list(map(min, zip(*[seconds(folder, command) for _ in range(rounds)])))
-    print(f"    {'ms a test':20} {'Neovim':>9} {'nvimd':>9} {'ratio':>6}")
-    for what, theirs, ours in zip(("in all", "of a processor"), found["Neovim"], found["nvimd"]):
-        each = [f"{seconds / TESTS * 1e3:9.1f}" for seconds in (theirs, ours)]
-        print(f"    {what:20}", *each, f"{ours / theirs:6.2f}")
+        found = {
+            name: list(map(min, zip(*[seconds(folder, command) for _ in range(rounds)])))
+            for name, command in SERVERS.items()
+        }
+    print(f"    {'ms a test':16}", *[f"{name:>8}  ratio" for name in found])
+    for number, what in enumerate(("in all", "of a processor")):
+        ours = found["nvimd"][number]
+        each = [(taken[number] / TESTS * 1e3, ours / taken[number]) for taken in found.values()]
+        print(f"    {what:16}", *[f"{taken:8.1f} {ratio:6.2f}" for taken, ratio in each])
     return 0
 
 

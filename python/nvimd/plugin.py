@@ -23,6 +23,7 @@ from .server import Server
 
 TIMEOUT = 10  # seconds that a test waits for an answer
 LONGEST = 200  # letters of a file's name
+SESSIONS = 8  # of a server at once; each costs its start a little
 
 
 def pytest_addoption(parser):
@@ -47,11 +48,12 @@ def nvimd_books(tmp_path_factory):
 @pytest.fixture
 def nvimd_server(request, nvimd_books, nvimd_command):
     """A fresh server, for many sessions; `nvimd` is one of them."""
-    book = None
+    book, words = None, []
     if nvimd_command is None:
+        words = ["--sessions", str(SESSIONS)]
         name = re.sub(r"\W+", "-", request.node.nodeid).strip("-")[-LONGEST:]
         book = str(nvimd_books / f"{name}.book")
-    server = Server(book=book, command=nvimd_command)
+    server = Server(*words, book=book, command=nvimd_command)
     request.node.nvimd_server = server
     yield server
     server.kill()

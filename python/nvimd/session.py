@@ -312,7 +312,7 @@ def connect(address, ext_hook=handle):
 def connect_soon(address, process, timeout):
     """The same, of a server that has just been started, once it listens."""
     late = time.monotonic() + timeout
-    pause = 0.0005
+    pause = 0.0002
     while True:
         try:
             return connect(address)
@@ -322,4 +322,4 @@ def connect_soon(address, process, timeout):
             if time.monotonic() > late:
                 raise ended
             time.sleep(pause)
-            pause = min(2 * pause, 0.02)
+            pause = min(1.2 * pause, 0.02)

@@ -13,13 +13,14 @@ def test_it_says_what_was_asked_and_sent(tmp_path):
         with pytest.raises(package.InvalidMethod):
             session.api.nope()
     book = package.Book(path)
-    asked = [told[4] for told, _ in book.entries if told[0] == "r"]
-    assert asked == ["nvim_buf_set_lines", "nvim_nope", "nvim_command"]
-    assert book.sent()[2] == packed([1, 1, None, None]) + packed(
+    requests = [told for told, _ in book.entries if told[0] == "r"]
+    assert [told[4] for told in requests] == ["nvim_buf_set_lines", "nvim_nope", "nvim_command"]
+    number = requests[0][2]  # that the server is looked for opens sessions of its own
+    assert book.sent()[number] == packed([1, 1, None, None]) + packed(
         [1, 2, [0, "Invalid method: nvim_nope"], None]
     )
     assert book.whole() == book.data
-    assert book.summary().startswith(f"entries {len(book.entries)} sessions 3 takes ")
+    assert book.summary().startswith(f"entries {len(book.entries)} sessions ")
 
 
 def test_texts_and_screens_as_of_an_entry(tmp_path):
