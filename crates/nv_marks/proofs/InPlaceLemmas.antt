@@ -15,7 +15,7 @@ use Rattle.nv_marks.specs.Order.{is_within}
 use Rattle.nv_marks.specs.declared.record.Record.{Record}
 use Rattle.nv_marks.specs.declared.record.Relative.{Relative}
 use Rattle.nv_marks.specs.inside.Records.{ForEach, Sort, precedes}
-use Rattle.nv_marks.specs.inside.Chunks.{Piece, placed_record, kept_from, reach, records_of, spread_records, base_of, refilled_piece, IsBased, IsLaid, held_records, pieces_edited_at, starts_before, with_inserted, with_removed, has_place}
+use Rattle.nv_marks.specs.inside.Chunks.{Piece, placed_record, kept_from, reach, rebased_from, text_start, records_of, spread_records, base_of, refilled_piece, IsBased, IsLaid, held_records, pieces_edited_at, starts_before, with_inserted, with_removed, has_place}
 use Rattle.nv_marks.proofs.EachLemmas.{Each-get_or, Each-weaker, Each-take, Each-drop, Each-unmap, Each-map, Rises-left, Rises-right, lower_parts, sorted_from_rises, Rises-from_sorted, point_front, point_rest}
 use Rattle.nv_marks.proofs.OrderLemmas.{IsSortedBy-insert}
 use Rattle.nv_marks.proofs.PlacesLemmas.{record_ranks, follows}
@@ -170,6 +170,17 @@ all_back : (base : Pos) (ks : List Relative) → map (kept_from base) (map (plac
 all_back base [] = refl
 all_back base (k ∷ ks) =
     ap (λ (x : Relative). x ∷ map (kept_from base) (map (placed_record base) ks)) (kept_back base k) ∙ ap (λ (l : List Relative). k ∷ l) (all_back base ks)
+
+-- ... kept behind the first place of a text, where they are kept so
+pub start_back : (base : Pos) (ks : List Relative) → base.row ≡ 0 → base.col ≡ 0 → ks ≡ map (rebased_from base) ks
+start_back base ks row col = sym (ap (λ (p : Pos). map (rebased_from p) ks) is ∙ each ks)
+  where
+    is : base ≡ text_start
+    is = λ i. record { row = row i; col = col i }
+
+    each : (ls : List Relative) → map (rebased_from text_start) ls ≡ ls
+    each [] = refl
+    each (k ∷ ls) = ap (λ (x : Relative). x ∷ map (rebased_from text_start) ls) (kept_back text_start k) ∙ ap (λ (l : List Relative). k ∷ l) (each ls)
 
 pub front_back : (base : Pos) (ks : List Relative) (n : ℕ) → map (kept_from base) (take n (map (placed_record base) ks)) ≡ take n ks
 front_back base ks n = ap (map (kept_from base)) (take-map (placed_record base) n ks) ∙ all_back base (take n ks)

@@ -1,5 +1,5 @@
 -- The names in an index.
-use Rattle.std.proofs.Common.{◌≡◌, ◌∙◌, refl, ap, sym, ℕ, zero, suc, List, [], ◌∷◌, ◌++◌, take, Bool, true, false, not, ◌&&◌, ◌||◌, cond, eqb, arith, Option, Some, None}
+use Rattle.std.proofs.Common.{◌≡◌, ◌∙◌, ◌≤◌, refl, ap, sym, ℕ, zero, suc, List, [], ◌∷◌, ◌++◌, take, Bool, true, false, not, ◌&&◌, ◌||◌, cond, eqb, arith, Option, Some, None}
 use Rattle.std.specs.Prelude.{IsSome, filter, is_some, option_map}
 use Rattle.std.specs.Ordering.{is_gt, is_lt}
 use Rattle.std.proofs.lemmas.Bool.{both_ways}
@@ -227,3 +227,36 @@ kept_names q m n is a i = ap (λ (es : List ((ℕ × Reverse ℕ) × Home)). is_
         → is_indexed (keys_of (filter (λ (e : (ℕ × Reverse ℕ) × Home). q e.0.0) es)) a i ≡ (q a && is_indexed (keys_of es) a i)
     of_entries [] = none (q a)
     of_entries (e ∷ es) = step e es (of_entries es) (q e.0.0) refl (is_at (name_order (name_of a i)) e.0) refl
+
+-- ---- all names
+-- a name that is there stands at or behind the first one
+pub none_before : (m : BTreeMap (ℕ × Reverse ℕ) Home) (first : ℕ × Reverse ℕ)
+    → ((q : ℕ × Reverse ℕ) → IsSome (get name_order m q) → is_gt (name_order first q) ≡ false) → (n i : ℕ) → is_indexed (keys m) n i ≡ true → first.0 ≤ n
+none_before m first least n i has =
+    let order : is_gt (name_order first (name_of n i)) ≡ false = least (name_of n i) (known m n i ∙ has) in
+    grind (arith, common_steps, nat_tests, order)
+
+-- ... and at or before the last one
+pub none_behind : (m : BTreeMap (ℕ × Reverse ℕ) Home) (last : ℕ × Reverse ℕ)
+    → ((q : ℕ × Reverse ℕ) → IsSome (get name_order m q) → is_lt (name_order last q) ≡ false) → (n i : ℕ) → is_indexed (keys m) n i ≡ true → n ≤ last.0
+none_behind m last greatest n i has =
+    let order : is_lt (name_order last (name_of n i)) ≡ false = greatest (name_of n i) (known m n i ∙ has) in
+    grind (arith, common_steps, nat_tests, order)
+
+pub one_namespace : (names : List (ℕ × Reverse ℕ)) (ns : ℕ) → ((n i : ℕ) → is_indexed names n i ≡ true → ns ≤ n) → ((n i : ℕ) → is_indexed names n i ≡ true → n ≤ ns)
+    → (n i : ℕ) → is_indexed names n i ≡ true → eqb n ns ≡ true
+one_namespace names ns from to n i has =
+    let low : ns ≤ n = from n i has in
+    let high : n ≤ ns = to n i has in
+    grind (arith, nat_tests, low, high)
+
+-- no name is left of those that are all meant
+pub none_left : (q : ℕ → Bool) (m : BTreeMap (ℕ × Reverse ℕ) Home) (names : List (ℕ × Reverse ℕ)) → m.entries ≡ [] → ((n i : ℕ) → is_indexed names n i ≡ true → q n ≡ true)
+    → (n i : ℕ) → is_indexed (keys m) n i ≡ (not (q n) && is_indexed names n i)
+none_left q m names empty all n i =
+    ap (λ (es : List ((ℕ × Reverse ℕ) × Home)). is_indexed (keys_of es) n i) empty ∙ by_case (q n) (is_indexed names n i) (all n i)
+  where
+    by_case : (b c : Bool) → (c ≡ true → b ≡ true) → false ≡ (not b && c)
+    by_case true c meant = refl
+    by_case false true meant = absurd (both_ways false refl (meant refl))
+    by_case false false meant = refl

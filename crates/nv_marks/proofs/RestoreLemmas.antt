@@ -6,7 +6,7 @@ use Rattle.std.specs.List.{IsDistinct}
 use Rattle.std.proofs.lemmas.Bool.{both_ways}
 use Rattle.std.proofs.lemmas.Bool.Decides.{nat_tests}
 use Rattle.std.proofs.lemmas.Simd.{map-map}
-use Rattle.std.proofs.lemmas.List.{map-append, map-set, length-set, length-map, length-append, set-append_left, set-append_right, get_or_append_left, get_or-append-add, drop_all, drop_more}
+use Rattle.std.proofs.lemmas.List.{map-append, map-set, length-set, length-map, length-append, set-append_left, set-append_right, get_or_append_left, get_or-append-add, get_or_default, drop_all, drop_more}
 use Rattle.std.proofs.lemmas.List.Elements.{All-head, All-tail, All-map, All-weaker}
 use Rattle.std.proofs.lemmas.List.Sorted.{IsPermutation-trans, IsPermutation-sym, IsPermutation-map, length_permutation}
 use Rattle.std.proofs.lemmas.Map.Keys.{IsDistinct-IsPermutation, IsDistinct-tail, apart_from_distinct}
@@ -22,7 +22,7 @@ use Rattle.nv_marks.specs.declared.keeping.Kept.{Kept}
 use Rattle.nv_marks.specs.declared.record.Record.{Record}
 use Rattle.nv_marks.specs.declared.record.Relative.{Relative}
 use Rattle.nv_marks.specs.inside.Records.{ForEach, Sort, belongs_to, end_among, far_in, has_key, is_start, mark_among, marks_among, records_of_mark, records_of_marks, same_key}
-use Rattle.nv_marks.specs.inside.Chunks.{Piece, IsShaped, IsLaid, IsFoundAt, kept_from, pieces_edited_at, placed_record, rebased_from, records_of, refilled_pieces, refit_pieces, spread_records, text_start, with_record, written_piece}
+use Rattle.nv_marks.specs.inside.Chunks.{Piece, IsShaped, IsLaid, IsFoundAt, held_records, kept_from, pieces_edited_at, placed_record, rebased_from, records_of, refilled_pieces, refit_pieces, spread_records, text_start, with_record, written_piece}
 use Rattle.nv_marks.specs.inside.Names.{IsIndexOf}
 use Rattle.nv_marks.specs.inside.Stored.{HoldsMarks}
 use Rattle.nv_marks.specs.inside.Restoring.{all_put_back, has_setting, has_setting_by, kept_place, mark_put_back, one_put_back, part_put_back, record_put_back, stop_put_back}
@@ -170,6 +170,52 @@ narrow_with ps qs n i p r within here edited fits narrow =
     (Each-append N (set (records_of p) i r) bs
     (Each-set N (records_of p) i r fits (Each-left N (records_of p) bs (Each-right N fs (records_of p ++ bs) parts)))
     (Each-right N (records_of p) bs (Each-right N fs (records_of p ++ bs) parts))))
+
+-- a record that passes a test that no other does is the one that is found
+find_hit : (t : Record → Bool) → ((x y : Record) → t x ≡ true → t y ≡ true → same_key x y ≡ true) → (xs : List Record) (i : ℕ) (d : Record)
+    → IsDistinct same_key xs → i < length xs → t (get_or xs i d) ≡ true → find t xs ≡ Some (get_or xs i d)
+find_hit t once [] i d apart within passes = absurd (omega arith)
+find_hit t once (x ∷ xs) zero d apart within passes = ap (λ (b : Bool). cond b (Some x) (find t xs)) passes
+find_hit t once (x ∷ xs) (suc i) d apart within passes =
+    by_case (find_hit t once xs i d (IsDistinct-tail same_key x xs apart) (omega arith) passes) (t x) refl
+  where
+    by_case : find t xs ≡ Some (get_or xs i d) → (b : Bool) → t x ≡ b → cond b (Some x) (find t xs) ≡ Some (get_or xs i d)
+    by_case rest true is = absurd (both_ways (same_key x (get_or xs i d))
+        (apart_from_distinct same_key (x ∷ xs) 0 (suc i) d apart (omega arith) within)
+        (once x (get_or xs i d) is passes))
+    by_case rest false is = rest
+
+pub hit_here : (ns id : ℕ) (end : Bool) (ps : List Piece) (n i : ℕ) (p : Piece) (one : Record) → IsDistinct same_key (spread_records ps) → n < length ps
+    → p ≡ get_or ps n p → i < length p.kept → one ≡ get_or (records_of p) i one → has_key ns id end one ≡ true → IsFoundAt (has_key ns id end) ps n i
+hit_here ns id end ps n i p one apart within here few is passes =
+    let t : Record → Bool = has_key ns id end in
+    let fs : List Record = spread_records (take n ps) in
+    let bs : List Record = spread_records (drop (n + 1) ps) in
+    let all : List Record = fs ++ (records_of p ++ bs) in
+    let parts : spread_records ps ≡ all = in_midst ps n p within here in
+    let held : held_records n 1 ps ≡ records_of p = held_one ps n p within ∙ ap records_of (sym here) in
+    let len : length (records_of p) ≡ length p.kept = length-map p.kept (placed_record p.base) in
+    let inside : i < length (records_of p) = omega (arith, len, few) in
+    let there : get_or all (length fs + i) one ≡ one = get_midst fs (records_of p) bs i one inside ∙ sym is in
+    let whole : find t all ≡ Some (get_or all (length fs + i) one) =
+    find_hit t (key_once ns id end) all (length fs + i) one (subst (λ (l : List Record). IsDistinct same_key l) parts apart)
+    (omega (arith, inside, length-append fs (records_of p ++ bs), length-append (records_of p) bs)) (ap t there ∙ passes) in
+    record {
+      chunk = within;
+      place = subst (λ (l : List Record). i < length l) (sym held) inside;
+      found = λ d.
+          ap (find t) parts ∙ whole ∙ ap Some there ∙ ap Some is
+          ∙ ap Some (get_or_default (records_of p) i one d inside)
+          ∙ ap (λ (l : List Record). Some (get_or l i d)) (sym held);
+    }
+
+-- where no mark is, no start of it is
+pub no_start : (rs : List Record) (ns id : ℕ) → mark_at (marks_among rs) ns id ≡ None → find (has_key ns id false) rs ≡ None
+no_start rs ns id none = by_case (find (has_key ns id false) rs) (sym (mark_by_start rs rs ns id) ∙ none)
+  where
+    by_case : (o : Option Record) → option_map (mark_among rs) o ≡ None → o ≡ None
+    by_case None is = refl
+    by_case (Some x) is = absurd cc
 
 pub part_put : (k : Kept) (end : Bool) (ps qs : List Piece) (n i : ℕ) (p : Piece) (one r : Record) → IsDistinct same_key (spread_records ps)
     → IsFoundAt (has_key k.ns k.id end) ps n i → p ≡ get_or ps n p → one ≡ get_or (records_of p) i one → r ≡ record_put_back k one

@@ -19,7 +19,7 @@ ghost use Rattle.std.specs.Prelude.{◌≡◌, ◌<◌, ◌≤◌, ℕ, IfOk, If
 use crate::extmark::Mark;
 use crate::index::Index;
 use crate::keeping::Kept;
-use crate::parts::find_mark;
+use crate::parts::find_next;
 use crate::query::Query;
 use crate::store::Store;
 use nv_places::{Extent, Pos};
@@ -276,8 +276,9 @@ pub(crate) fn cover_kept(bands: &mut [Band], store: &Store, index: &Index, kept:
         (mark_at (marks_among (spread_records store.now.chunks.items)) k.ns k.id)
         (HasBand bands.new)) kept.now }
 {
+    let mut last = (0, 0);
     for one in kept {
-        let found = find_mark(store, index, one.ns, one.id);
+        let found = find_next(store, index, &mut last, one.ns, one.id);
         widen_for(bands, found);
     }
 }

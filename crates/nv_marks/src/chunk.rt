@@ -285,9 +285,19 @@ fn rebase_all(base: Pos, kept: &mut [Relative])
     requires narrow { ForEach (λ r. IsNarrow r.pos) (map (placed_record base) kept.old) }
     ensures { kept.new ≡ map (rebased_from base) kept.old }
 {
+    if is_start(base) {
+        return;
+    }
     for one in kept.iter_mut() {
         *one = one.placed(base).kept_from(Pos { row: 0, col: 0 });
     }
+}
+
+/// Whether a place is the first one of a text.
+fn is_start(place: Pos) -> bool
+    ensures { result ≡ true → (place.row ≡ 0) × (place.col ≡ 0) }
+{
+    place.row == 0 && place.col == 0
 }
 
 /// Puts records, as they are kept behind a base, behind what is in `into`.

@@ -2,7 +2,7 @@
 
 ghost use Rattle.nv_marks.specs.Queries.{is_meant};
 ghost use Rattle.nv_marks.specs.inside.Names.{is_indexed, is_one_name};
-ghost use Rattle.std.specs.Prelude.{◌≡◌, ◌&&◌, ◌||◌, ℕ, [], OnErr, OnOk, false, is_some, not};
+ghost use Rattle.std.specs.Prelude.{◌≡◌, ◌≤◌, ◌==◌, ◌&&◌, ◌||◌, ℕ, [], OnErr, OnOk, false, is_some, not, true};
 
 use crate::chunk::Chunk;
 use crate::query::is_meant;
@@ -123,7 +123,52 @@ impl Index {
         ensures { (n i : ℕ) → is_indexed self.new n i
             ≡ (not (is_meant meant n) && is_indexed self.old n i) }
     {
+        if self.are_all(meant) {
+            self.homes.clear();
+            return;
+        }
         self.homes.retain(|name, _| !is_meant(meant, name.0));
+    }
+
+    /// Whether each name is of the namespace that is meant, and there is one, or all are meant.
+    fn are_all(&self, meant: Option<u32>) -> bool
+        ensures { result ≡ true
+            → (n i : ℕ) → is_indexed self.now n i ≡ true → is_meant meant n ≡ true }
+    {
+        match meant {
+            Some(ns) => self.has_only(ns),
+            None => true,
+        }
+    }
+
+    /// Whether a namespace has marks, and no other has any.
+    fn has_only(&self, ns: u32) -> bool
+        ensures { result ≡ true → (n i : ℕ) → is_indexed self.now n i ≡ true → n == ns ≡ true }
+    {
+        if !self.are_from(ns) {
+            return false;
+        }
+        self.are_up_to(ns)
+    }
+
+    /// Whether there are names, and none is of a namespace before a given one.
+    fn are_from(&self, ns: u32) -> bool
+        ensures { result ≡ true → (n i : ℕ) → is_indexed self.now n i ≡ true → ns ≤ n }
+    {
+        match self.homes.first_key_value() {
+            Some((name, _)) => ns <= name.0,
+            None => false,
+        }
+    }
+
+    /// Whether there are names, and none is of a namespace behind a given one.
+    fn are_up_to(&self, ns: u32) -> bool
+        ensures { result ≡ true → (n i : ℕ) → is_indexed self.now n i ≡ true → n ≤ ns }
+    {
+        match self.homes.last_key_value() {
+            Some((name, _)) => name.0 <= ns,
+            None => false,
+        }
     }
 
     /// Notes that the chunk of a number has a start or an end.

@@ -30,6 +30,26 @@ pub(crate) fn find_mark(store: &Store, index: &Index, ns: u32, id: u32) -> Optio
     Some(mark_of(store, start, index.place(home.end)))
 }
 
+/// The mark of a namespace and id: its start is looked for behind the place `last` first, which is
+/// where it stands then.
+pub(crate) fn find_next(
+    store: &Store,
+    index: &Index,
+    last: &mut (usize, usize),
+    ns: u32,
+    id: u32,
+) -> Option<Mark>
+    requires laid { IsLaid store.now.chunks.items }
+    requires once { IsDistinct same_key (spread_records store.now.chunks.items) }
+    requires ends { ForEach (IsEndKnown (spread_records store.now.chunks.items))
+        (spread_records store.now.chunks.items) }
+    requires index { IsIndexOf index.now (marks_among (spread_records store.now.chunks.items)) }
+    ensures { result ≡ mark_at (marks_among (spread_records store.now.chunks.items)) ns id }
+{
+    let start = store.find_next(last, ns, id, index)?;
+    Some(mark_from(store, index, start))
+}
+
 /// The mark of a namespace and id, where no mark has an id above the greatest of its namespace: so
 /// a greater one isn't looked for.
 pub(crate) fn find_counted(
@@ -75,7 +95,11 @@ pub(crate) fn mark_from(store: &Store, index: &Index, start: Record) -> Mark
         ≡ is_some (end_among (spread_records store.now.chunks.items) start.info.ns start.info.id) }
     ensures { result ≡ mark_among (spread_records store.now.chunks.items) start }
 {
-    let near = index.place_of(start.info.ns, start.info.id, true);
+    let near = if start.info.has_end {
+        index.place_of(start.info.ns, start.info.id, true)
+    } else {
+        0
+    };
     mark_of(store, start, near)
 }
 

@@ -48,8 +48,11 @@ impl Info {
     pub(crate) fn is_key(&self, ns: u32, id: u32, end: bool) -> bool
         ensures { result ≡ is_key ns id end self.now }
     {
+        if self.id != id {
+            return false;
+        }
         let is_part = if end { self.is_end } else { !self.is_end };
-        is_part && self.ns == ns && self.id == id
+        is_part && self.ns == ns
     }
 }
 

@@ -26,7 +26,7 @@ loop-one-preserved c = (
       (λ k has. more_found c.loop-one.bands c.widen_for.new.bands c.widen_for.ensures.kept
       (mark_at (marks_among (spread_records c.args.store.now.chunks.items)) k.ns k.id) has)
       c.loop-one.invariant.2
-      (subst (λ (o : Option Mark). IfSome o (HasBand c.widen_for.new.bands)) c.find_mark-found.ensures c.widen_for.ensures.own),
+      (subst (λ (o : Option Mark). IfSome o (HasBand c.widen_for.new.bands)) c.find_next-found.ensures c.widen_for.ensures.own),
 )
 
 pub returns-clause-own : goal.returns-clause-own

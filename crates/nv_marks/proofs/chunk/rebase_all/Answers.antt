@@ -1,5 +1,6 @@
 use Rattle.std.proofs.Common.{◌∙◌, ap, sym, subst, get_or, arith}
 use Rattle.nv_places.specs.Places.{IsNarrow}
+use Rattle.nv_marks.proofs.InPlaceLemmas.{start_back}
 use Rattle.nv_marks.proofs.EachLemmas.{Each-get_or, Each-unmap, next_in_place, more_in_place}
 use Rattle.nv_marks.specs.declared.record.Record.{Record}
 use Rattle.nv_marks.specs.declared.record.Relative.{Relative}
@@ -19,3 +20,8 @@ pub loop-one-preserved : goal.loop-one-preserved
 loop-one-preserved c =
     more_in_place (rebased_from c.args.base) c.args.kept.now c.loop-one.kept c.loop-one.one-index (omega arith) c.loop-one.invariant _ c.kept_from.result (omega arith)
     (c.kept_from.ensures ∙ ap (kept_from text_start) c.placed.ensures)
+
+pub returns-then-is_start : goal.returns-then-is_start
+returns-then-is_start c =
+    let at = c.is_start.ensures c.if-is_start.true in
+    start_back c.args.base c.args.kept.now at.0 at.1
