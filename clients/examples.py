@@ -15,7 +15,7 @@ import msgpack
 from nvimd import values
 
 KINDS = {0: "B", 1: "W", 2: "T"}
-CALL = re.compile(r"(nvim_\w+)(\(.*\))( \[0\])?$", re.DOTALL)
+CALL = re.compile(r"(\w+)(\(.*\))( \[0\])?$", re.DOTALL)
 WORDS = {"nil": None, "null": None, "true": True, "false": False}
 TOKEN = re.compile(
     r"""\s*(?:(?P<string>"(?:[^"\\]|\\.)*")|(?P<times>\d+)\*"""

@@ -61,8 +61,8 @@ class Step:
         return found | {self.session} if self.reply else found
 
     def is_quit(self):
-        is_call = self.kind in ("call", "notify")
-        return is_call and (self.name, self.params) == ("nvim_command", ["qall!"])
+        is_call = self.kind in ("call", "notify") and self.name == "nvim_command"
+        return is_call and self.params in (["qall!"], ["qa!"])
 
 
 class Story:

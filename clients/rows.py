@@ -103,6 +103,19 @@ ROWS = {
             'error [1, "Items in calls array must be arrays of size 2"]',
         ),
         (
+            "A fault says the name that was called",
+            'ui_try_resize(10, "x")',
+            'error [1, "Wrong type for argument 2 when calling ui_try_resize, expecting Integer"]',
+            'error [0, "Wrong type for argument 2 when calling nvim_ui_try_resize, expecting '
+            'Integer"]',
+        ),
+        (
+            "An event of errors as a request",
+            'nvim_error_event(0, "x")',
+            "nil",
+            'error [0, "Invalid method: nvim_error_event"]',
+        ),
+        (
             "Calls in one aren't known inside themselves",
             'nvim_call_atomic([["nvim_buf_line_count", [0]], ["nvim_call_atomic", [[]]]])',
             '[[1], [1, 0, "Invalid method: nvim_call_atomic"]]',
@@ -518,6 +531,7 @@ ROWS = {
             'error [0, "Vim(tabclose):E784: Cannot close last tab page"]',
         ),
         ("The end of the server is answered", 'nvim_command("qall!")', "nil", "no reply"),
+        ("The end of the server is answered", 'nvim_command("qa!")', "nil", "no reply"),
     ],
     "Options": [
         ('nvim_get_option_value("tabstop", {})', "8"),

@@ -1,7 +1,7 @@
 -- Lemmas on text between two places, line by line.
 use Rattle.std.proofs.Common.{◌≡◌, ◌≢◌, ℕ, zero, suc, ◌+◌, ◌-◌, ◌==◌, ◌<◌, ◌≤◌, Bool, true, false, cond, List, [], ◌∷◌, ◌++◌, length, take, drop, get_or, refl, sym, ap, subst, ◌∙◌, arith, All, Some, slice_get, append-nil, append_assoc}
 use Rattle.std.proofs.lemmas.Bool.Decides.{nat_tests}
-use Rattle.std.proofs.lemmas.List.{length-take, length-drop, get_or-take, get_or-drop, take_all, take_more, drop-take}
+use Rattle.std.proofs.lemmas.List.{length-take, length-drop, get_or-take, get_or-drop, take_all, take_more}
 use Rattle.std.proofs.lemmas.Option.{get_or_from_slice_get}
 use Rattle.std.proofs.lemmas.List.Elements.{All-cons, All-nil, All-head, All-tail, All-take, All-drop}
 use Rattle.std.specs.Prelude.{if◌then◌else◌}
@@ -268,9 +268,3 @@ between-spelled lines start stop narrow order within =
     (first-narrow start.col (last_before stop.col (slice_range lines start.row (stop.row + 1)))
     (last-narrow stop.col (slice_range lines start.row (stop.row + 1))
     (All-take IsNarrowLine (stop.row + 1 - start.row) (drop start.row lines) (All-drop IsNarrowLine start.row lines narrow.columns))))
-
--- a slice of a line is a part of it
-pub part-is : (line : List ℕ) (from to : ℕ) → from ≤ to → slice_range line from to ≡ drop from (take to line)
-part-is line from to order =
-    let sum : from + (to - from) ≡ to = omega arith in
-    sym (drop-take from (to - from) line) ∙ ap (λ n. drop from (take n line)) sum

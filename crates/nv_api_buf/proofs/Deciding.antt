@@ -1,6 +1,9 @@
 -- Steps of a call that decide what it answers.
-use Rattle.std.proofs.Common.{◌≡◌, ℕ, Bool, true, false, not, ◌&&◌, cond, List, length, refl, sym, ap, subst, ◌∙◌, Ok, Err, Result, Option, None, append-nil, []}
+use Rattle.std.proofs.Common.{◌≡◌, ℕ, true, false, not, ◌&&◌, cond, List, length, refl, sym, ap, subst, ◌∙◌, Ok, Err, Result, Option, None, append-nil, []}
 use Rattle.nv_places.specs.Flat.{flat, lines_of}
+use Rattle.nv_rpc.specs.Outcomes.{call_result_content}
+use Rattle.nv_rpc.specs.declared.outcome.CallResult.TheVariants.{Lines}
+use Rattle.nv_rpc.specs.declared.outcome.Outcome.TheVariants.{One}
 use Rattle.nv_args.specs.Faults.{not_modifiable, limit_reached}
 use Rattle.nv_args.specs.Refusals.{Finds, Refuses}
 use Rattle.nv_args.specs.declared.faults.Fail.{Fail}
@@ -10,32 +13,22 @@ use Rattle.nv_model.specs.Answering.{event_of_splice, fault_or, reply_of}
 use Rattle.nv_model.specs.Buffers.{Splice, is_empty_splice, text_after}
 use Rattle.nv_model.specs.Operations.{Operation}
 use Rattle.nv_model.specs.Seen.{SeenBuffer}
-use Rattle.nv_value.specs.Content.{Tree, nil}
+use Rattle.nv_value.specs.Content.{Tree, Trees, nil, list}
 use Rattle.nv_value.specs.declared.value.Value.{Value, Nil}
-use Rattle.nv_value.specs.View.{content}
 use Rattle.nv_value.proofs.Contents.{content-Nil}
 use Rattle.nv_model.specs.Answers.{Answer, Fact, refused, replied}
 use Rattle.nv_model.specs.Standing.{PresentEditor}
-use Rattle.nv_editor.specs.Doing.{Does, GivesAnswer, ReadsAnswer, Replies}
+use Rattle.nv_editor.specs.Doing.{Does, GivesAnswer, GivesResult, ReadsAnswer, Replies}
 use Rattle.nv_model.specs.declared.parts.Limits.{Limits}
 use Rattle.nv_api_buf.specs.Excerpts.{ReadsLines}
 use Rattle.nv_api_buf.specs.Texts.{event_passes}
 use Rattle.nv_api_buf.specs.inside.Deciding.{IsRefused, unless_barred}
+use Rattle.nv_api_buf.proofs.TextLemmas.{strings_are}
 
 -- a refusal as is answered
 pub refused_by : (answer : Answer) (fail : Fail) (fault : ApiFault) → Refuses fail fault → answer ≡ refused fault → IsRefused answer fail
 refused_by answer (Api told) fault refuses is = (is ∙ ap refused (sym refuses.0), refuses.1)
 refused_by answer NoMemory fault refuses is = tt
-
-pub refused_on : (answer between : Answer) (fail : Fail) → answer ≡ between → IsRefused between fail → IsRefused answer fail
-refused_on answer between (Api fault) is refuses = (is ∙ refuses.0, refuses.1)
-refused_on answer between NoMemory is refuses = tt
-
--- where a splice may not be made
-pub barred_nothing : (limits : Limits) (b : SeenBuffer) (s : Splice) (a : Answer) → is_empty_splice s ≡ true → unless_barred limits b s a ≡ a
-barred_nothing limits b s a e =
-    ap (λ (t : Bool). cond (not t && not b.modifiable) (refused not_modifiable)
-    (cond (not t && event_passes limits (length (lines_of (text_after (flat b.lines) s))) (event_of_splice b s)) (refused limit_reached) a)) e
 
 pub barred_locked : (limits : Limits) (b : SeenBuffer) (s : Splice) (a : Answer) → is_empty_splice s ≡ false → b.modifiable ≡ false
     → unless_barred limits b s a ≡ refused not_modifiable
@@ -47,12 +40,6 @@ pub barred_limit : (limits : Limits) (b : SeenBuffer) (s : Splice) (a : Answer) 
     → event_passes limits (length (lines_of (text_after (flat b.lines) s))) (event_of_splice b s) ≡ true
     → unless_barred limits b s a ≡ refused limit_reached
 barred_limit limits b s a e m p =
-    (λ i. cond (not (e i) && not (m i)) (refused not_modifiable) (cond (not (e i) && p i) (refused limit_reached) a))
-
-pub barred_free : (limits : Limits) (b : SeenBuffer) (s : Splice) (a : Answer) → is_empty_splice s ≡ false → b.modifiable ≡ true
-    → event_passes limits (length (lines_of (text_after (flat b.lines) s))) (event_of_splice b s) ≡ false
-    → unless_barred limits b s a ≡ a
-barred_free limits b s a e m p =
     (λ i. cond (not (e i) && not (m i)) (refused not_modifiable) (cond (not (e i) && p i) (refused limit_reached) a))
 
 -- what was answered of a call that reads
@@ -71,20 +58,23 @@ lines_refused answer between NoMemory is refuses = tt
 pub lines_on : (answer between : Answer) (result : Result (List (List ℕ)) Fail) → answer ≡ between → ReadsLines between result → ReadsLines answer result
 lines_on answer between result is reads = subst (λ (a : Answer). ReadsLines a result) (sym is) reads
 
--- lines that were read, as a value
-pub lines_as_value : (answer : Answer) (fail : Fail) → ReadsLines answer (Err fail) → ReadsAnswer answer (Err fail)
-lines_as_value answer (Api fault) reads = reads
-lines_as_value answer NoMemory reads = tt
+-- lines that were read are what the call gives
+pub lines_give : (answer : Answer) (lines : List (List ℕ)) (e : PresentEditor) (told : List Fact) → ReadsLines answer (Ok lines)
+    → GivesResult answer (Ok (One (Lines lines))) e e told told
+lines_give answer lines e told reads =
+    subst (λ (a : Answer). Replies a (call_result_content (Lines lines)) e e told told)
+    (sym (reads ∙ ap (λ (ts : Trees). reply_of (list ts)) (strings_are lines))) (refl, (λ m stands. stands), sym (append-nil told))
+
+pub lines_fault : (answer : Answer) (fail : Fail) (e : PresentEditor) (told : List Fact) → ReadsLines answer (Err fail)
+    → GivesResult answer (Err fail) e e told told
+lines_fault answer (Api fault) e told reads = (reads.0, reads.1, refl, refl)
+lines_fault answer NoMemory e told reads = tt
 
 -- and of one that changes the editor
 pub gives_refused : (answer between : Answer) (fail : Fail) (e : PresentEditor) (told : List Fact) → answer ≡ between → IsRefused between fail
     → GivesAnswer answer (Err fail) e e told told
 gives_refused answer between (Api fault) e told is refuses = (is ∙ refuses.0, refuses.1, refl, refl)
 gives_refused answer between NoMemory e told is refuses = tt
-
-pub gives_on : (answer between : Answer) (result : Result Value Fail) (e later : PresentEditor) (told now : List Fact) → answer ≡ between
-    → GivesAnswer between result e later told now → GivesAnswer answer result e later told now
-gives_on answer between result e later told now is gives = subst (λ (a : Answer). GivesAnswer a result e later told now) (sym is) gives
 
 -- a call that gave nil did what is answered
 pub gives_done : (answer between : Answer) (e later : PresentEditor) (told now : List Fact) → answer ≡ between
@@ -109,9 +99,3 @@ finds_fault A wanted a NoMemory finds = tt
 pub gives_quiet : (answer : Answer) (operations : List Operation) (e later : PresentEditor) (told : List Fact) → answer ≡ replied nil operations []
     → Does operations e later → GivesAnswer answer (Ok Nil) e later told told
 gives_quiet answer operations e later told is does = gives_done answer (replied nil operations []) e later told told is (refl, does, sym (append-nil told))
-
--- a call that reads changed nothing and told nothing
-pub gives_read : (answer : Answer) (result : Result Value Fail) (e : PresentEditor) (told : List Fact) → ReadsAnswer answer result → GivesAnswer answer result e e told told
-gives_read answer (Ok value) e told reads = replies_on answer (reply_of (content value)) (content value) e e told told reads (refl, (λ m stands. stands), sym (append-nil told))
-gives_read answer (Err (Api fault)) e told reads = (reads.0, reads.1, refl, refl)
-gives_read answer (Err NoMemory) e told reads = tt

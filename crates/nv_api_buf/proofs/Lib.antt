@@ -1,3 +1,4 @@
+pub mod RowsMake
 pub mod RowsTell
 pub mod Spelled
 pub mod Between

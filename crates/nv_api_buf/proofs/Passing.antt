@@ -41,8 +41,3 @@ free most bytes lines new from to kept many false false tick few short order wit
     record { count = omega arith; columns = short-narrow bytes new short (sym l) }
 free most bytes lines new from to kept many true long tick few short order within k m c l e = absurd (cc)
 free most bytes lines new from to kept many false true tick few short order within k m c l e = absurd (cc)
-
-pub tick-free : (count long tick : Bool) → (count || long || tick) ≡ false → tick ≡ false
-tick-free false false tick e = e
-tick-free true long tick e = absurd (cc)
-tick-free false true tick e = absurd (cc)

@@ -1,9 +1,9 @@
 -- Lines of a narrow text can be spelled as strings.
-use Rattle.std.proofs.Common.{◌≡◌, ℕ, suc, ◌-◌, ◌^◌, ◌<◌, List, [], ◌∷◌, ◌++◌, length, drop, refl, ap, All, arith}
+use Rattle.std.proofs.Common.{◌≡◌, ℕ, suc, ◌-◌, ◌^◌, ◌<◌, List, [], ◌∷◌, length, drop, refl, ap, All, arith}
 use Rattle.std.proofs.lemmas.List.{length-take, length-drop}
 use Rattle.std.proofs.lemmas.List.Elements.{All-head, All-tail, All-take, All-drop}
 use Rattle.std.specs.List.{slice_range}
-use Rattle.nv_value.specs.Content.{Tree, count, list, trees_of}
+use Rattle.nv_value.specs.Content.{count, list}
 use Rattle.nv_msgpack.specs.Shortest.{HasSpelling, HaveSpellings}
 use Rattle.nv_buffer.specs.Splices.{IsNarrowLine, IsNarrowText}
 use Rattle.nv_args.specs.Texts.{strings}
@@ -29,8 +29,3 @@ range-spelled lines from to narrow =
     list-spelled (slice_range lines from to)
     (omega (arith, length-take (to - from) (drop from lines), length-drop from lines, narrow.count))
     (All-take IsNarrowLine (to - from) (drop from lines) (All-drop IsNarrowLine from lines narrow.columns))
-
--- one more value that can be spelled
-pub spelled-more : (ts : List Tree) (t : Tree) → HaveSpellings (trees_of ts) → HasSpelling t → HaveSpellings (trees_of (ts ++ t ∷ []))
-spelled-more [] t all this = (this, tt)
-spelled-more (first ∷ ts) t all this = (all.0, spelled-more ts t all.1 this)

@@ -1,5 +1,5 @@
 -- The lines that a splice of a text leaves, and those that it puts.
-use Rattle.std.proofs.Common.{◌≡◌, ◌≢◌, ℕ, zero, suc, ◌+◌, ◌-◌, ◌<◌, ◌≤◌, true, false, List, [], ◌∷◌, ◌++◌, length, length-append, take, drop, All, refl, sym, ap, ◌∙◌, arith, inl, inr, ◌⊎◌}
+use Rattle.std.proofs.Common.{◌≡◌, ◌≢◌, ℕ, zero, suc, ◌+◌, ◌-◌, ◌<◌, ◌≤◌, false, List, [], ◌∷◌, ◌++◌, length, length-append, take, drop, All, refl, sym, ap, ◌∙◌, arith, inl, inr, ◌⊎◌}
 use Rattle.std.proofs.Math.Nat.{eq-or-lt_of_le}
 use Rattle.std.proofs.lemmas.Bool.Decides.{nat_tests}
 use Rattle.std.proofs.lemmas.List.{length-take, length-drop}
@@ -107,13 +107,6 @@ some-of : (lines : List (List ℕ)) → ¬ (lines ≡ []) → 0 < length lines
 some-of [] some = absurd (some refl)
 some-of (line ∷ lines) some = omega arith
 
--- no rows and no lines are nothing
-pub nothing-rows : (part : ChangePart) (text : List (List ℕ)) (from to : ℕ) (put : List (List ℕ)) → from ≡ to → put ≡ [] → is_empty_splice (rows_splice part text from to put) ≡ true
-nothing-rows part text from to put same none =
-    let there : row_start text from ≡ row_start text to = ap (row_start text) same in
-    let added : length (flat put) ≡ 0 = ap (λ ls. length (flat ls)) none in
-    grind (arith, nat_tests)
-
 -- and rows or lines are something
 pub something-rows : (part : ChangePart) (text : List (List ℕ)) (from to : ℕ) (put : List (List ℕ)) → from ≤ to → to ≤ length text → ¬ ((from ≡ to) × (put ≡ []))
     → is_empty_splice (rows_splice part text from to put) ≡ false
@@ -148,13 +141,6 @@ place-cases lines p q is order = elim (eq-or-lt_of_le (not_before_row p q order)
   where
     cols : p.row ≡ q.row → p.col ≤ q.col
     cols e = grind (arith, nat_tests)
-
--- one place and one empty line are nothing
-pub nothing-text : (part : ChangePart) (text : List (List ℕ)) (start stop : Pos) (new : List (List ℕ)) → start ≡ stop → new ≡ [] ∷ [] → is_empty_splice (text_splice part text start stop new) ≡ true
-nothing-text part text start stop new same none =
-    let there : offset_of text start ≡ offset_of text stop = ap (offset_of text) same in
-    let added : length (join_with_byte 10 new) ≡ 0 = ap (λ ls. length (join_with_byte 10 ls)) none in
-    grind (arith, nat_tests)
 
 -- text or another place is something
 pub something-text : (part : ChangePart) (text : List (List ℕ)) (start stop : Pos) (new : List (List ℕ)) → IsInLine text start → is_before stop start ≡ false → 0 < length new

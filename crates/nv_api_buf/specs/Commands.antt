@@ -1,5 +1,5 @@
 -- The texts of commands (help: nvim_command(), undo-commands, :tabnew, :tabclose, :qall).
-use Rattle.std.specs.Prelude.{ℕ, List, drop, take, codes, bytes_eq, Option, Some, None, option_map, if◌then◌else◌}
+use Rattle.std.specs.Prelude.{ℕ, List, drop, take, codes, bytes_eq, ◌||◌, Option, Some, None, option_map, if◌then◌else◌}
 use Rattle.nv_args.specs.Texts.{decimal_number}
 
 -- the commands that are known
@@ -25,5 +25,5 @@ command_of words =
     else if bytes_eq words (codes "redo") then Some redo
     else if bytes_eq words (codes "tabnew") then Some tabnew
     else if bytes_eq words (codes "tabclose") then Some tabclose
-    else if bytes_eq words (codes "qall!") then Some quit_all
+    else if bytes_eq words (codes "qall!") || bytes_eq words (codes "qa!") then Some quit_all
     else undo_number words

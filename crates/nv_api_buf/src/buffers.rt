@@ -20,7 +20,7 @@ ghost use Rattle.nv_editor.specs.Sound.{content_at, is_live_buffer};
 ghost use Rattle.nv_api_buf.specs.BufferRows.{nvim_list_bufs, nvim_get_current_buf, nvim_set_current_buf, nvim_create_buf, nvim_buf_delete, nvim_buf_is_valid, nvim_buf_get_name, nvim_buf_set_name, buffers_are_full};
 ghost use Rattle.nv_api_buf.specs.inside.Deciding.{Leaves, delete_answer, unless_unnamed, unless_kept, unless_full};
 
-use crate::finding::{Live, buffer_at, live_given};
+use crate::finding::{Live, buffer_at, found_given, live_given};
 use nv_args::{
     Args, Fail, Rule, flag_or, limit_reached, map_fault, name_in_use, newline_inside, no_id_left,
     unsaved_changes,
@@ -224,8 +224,8 @@ pub fn nvim_buf_get_name(editor: &Editor, args: &Args) -> Result<Value, Fail>
         (typed_arguments args.now)) result }
     ensures spelled { IfOk result (λ value. HasSpelling (content value)) }
 {
-    let live = live_given(editor, args)?;
-    name_value(buffer_at(editor, live))
+    let found = found_given(editor, args)?;
+    name_value(found.buffer)
 }
 
 // Whether a buffer but this one has the name.

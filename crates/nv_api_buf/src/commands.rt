@@ -88,7 +88,7 @@ pub(crate) fn order_of(words: &[u8]) -> Option<Order>
     if words == b"tabclose".as_slice() {
         return Some(Order::Tabclose);
     }
-    if words == b"qall!".as_slice() {
+    if words == b"qall!".as_slice() || words == b"qa!".as_slice() {
         return Some(Order::QuitAll);
     }
     undo_order(words)

@@ -12,7 +12,7 @@ ghost use Rattle.nv_api_buf.specs.Texts.{is_no_index};
 ghost use Rattle.nv_api_buf.specs.inside.Deciding.{offset_answer};
 ghost use Rattle.nv_api_buf.specs.TextRows.{nvim_buf_line_count, nvim_buf_get_changedtick, nvim_buf_get_offset};
 
-use crate::finding::{buffer_at, live_given};
+use crate::finding::found_given;
 use nv_args::{Args, Fail, out_of_bounds};
 use nv_buffer::Buffer;
 use nv_editor::Editor;
@@ -45,8 +45,8 @@ pub fn nvim_buf_line_count(editor: &Editor, args: &Args) -> Result<Value, Fail>
         (typed_arguments args.now)) result }
     ensures spelled { IfOk result (λ value. HasSpelling (content value)) }
 {
-    let live = live_given(editor, args)?;
-    Ok(count_value(buffer_at(editor, live)))
+    let found = found_given(editor, args)?;
+    Ok(count_value(found.buffer))
 }
 
 // The changedtick as a value.
@@ -65,8 +65,8 @@ pub fn nvim_buf_get_changedtick(editor: &Editor, args: &Args) -> Result<Value, F
         (typed_arguments args.now)) result }
     ensures spelled { IfOk result (λ value. HasSpelling (content value)) }
 {
-    let live = live_given(editor, args)?;
-    Ok(tick_value(buffer_at(editor, live)))
+    let found = found_given(editor, args)?;
+    Ok(tick_value(found.buffer))
 }
 
 // The row that an index names, from 0 to the number of lines, if any.
@@ -103,6 +103,6 @@ pub fn nvim_buf_get_offset(editor: &Editor, args: &Args) -> Result<Value, Fail>
         (typed_arguments args.now)) result }
     ensures spelled { IfOk result (λ value. HasSpelling (content value)) }
 {
-    let live = live_given(editor, args)?;
-    offset_answer(editor.alloc(), buffer_at(editor, live), args)
+    let found = found_given(editor, args)?;
+    offset_answer(editor.alloc(), found.buffer, args)
 }

@@ -32,6 +32,45 @@ pub fn live_of(editor: &Editor, n: i64) -> Result<Live, Fail>
     }
 }
 
+/// The live buffer that a call names, with its handle.
+#[derive(Clone, Copy)]
+pub struct Found<'a> {
+    pub live: Live,
+    pub buffer: &'a Buffer,
+}
+
+// The live buffer of a handle, lent, as `live_of` finds it.
+fn found_of(editor: &Editor, n: i64) -> Result<Found<'_>, Fail>
+    ensures row { (next : ℤ → SeenBuffer → Answer) → Leaves (on_buffer (seen_now editor.now) n next)
+        (λ found. next found.live.handle
+        (seen_buffer_now (content_at editor.now found.live.handle))) result }
+    ensures live { IfOk result (λ found. is_live_buffer editor.now found.live.handle ≡ true) }
+    ensures buffer { IfOk result
+        (λ found. found.buffer.now ≡ content_at editor.now found.live.handle) }
+{
+    let handle = editor.named_buffer(n);
+    match editor.buffer(handle) {
+        Some(buffer) => Ok(Found {
+            live: Live { handle },
+            buffer,
+        }),
+        None => Err(no_buffer(editor.alloc(), n)),
+    }
+}
+
+/// The live buffer that the first argument names, lent.
+pub fn found_given<'a>(editor: &'a Editor, args: &Args) -> Result<Found<'a>, Fail>
+    ensures row { (next : ℤ → SeenBuffer → Answer)
+        → Leaves (on_buffer (seen_now editor.now) (number_at (typed_arguments args.now) 0) next)
+        (λ found. next found.live.handle
+        (seen_buffer_now (content_at editor.now found.live.handle))) result }
+    ensures live { IfOk result (λ found. is_live_buffer editor.now found.live.handle ≡ true) }
+    ensures buffer { IfOk result
+        (λ found. found.buffer.now ≡ content_at editor.now found.live.handle) }
+{
+    found_of(editor, args.number(0))
+}
+
 /// The live buffer that the first argument names.
 pub fn live_given(editor: &Editor, args: &Args) -> Result<Live, Fail>
     ensures row { (next : ℤ → SeenBuffer → Answer)

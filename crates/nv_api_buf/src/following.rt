@@ -7,7 +7,7 @@ ghost use Rattle.nv_model.specs.Standing.{seen_now, seen_buffer_now};
 ghost use Rattle.nv_editor.specs.Doing.{GivesAnswer};
 ghost use Rattle.nv_api_buf.specs.BufferRows.{nvim_buf_attach, nvim_buf_detach};
 
-use crate::finding::{buffer_at, live_given};
+use crate::finding::{found_given, live_given};
 use nv_args::{Args, Fail, map_fault};
 use nv_buffer::{Buffer, LineList};
 use nv_editor::{Editor, Fact, Happened};
@@ -33,13 +33,12 @@ pub fn nvim_buf_attach(editor: &Editor, args: &Args, happened: &mut Happened) ->
         (typed_arguments args.now)) result editor.now editor.now happened.old happened.new }
     ensures spelled { IfOk result (λ value. HasSpelling (content value)) }
 {
-    let live = live_given(editor, args)?;
+    let found = found_given(editor, args)?;
     map_fault(editor.alloc(), &[], args.pairs(2))?;
-    let buffer = buffer_at(editor, live);
-    let whole = whole_of(buffer, args.flag(1))?;
+    let whole = whole_of(found.buffer, args.flag(1))?;
     happened.push(Fact::Attached {
-        buffer: live.handle,
-        tick: buffer.tick(),
+        buffer: found.live.handle,
+        tick: found.buffer.tick(),
         whole,
     })?;
     Ok(Value::Truth(true))

@@ -12,33 +12,22 @@
 //! refused leaves the editor as it was.
 #![tactic(auto)]
 
-mod buffers;
+pub mod buffers;
 mod calling;
-mod commands;
-mod counts;
+pub mod commands;
+pub mod counts;
 mod finding;
-mod following;
-mod information;
+pub mod following;
+pub mod information;
 mod joining;
 mod laws;
 mod limits;
-mod lines;
+pub mod lines;
 mod metadata;
-mod options;
+pub mod options;
 mod replacement;
-mod text;
+pub mod text;
 mod told;
 
-pub use buffers::{
-    nvim_buf_delete, nvim_buf_get_name, nvim_buf_is_valid, nvim_buf_set_name, nvim_create_buf,
-    nvim_get_current_buf, nvim_list_bufs, nvim_set_current_buf,
-};
-pub use calling::call_method;
-pub use commands::nvim_command;
-pub use counts::{nvim_buf_get_changedtick, nvim_buf_get_offset, nvim_buf_line_count};
-pub use following::{nvim_buf_attach, nvim_buf_detach};
-pub use information::{nvim_get_api_info, nvim_set_client_info};
+pub use calling::call;
 pub use laws::telling_laws;
-pub use lines::{nvim_buf_get_lines, nvim_buf_set_lines};
-pub use options::{nvim_get_option_value, nvim_set_option_value};
-pub use text::{nvim_buf_get_text, nvim_buf_set_text};

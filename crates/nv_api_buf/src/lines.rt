@@ -1,17 +1,18 @@
 //! The methods on whole lines.
-ghost use Rattle.std.specs.Prelude.{◌≡◌, ◌≤◌, ℕ, true, length, slice_range, IfOk};
+ghost use Rattle.std.specs.Prelude.{◌≡◌, ◌≤◌, ℕ, List, true, length, slice_range, IfOk};
 ghost use Rattle.nv_value.specs.Content.{list};
 ghost use Rattle.nv_value.specs.View.{content};
 ghost use Rattle.nv_msgpack.specs.Shortest.{HasSpelling};
+ghost use Rattle.nv_rpc.specs.Outcomes.{outcome_content};
 ghost use Rattle.nv_buffer.specs.Content.{next_part};
 ghost use Rattle.nv_buffer.specs.Splices.{IsNarrowText};
 ghost use Rattle.nv_args.specs.Args.{typed_arguments};
 ghost use Rattle.nv_args.specs.Texts.{lines_put, strings};
-ghost use Rattle.nv_model.specs.Answers.{Answer};
+ghost use Rattle.nv_model.specs.Answers.{Answer, Fact};
 ghost use Rattle.nv_model.specs.Answering.{splice_answer};
 ghost use Rattle.nv_model.specs.Buffers.{rows_splice};
-ghost use Rattle.nv_model.specs.Standing.{seen_now, seen_buffer_now};
-ghost use Rattle.nv_editor.specs.Doing.{GivesAnswer, ReadsAnswer};
+ghost use Rattle.nv_model.specs.Standing.{PresentEditor, seen_now, seen_buffer_now};
+ghost use Rattle.nv_editor.specs.Doing.{GivesAnswer, GivesResult};
 ghost use Rattle.nv_editor.specs.Sound.{content_at, is_live_buffer};
 ghost use Rattle.nv_api_buf.specs.Excerpts.{ReadsLines};
 ghost use Rattle.nv_api_buf.specs.TextRows.{nvim_buf_get_lines, nvim_buf_set_lines};
@@ -19,13 +20,13 @@ ghost use Rattle.nv_api_buf.specs.inside.Deciding.{Leaves, unless_barred, unless
 ghost use Rattle.nv_api_buf.specs.inside.Ranges.{range_rows, ordered_rows};
 ghost use Rattle.nv_api_buf.specs.declared.lines.Rows.{Rows};
 
-use crate::finding::{Live, buffer_at, live_given};
+use crate::finding::{Live, buffer_at, found_given};
 use crate::replacement::{left_with, may_put_rows, new_lines};
 use nv_args::{Args, Fail, leaves_text, out_of_bounds, row_of_index, start_after_end};
 use nv_buffer::{Buffer, LineList, Lines};
 use nv_editor::{Editor, Happened};
 use nv_lines::Excerpt;
-use nv_rpc::CallResult;
+use nv_rpc::{CallResult, Outcome};
 use nv_value::Value;
 use std::alloc::{AllocError, Global};
 
@@ -87,18 +88,19 @@ pub fn nvim_buf_get_lines(editor: &Editor, args: &Args) -> Result<Excerpt, Fail>
         (typed_arguments args.now)) result }
     ensures spelled { IfOk result (λ lines. HasSpelling (list (strings lines))) }
 {
-    let live = live_given(editor, args)?;
-    lines_answer(editor.alloc(), buffer_at(editor, live), args)
+    let found = found_given(editor, args)?;
+    lines_answer(editor.alloc(), found.buffer, args)
 }
 
-/// Lines that were read, as the value that they are.
-pub(crate) fn value_of_lines(alloc: Global, given: Result<Excerpt, Fail>) -> Result<Value, Fail>
+/// Lines that were read, as the result of a call.
+pub(crate) fn as_lines(given: Result<Excerpt, Fail>) -> Result<Outcome, Fail>
     requires { IfOk given (λ lines. HasSpelling (list (strings lines))) }
-    ensures read { (answer : Answer) → ReadsLines answer given → ReadsAnswer answer result }
-    ensures spelled { IfOk result (λ value. HasSpelling (content value)) }
+    ensures answer { (answer : Answer) (e : PresentEditor) (told : List Fact)
+        → ReadsLines answer given → GivesResult answer result e e told told }
+    ensures spelled { IfOk result (λ outcome. HasSpelling (outcome_content outcome)) }
 {
     match given {
-        Ok(lines) => Ok(CallResult::Lines(lines).into_value(alloc)?),
+        Ok(lines) => Ok(Outcome::One(CallResult::Lines(lines))),
         Err(fail) => Err(fail),
     }
 }
@@ -155,8 +157,9 @@ pub fn nvim_buf_set_lines(
         (typed_arguments args.now)) result editor.old editor.new happened.old happened.new }
     ensures spelled { IfOk result (λ value. HasSpelling (content value)) }
 {
-    let live = live_given(editor, args)?;
-    let rows = rows_in_order(editor.alloc(), buffer_at(editor, live), args)?;
+    let found = found_given(editor, args)?;
+    let live = found.live;
+    let rows = rows_in_order(editor.alloc(), found.buffer, args)?;
     let strings = args.lines(4);
     let new = new_lines(editor.alloc(), strings)?;
     put_rows(editor, live, rows, new, happened)

@@ -4,14 +4,14 @@ ghost use Rattle.nv_value.specs.Content.{text};
 ghost use Rattle.nv_value.specs.View.{content, pair_content};
 ghost use Rattle.nv_msgpack.specs.Shortest.{HasSpelling};
 ghost use Rattle.nv_model.specs.Answering.{array_of, dict_of, key_value, natural, word};
-ghost use Rattle.nv_api_buf.specs.Metadata.{version, is_method, ui_events, metadata, handle_types, error_type, error_types, ui_options, function};
+ghost use Rattle.nv_api_buf.specs.Metadata.{version, is_method, parameter, ui_events, metadata, handle_types, error_type, error_types, ui_options, function};
+ghost use Rattle.nv_args.specs.Methods.{parameter_of, signature_of};
 ghost use Rattle.nv_args.specs.Table.{table};
-ghost use Rattle.nv_api_buf.specs.inside.Shapes.{form_of_row, parameter_shaped, function_shaped, event_shaped};
+ghost use Rattle.nv_api_buf.specs.inside.Shapes.{form_of_row, parameter_shaped, event_shaped};
 
 use crate::limits::any_of;
-use crate::told::{
-    Told, api_functions, buffer_functions, events, mark_functions, tab_functions, window_functions,
-};
+use crate::told::{Told, events};
+use nv_args::{Parameter, Signature, told_signatures};
 use nv_value::{Bytes, Items, Pair, Value};
 use std::alloc::{AllocError, Global};
 
@@ -72,13 +72,12 @@ fn version(alloc: Global) -> Result<Value, AllocError>
     ]?))
 }
 
-// The type and the name of a parameter.
-fn parameter(alloc: Global, typed: &(&'static str, &'static str)) -> Result<Value, AllocError>
-    ensures { IfOk result (λ value. content value
-        ≡ parameter_shaped (typed.now.0.now, typed.now.1.now)) }
+// A parameter: the words of its type, and its name.
+fn parameter(alloc: Global, kind: &str, name: &str) -> Result<Value, AllocError>
+    ensures { IfOk result (λ value. content value ≡ parameter_shaped (kind.now, name.now)) }
 {
-    let kind = word(alloc, typed.0)?;
-    let name = word(alloc, typed.1)?;
+    let kind = word(alloc, kind)?;
+    let name = word(alloc, name)?;
     Ok(Value::List(vec![in alloc; kind, name]?))
 }
 
@@ -88,9 +87,36 @@ fn parameters(alloc: Global, list: &[(&'static str, &'static str)]) -> Result<It
 {
     let mut items = Vec::new(alloc);
     for typed in list {
-        items.push(parameter(alloc, typed)?)?;
+        items.push(parameter(alloc, typed.0, typed.1)?)?;
     }
     Ok(items)
+}
+
+// A parameter of a method.
+fn parameter_taken(alloc: Global, taken: &Parameter) -> Result<Value, AllocError>
+    ensures { IfOk result (λ value. content value ≡ parameter (parameter_of taken.now)) }
+{
+    parameter(alloc, taken.0.type_name(), taken.1)
+}
+
+fn parameters_taken(alloc: Global, list: &[Parameter]) -> Result<Items, AllocError>
+    ensures { IfOk result (λ items. map content items.items
+        ≡ map (λ p. parameter (parameter_of p)) list.now) }
+{
+    let mut items = Vec::new(alloc);
+    for taken in list {
+        items.push(parameter_taken(alloc, taken)?)?;
+    }
+    Ok(items)
+}
+
+// The parameters of a method.
+fn parameters_of(alloc: Global, signature: &Signature) -> Result<Value, AllocError>
+    ensures { IfOk result (λ value. content value
+        ≡ array_of (map parameter (signature_of signature.now).parameters)) }
+{
+    let items = parameters_taken(alloc, signature.parameters)?;
+    Ok(Value::List(items))
 }
 
 fn parameters_value(alloc: Global, told: &Told) -> Result<Value, AllocError>
@@ -118,16 +144,31 @@ fn is_method(name: &str) -> bool
     )
 }
 
-fn function(alloc: Global, told: &Told) -> Result<Value, AllocError>
-    ensures { IfOk result (λ value. content value ≡ function_shaped (form_of_row told.now)) }
+fn function(alloc: Global, signature: &Signature) -> Result<Value, AllocError>
+    ensures { IfOk result (λ value. content value ≡ function (signature_of signature.now)) }
 {
-    Ok(Value::Pairs(vec![in alloc;
-        pair(alloc, "name", word(alloc, told.name)?)?,
-        pair(alloc, "since", Value::Int(1))?,
-        pair(alloc, "method", Value::Truth(is_method(told.name)))?,
-        pair(alloc, "parameters", parameters_value(alloc, told)?)?,
-        pair(alloc, "return_type", word(alloc, told.result)?)?,
-    ]?))
+    let mut fields = Vec::with_capacity(alloc, 5)?;
+    put_pair(alloc, &mut fields, "name", word(alloc, signature.name)?)?;
+    put_pair(alloc, &mut fields, "since", Value::Int(1))?;
+    put_pair(
+        alloc,
+        &mut fields,
+        "method",
+        Value::Truth(is_method(signature.name)),
+    )?;
+    put_pair(
+        alloc,
+        &mut fields,
+        "parameters",
+        parameters_of(alloc, signature)?,
+    )?;
+    put_pair(
+        alloc,
+        &mut fields,
+        "return_type",
+        word(alloc, signature.result_name())?,
+    )?;
+    Ok(Value::Pairs(fields))
 }
 
 fn event(alloc: Global, told: &Told) -> Result<Value, AllocError>
@@ -145,35 +186,22 @@ fn event(alloc: Global, told: &Told) -> Result<Value, AllocError>
     Ok(Value::Pairs(fields))
 }
 
-// Puts functions behind others.
-fn put_functions(alloc: Global, items: &mut Items, table: &[Told]) -> Result<(), AllocError>
-    ensures { OnOk result (map content items.new.items
-        ≡ map content items.old.items ++ map (λ t. function_shaped (form_of_row t)) table.now) }
+// The functions of a table.
+fn functions_of(alloc: Global, table: &[Signature]) -> Result<Items, AllocError>
+    ensures { IfOk result (λ items. map content items.items
+        ≡ map (λ s. function (signature_of s)) table.now) }
 {
-    for told in table {
-        items.push(function(alloc, told)?)?;
+    let mut items = Vec::new(alloc);
+    for signature in table {
+        items.push(function(alloc, signature)?)?;
     }
-    Ok(())
-}
-
-// Puts the functions of the API behind others.
-fn put_all_functions(alloc: Global, items: &mut Items) -> Result<(), AllocError>
-    ensures { OnOk result (map content items.new.items
-        ≡ map content items.old.items ++ map function table) }
-{
-    put_functions(alloc, items, api_functions())?;
-    put_functions(alloc, items, buffer_functions())?;
-    put_functions(alloc, items, mark_functions())?;
-    put_functions(alloc, items, window_functions())?;
-    put_functions(alloc, items, tab_functions())?;
-    Ok(())
+    Ok(items)
 }
 
 fn functions_value(alloc: Global) -> Result<Value, AllocError>
     ensures { IfOk result (λ value. content value ≡ array_of (map function table)) }
 {
-    let mut items = Vec::new(alloc);
-    put_all_functions(alloc, &mut items)?;
+    let items = functions_of(alloc, told_signatures())?;
     Ok(Value::List(items))
 }
 

@@ -24,7 +24,7 @@ ghost use Rattle.nv_api_buf.specs.TextRows.{nvim_buf_get_text, nvim_buf_set_text
 ghost use Rattle.nv_api_buf.specs.inside.Deciding.{Leaves, unless_barred, text_answer};
 ghost use Rattle.nv_api_buf.specs.inside.Parts.{IsRowOf, part_of};
 
-use crate::finding::{Live, buffer_at, live_given};
+use crate::finding::{Live, buffer_at, found_given};
 use crate::joining::may_put_text;
 use crate::replacement::new_lines;
 use nv_args::{Args, Fail, map_fault, out_of_bounds, start_after_end, text_col, text_row};
@@ -219,9 +219,9 @@ pub fn nvim_buf_get_text(editor: &Editor, args: &Args) -> Result<Excerpt, Fail>
         (typed_arguments args.now)) result }
     ensures spelled { IfOk result (λ lines. HasSpelling (list (strings lines))) }
 {
-    let live = live_given(editor, args)?;
+    let found = found_given(editor, args)?;
     map_fault(editor.alloc(), &[], args.pairs(5))?;
-    text_answer(editor.alloc(), buffer_at(editor, live), args)
+    text_answer(editor.alloc(), found.buffer, args)
 }
 
 // Puts lines between two places, where that is allowed.
@@ -262,8 +262,9 @@ pub fn nvim_buf_set_text(
     ensures spelled { IfOk result (λ value. HasSpelling (content value)) }
 {
     let alloc = editor.alloc();
-    let live = live_given(editor, args)?;
-    let span = span_of(alloc, buffer_at(editor, live), args)?;
+    let found = found_given(editor, args)?;
+    let live = found.live;
+    let span = span_of(alloc, found.buffer, args)?;
     let strings = args.lines(5);
     let new = new_lines(alloc, strings)?;
     put_between(editor, live, span, new, happened)

@@ -7,7 +7,6 @@ pub mod Picked
 pub mod Plain
 pub mod Putting
 pub mod Removed
-pub mod RowNames
-pub mod RowsTell
+pub mod RowsMake
 pub mod Spelled
 pub mod Steps

@@ -211,7 +211,3 @@ all-first P (Some n) ms all = All-take P n ms all
 pub all_listed : (P : Mark → Type 0) (limit meant : Option ℕ) (overlap : Bool) (start end : Pos) (ms : List Mark) → All P ms
     → All P (first_marks limit (marks_from meant overlap start end ms))
 all_listed P limit meant overlap start end ms all = all-first P limit _ (all-from P meant overlap start end ms all)
-
--- of two places in a row the second isn't before the first
-pub not_back : (p q : Pos) → is_before p q ≡ true → is_before q p ≡ false
-not_back p q e = grind (arith, nat_tests, e)

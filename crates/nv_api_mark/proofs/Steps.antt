@@ -1,11 +1,12 @@
 -- Steps of a call that decide what it answers.
-use Rattle.std.proofs.Common.{◌≡◌, ℤ, List, [], refl, sym, ap, subst, ◌∙◌, Ok, Err, Result, Option, Some, None, append-nil}
+use Rattle.std.proofs.Common.{◌≡◌, ℤ, List, [], refl, sym, ap, subst, ◌∙◌, Ok, Err, Result, Option, Some, append-nil}
 use Rattle.std.specs.Prelude.{option_map}
 use Rattle.std.specs.Result.{IsErrAnd}
 use Rattle.nv_value.specs.Content.{Tree}
 use Rattle.nv_value.specs.View.{content}
 use Rattle.nv_value.specs.declared.fault.ApiFault.{ApiFault}
 use Rattle.nv_value.specs.declared.value.Value.{Value}
+use Rattle.nv_rpc.specs.Outcomes.{outcome_content}
 use Rattle.nv_rpc.specs.declared.outcome.Outcome.{Outcome}
 use Rattle.nv_args.specs.Faults.{no_buffer}
 use Rattle.nv_args.specs.Refusals.{Finds, Refuses}
@@ -20,21 +21,15 @@ use Rattle.nv_model.specs.Operations.{Operation}
 use Rattle.nv_model.specs.Seen.{SeenBuffer}
 use Rattle.nv_model.specs.Stage.{or_current}
 use Rattle.nv_model.specs.Standing.{PresentEditor, seen_now, seen_buffer_now}
-use Rattle.nv_editor.specs.Doing.{Does, GivesAnswer, ReadsAnswer, Replies}
+use Rattle.nv_editor.specs.Doing.{Does, GivesAnswer, GivesResult, ReadsAnswer, Replies}
 use Rattle.nv_api_mark.specs.Outcomes.{ReadsOutcome}
 use Rattle.nv_api_mark.specs.inside.Steps.{Decides}
 
--- the buffer that a call names is live, or it isn't
+-- the buffer that a call names is live
 pub on_found : (e : PresentEditor) (n : ℤ) (b : Content) (next : ℤ → SeenBuffer → Answer)
     → at_handle e.buffers (or_current (current_buffer e.stage.workspace) n) ≡ Some b
     → on_buffer (seen_now e) n next ≡ next (or_current (current_buffer e.stage.workspace) n) (seen_buffer_now b)
 on_found e n b next is =
-    ap (λ (o : Option Content). or_refused (option_map seen_buffer_now o) (no_buffer n) (next (or_current (current_buffer e.stage.workspace) n))) is
-
-pub on_missing : (e : PresentEditor) (n : ℤ) (next : ℤ → SeenBuffer → Answer)
-    → at_handle e.buffers (or_current (current_buffer e.stage.workspace) n) ≡ None
-    → on_buffer (seen_now e) n next ≡ refused (no_buffer n)
-on_missing e n next is =
     ap (λ (o : Option Content). or_refused (option_map seen_buffer_now o) (no_buffer n) (next (or_current (current_buffer e.stage.workspace) n))) is
 
 -- ---- steps that refuse
@@ -78,15 +73,6 @@ pub gives_refusal : (answer : Answer) (fault : ApiFault) (fail : Fail) (e : Pres
 gives_refusal answer fault (Api given) e told is h = (is ∙ ap refused (sym h.0), h.1, refl, refl)
 gives_refusal answer fault NoMemory e told is h = tt
 
-pub reads_refusal : (answer : Answer) (fault : ApiFault) (fail : Fail) → answer ≡ refused fault → Refuses fail fault → ReadsAnswer answer (Err fail)
-reads_refusal answer fault (Api given) is h = (is ∙ ap refused (sym h.0), h.1)
-reads_refusal answer fault NoMemory is h = tt
-
-pub decides_refusal : {A : Type 0} (answer : Answer) (rest : A → Answer) (fault : ApiFault) (fail : Fail) → answer ≡ refused fault → Refuses fail fault
-    → Decides answer rest (Err fail)
-decides_refusal answer rest fault (Api given) is h = (is ∙ ap refused (sym h.0), h.1)
-decides_refusal answer rest fault NoMemory is h = tt
-
 -- ---- steps that go on
 
 pub decides_on : {A : Type 0} (answer between : Answer) (rest : A → Answer) (result : Result A Fail) → answer ≡ between → Decides between rest result
@@ -99,19 +85,15 @@ reads_on answer between result is reads = subst (λ (a : Answer). ReadsAnswer a 
 pub outcome_on : (answer between : Answer) (result : Result Outcome Fail) → answer ≡ between → ReadsOutcome between result → ReadsOutcome answer result
 outcome_on answer between result is reads = subst (λ (a : Answer). ReadsOutcome a result) (sym is) reads
 
-pub gives_on : (answer between : Answer) (result : Result Value Fail) (e later : PresentEditor) (told now : List Fact) → answer ≡ between
-    → GivesAnswer between result e later told now → GivesAnswer answer result e later told now
-gives_on answer between result e later told now is gives = subst (λ (a : Answer). GivesAnswer a result e later told now) (sym is) gives
-
 -- operations were made, and there is nothing to tell
 pub gives_done : (answer : Answer) (t : Tree) (operations : List Operation) (value : Value) (before after : PresentEditor) (told : List Fact)
     → answer ≡ replied t operations [] → content value ≡ t → Does operations before after → GivesAnswer answer (Ok value) before after told told
 gives_done answer t operations value before after told is e h =
     subst (λ (a : Answer). GivesAnswer a (Ok value) before after told told) (sym is) (e, h, sym (append-nil told))
 
--- a call that only read gave its answer
-pub reads_give : (answer : Answer) (result : Result Value Fail) (e : PresentEditor) (told : List Fact) → ReadsAnswer answer result → GivesAnswer answer result e e told told
-reads_give answer (Ok value) e told h =
-    subst (λ (a : Answer). Replies a (content value) e e told told) (sym h) (refl, (λ m stands. stands), sym (append-nil told))
-reads_give answer (Err (Api fault)) e told h = (h.0, h.1, refl, refl)
-reads_give answer (Err NoMemory) e told h = tt
+-- a listing gave its answer
+pub listing_gives : (answer : Answer) (result : Result Outcome Fail) (e : PresentEditor) (told : List Fact) → ReadsOutcome answer result → GivesResult answer result e e told told
+listing_gives answer (Ok outcome) e told h =
+    subst (λ (a : Answer). Replies a (outcome_content outcome) e e told told) (sym h) (refl, (λ m stands. stands), sym (append-nil told))
+listing_gives answer (Err (Api fault)) e told h = (h.0, h.1, refl, refl)
+listing_gives answer (Err NoMemory) e told h = tt

@@ -25,6 +25,7 @@ use Rattle.nv_api_mark.specs.Namespaces.{namespace_of_id}
 use Rattle.nv_args.specs.Naming.{naming_fault}
 use Rattle.nv_api_mark.specs.Groups.{group_operations}
 use Rattle.nv_api_mark.specs.Setting.{greatest_mark_id, mark_id_in, priority_in, has_end, mark_keys, naming_keys, place_by_numbers, end_place, far_at, group_name, group_number, paint_of}
+use Rattle.nv_api_mark.specs.declared.painting.TheConstants.{USUAL_PRIORITY}
 
 -- the id that a mark gets: the one that is given, else one more than the greatest that was ever set
 -- there (own rule)
@@ -71,7 +72,8 @@ mark_with groups ns id start stop pairs = record {
   right = flag_or true (codes "right_gravity") pairs;
   stop = stop;
   paint = paint_of groups pairs;
-  priority = unwrap_or (option_and_then priority_in (value_of (codes "priority") pairs)) 4096;
+  priority = unwrap_or (option_and_then priority_in (value_of (codes "priority") pairs))
+      USUAL_PRIORITY;
   restore = flag_or true (codes "undo_restore") pairs;
   invalidate = flag_or false (codes "invalidate") pairs;
   hidden = false;

@@ -5,20 +5,19 @@
 //! the least number first, and then the reply and the operations.
 #![tactic(auto)]
 
-mod clearing;
+pub mod clearing;
 mod details;
-mod grouping;
+pub mod grouping;
 mod laws;
-mod listing;
-mod marks;
-mod naming;
+pub mod listing;
+pub mod marks;
+pub mod naming;
 mod painting;
 mod places;
 mod setting;
 mod table;
-mod telling;
+pub mod telling;
 mod values;
 
 pub use laws::telling_laws;
-pub use listing::nvim_buf_get_extmarks;
-pub use table::call_method;
+pub use table::call;

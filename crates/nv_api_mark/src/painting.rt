@@ -22,6 +22,9 @@ use nv_editor::Editor;
 use nv_value::{Pair, Value};
 use std::alloc::AllocError;
 
+/// The priority of a mark for which none is given (help: nvim_buf_set_extmark()).
+pub const USUAL_PRIORITY: u32 = 4_096;
+
 /// The id of the group of a name, which is made empty where it isn't known.
 pub fn group_named(editor: &mut Editor, name: &[u8]) -> Result<u32, AllocError>
     requires few { length editor.old.stage.groups
@@ -111,7 +114,7 @@ pub fn put_draft(
         right: flag_or(pairs, "right_gravity", true),
         stop: draft.stop,
         paint: paint_of(group, pairs),
-        priority: integer_between(pairs, "priority", 0, 65_535).unwrap_or(4096),
+        priority: integer_between(pairs, "priority", 0, 65_535).unwrap_or(USUAL_PRIORITY),
         restore: flag_or(pairs, "undo_restore", true),
         invalidate: flag_or(pairs, "invalidate", false),
         hidden: false,

@@ -1,6 +1,4 @@
 pub mod Fitting
 pub mod Giving
-pub mod RowNames
-pub mod RowsTell
-pub mod Spelling
+pub mod RowsMake
 pub mod Examples

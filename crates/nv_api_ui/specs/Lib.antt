@@ -1,6 +1,5 @@
 pub mod UiOptions
 pub mod UiRows
-pub mod Rows
 pub mod Laws
 pub mod WorkedUis
 pub mod inside

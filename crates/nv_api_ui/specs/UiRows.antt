@@ -16,6 +16,10 @@ use Rattle.nv_model.specs.Answering.{reply_of, fault_or, array_of, natural, key_
 use Rattle.nv_model.specs.declared.parts.Ui.{Ui}
 use Rattle.nv_editor.specs.Uis.{has_ui, ui_fits}
 use Rattle.nv_api_ui.specs.UiOptions.{ui_keys, attached_ui, ui_option_fault, with_ui_option}
+use Rattle.nv_args.specs.declared.methods.UiMethod.{UiMethod}
+use Rattle.nv_args.specs.declared.methods.UiMethod.TheVariants.{Strwidth, UiAttach, UiDetach, UiTryResize, UiSetOption, ListUis}
+use Rattle.nv_model.specs.Kinds.{Effects, no_effects, making, puts_uis, drops_uis}
+use Rattle.nv_model.specs.Rows.{Row}
 
 -- a UI with another width, from 1 to 2000 columns, and with another height, from 1 to 1000 rows
 -- (own rule)
@@ -112,3 +116,20 @@ nvim_list_uis s session args = reply_of (array_of (map ui_dict s.stage.uis))
 -- nvim_strwidth(text): the cells that it takes on a line by itself
 abbrev pub nvim_strwidth : Seen → ℕ → List Arg → Answer
 nvim_strwidth s session args = reply_of (unsigned_number (strwidth_of (string_at args 0)))
+
+-- the methods of UIs, and the cells of a text
+abbrev pub ui_row : UiMethod → Row
+ui_row Strwidth = nvim_strwidth
+ui_row UiAttach = nvim_ui_attach
+ui_row UiDetach = nvim_ui_detach
+ui_row UiTryResize = nvim_ui_try_resize
+ui_row UiSetOption = nvim_ui_set_option
+ui_row ListUis = nvim_list_uis
+
+-- the kinds of operations that each makes, and of facts that it tells
+abbrev pub ui_effects : UiMethod → Effects
+ui_effects UiAttach = making (puts_uis ∷ [])
+ui_effects UiDetach = making (drops_uis ∷ [])
+ui_effects UiTryResize = making (puts_uis ∷ [])
+ui_effects UiSetOption = making (puts_uis ∷ [])
+ui_effects _ = no_effects

@@ -7,7 +7,7 @@ ghost use Rattle.nv_args.specs.Args.{typed_arguments};
 ghost use Rattle.nv_args.specs.Reading.{Arg, object_at};
 ghost use Rattle.nv_model.specs.Answers.{Fact};
 ghost use Rattle.nv_model.specs.Standing.{seen_now};
-ghost use Rattle.nv_editor.specs.Doing.{GivesAnswer};
+ghost use Rattle.nv_editor.specs.Doing.{GivesAnswer, GivesQuietly};
 ghost use Rattle.nv_api_ui.specs.UiRows.{nvim_ui_attach, nvim_ui_detach, nvim_ui_set_option, nvim_ui_try_resize, setting_answer};
 
 use crate::options::{attached_ui, check_option, check_options, with_ui_option};
@@ -18,9 +18,9 @@ use nv_value::Value;
 
 /// `nvim_ui_attach`: a session gets a UI. The screen has the least size of all UIs.
 pub fn nvim_ui_attach(editor: &mut Editor, session: u64, args: &Args) -> Result<Value, Fail>
-    ensures row { (told : List Fact)
-        → GivesAnswer (nvim_ui_attach (seen_now editor.old) session (typed_arguments args.now))
-        result editor.old editor.new told told }
+    ensures row { GivesQuietly
+        (nvim_ui_attach (seen_now editor.old) session (typed_arguments args.now))
+        result editor.old editor.new }
     ensures spelled { IfOk result (λ value. HasSpelling (content value)) }
 {
     let pairs = args.pairs(2);
@@ -47,9 +47,9 @@ pub fn nvim_ui_detach(editor: &mut Editor, session: u64) -> Result<Value, Fail>
 
 /// `nvim_ui_try_resize`: a session's UI gets another size.
 pub fn nvim_ui_try_resize(editor: &mut Editor, session: u64, args: &Args) -> Result<Value, Fail>
-    ensures row { (told : List Fact)
-        → GivesAnswer (nvim_ui_try_resize (seen_now editor.old) session (typed_arguments args.now))
-        result editor.old editor.new told told }
+    ensures row { GivesQuietly
+        (nvim_ui_try_resize (seen_now editor.old) session (typed_arguments args.now))
+        result editor.old editor.new }
     ensures spelled { IfOk result (λ value. HasSpelling (content value)) }
 {
     let Some(ui) = sized_ui(ui_or_new(editor.uis(), session), args) else {
@@ -84,9 +84,9 @@ fn put_option(editor: &mut Editor, session: u64, name: &[u8], value: &Value) -> 
 
 /// `nvim_ui_set_option`: an option of a session's UI is put. `rgb` is kept; others have no effect.
 pub fn nvim_ui_set_option(editor: &mut Editor, session: u64, args: &Args) -> Result<Value, Fail>
-    ensures row { (told : List Fact)
-        → GivesAnswer (nvim_ui_set_option (seen_now editor.old) session (typed_arguments args.now))
-        result editor.old editor.new told told }
+    ensures row { GivesQuietly
+        (nvim_ui_set_option (seen_now editor.old) session (typed_arguments args.now))
+        result editor.old editor.new }
     ensures spelled { IfOk result (λ value. HasSpelling (content value)) }
 {
     let name = args.string(0);

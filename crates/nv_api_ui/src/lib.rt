@@ -5,15 +5,13 @@
 //! faults, the least number first, and then the reply and the operations.
 #![tactic(auto)]
 
-mod attaching;
+pub mod attaching;
 mod laws;
 mod options;
 mod putting;
 mod table;
-mod telling;
+pub mod telling;
 mod values;
 
-pub use attaching::{nvim_ui_attach, nvim_ui_detach, nvim_ui_set_option, nvim_ui_try_resize};
 pub use laws::{telling_laws, worked_uis};
-pub use table::call_method;
-pub use telling::{nvim_list_uis, nvim_strwidth};
+pub use table::call;

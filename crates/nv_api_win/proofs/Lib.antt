@@ -1,8 +1,6 @@
-pub mod RowsTell
+pub mod RowsMake
 pub mod Giving
 pub mod Homes
-pub mod Spelling
 pub mod LiveThings
 pub mod Coordinates
 pub mod Openings
-pub mod RowNames

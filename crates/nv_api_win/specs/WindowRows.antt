@@ -20,6 +20,11 @@ use Rattle.nv_model.specs.Answers.{Answer, replied, unless, or_refused, on_buffe
 use Rattle.nv_model.specs.Answering.{reply_of, fault_or, array_of, natural}
 use Rattle.nv_api_win.specs.Windows.{window_handle, tabpage_handle, area_of}
 use Rattle.nv_api_win.specs.Opening.{opening_keys, side_of, beside_of, wished_width, wished_height, width_in, height_in}
+use Rattle.nv_args.specs.declared.methods.WindowMethod.{WindowMethod}
+use Rattle.nv_args.specs.declared.methods.WindowMethod.TheVariants.{ListWins, GetCurrentWin, SetCurrentWin, OpenWin, WinClose, WinIsValid, WinGetBuf, WinSetBuf, WinGetCursor, WinSetCursor, WinGetHeight, WinGetWidth, WinSetHeight, WinSetWidth, WinGetPosition, WinGetTabpage, ListTabpages, GetCurrentTabpage, SetCurrentTabpage, TabpageIsValid, TabpageListWins, TabpageGetWin, TabpageGetNumber}
+use Rattle.nv_model.specs.Kinds.{Effects, no_effects, making, goes, opens_windows, closes_windows, closes_tabs, shows_buffers, moves_cursors, puts_wishes}
+use Rattle.nv_model.specs.Rows.{Row}
+use Rattle.nv_api_win.specs.TabpageRows.{nvim_list_tabpages, nvim_get_current_tabpage, nvim_set_current_tabpage, nvim_tabpage_is_valid, nvim_tabpage_list_wins, nvim_tabpage_get_win, nvim_tabpage_get_number}
 
 -- nvim_list_wins(): the windows of all tabpages, each tabpage's in tree order
 abbrev pub nvim_list_wins : Seen → ℕ → List Arg → Answer
@@ -167,3 +172,41 @@ abbrev pub nvim_win_get_tabpage : Seen → ℕ → List Arg → Answer
 nvim_win_get_tabpage s session args = on_window s (number_at args 0) (λ w.
     reply_of (tabpage_handle (option_map_or (λ t. t.handle) (tabpage_of s.stage.workspace w.handle)
     (pos 0))))
+
+-- the methods on windows and tabpages
+abbrev pub window_row : WindowMethod → Row
+window_row ListWins = nvim_list_wins
+window_row GetCurrentWin = nvim_get_current_win
+window_row SetCurrentWin = nvim_set_current_win
+window_row OpenWin = nvim_open_win
+window_row WinClose = nvim_win_close
+window_row WinIsValid = nvim_win_is_valid
+window_row WinGetBuf = nvim_win_get_buf
+window_row WinSetBuf = nvim_win_set_buf
+window_row WinGetCursor = nvim_win_get_cursor
+window_row WinSetCursor = nvim_win_set_cursor
+window_row WinGetHeight = nvim_win_get_height
+window_row WinGetWidth = nvim_win_get_width
+window_row WinSetHeight = nvim_win_set_height
+window_row WinSetWidth = nvim_win_set_width
+window_row WinGetPosition = nvim_win_get_position
+window_row WinGetTabpage = nvim_win_get_tabpage
+window_row ListTabpages = nvim_list_tabpages
+window_row GetCurrentTabpage = nvim_get_current_tabpage
+window_row SetCurrentTabpage = nvim_set_current_tabpage
+window_row TabpageIsValid = nvim_tabpage_is_valid
+window_row TabpageListWins = nvim_tabpage_list_wins
+window_row TabpageGetWin = nvim_tabpage_get_win
+window_row TabpageGetNumber = nvim_tabpage_get_number
+
+-- the kinds of operations that each makes, and of facts that it tells
+abbrev pub window_effects : WindowMethod → Effects
+window_effects SetCurrentWin = making (goes ∷ [])
+window_effects OpenWin = making (opens_windows ∷ goes ∷ [])
+window_effects WinClose = making (closes_windows ∷ closes_tabs ∷ [])
+window_effects WinSetBuf = making (shows_buffers ∷ [])
+window_effects WinSetCursor = making (moves_cursors ∷ [])
+window_effects WinSetHeight = making (puts_wishes ∷ [])
+window_effects WinSetWidth = making (puts_wishes ∷ [])
+window_effects SetCurrentTabpage = making (goes ∷ [])
+window_effects _ = no_effects

@@ -1,13 +1,11 @@
 //! The methods that change windows and tabpages.
-ghost use Rattle.std.specs.Prelude.{◌≡◌, ◌≤◌, ℕ, List, IfOk, IfSome};
+ghost use Rattle.std.specs.Prelude.{◌≡◌, ◌≤◌, IfOk, IfSome};
 ghost use Rattle.nv_value.specs.View.{content};
 ghost use Rattle.nv_msgpack.specs.Shortest.{HasSpelling};
 ghost use Rattle.nv_args.specs.Args.{typed_arguments};
 ghost use Rattle.nv_args.specs.Reading.{number_at};
-ghost use Rattle.nv_model.specs.Answers.{Fact};
 ghost use Rattle.nv_args.specs.KeyValues.{number_between};
-ghost use Rattle.nv_model.specs.Standing.{seen_now};
-ghost use Rattle.nv_editor.specs.Doing.{GivesAnswer};
+ghost use Rattle.nv_editor.specs.Doing.{GivesAlone};
 ghost use Rattle.nv_api_win.specs.TabpageRows.{nvim_set_current_tabpage};
 ghost use Rattle.nv_api_win.specs.WindowRows.{nvim_set_current_win, nvim_win_close, nvim_win_set_buf, nvim_win_set_cursor, nvim_win_set_height, nvim_win_set_width};
 
@@ -19,10 +17,8 @@ use nv_value::Value;
 
 /// `nvim_set_current_win`: a window becomes current, and its tabpage too.
 pub fn nvim_set_current_win(editor: &mut Editor, args: &Args) -> Result<Value, Fail>
-    ensures row { (session : ℕ) (told : List Fact)
-        → GivesAnswer (nvim_set_current_win (seen_now editor.old) session (typed_arguments
-        args.now))
-        result editor.old editor.new told told }
+    ensures row { GivesAlone nvim_set_current_win (typed_arguments args.now) result
+        editor.old editor.new }
     ensures spelled { IfOk result (λ value. HasSpelling (content value)) }
 {
     let window = the_window(editor, args)?;
@@ -32,10 +28,8 @@ pub fn nvim_set_current_win(editor: &mut Editor, args: &Args) -> Result<Value, F
 
 /// `nvim_set_current_tabpage`: a tabpage becomes current.
 pub fn nvim_set_current_tabpage(editor: &mut Editor, args: &Args) -> Result<Value, Fail>
-    ensures row { (session : ℕ) (told : List Fact)
-        → GivesAnswer (nvim_set_current_tabpage (seen_now editor.old) session (typed_arguments
-        args.now))
-        result editor.old editor.new told told }
+    ensures row { GivesAlone nvim_set_current_tabpage (typed_arguments args.now) result
+        editor.old editor.new }
     ensures spelled { IfOk result (λ value. HasSpelling (content value)) }
 {
     let tabpage = the_tabpage(editor, args)?.handle;
@@ -45,9 +39,8 @@ pub fn nvim_set_current_tabpage(editor: &mut Editor, args: &Args) -> Result<Valu
 
 /// `nvim_win_set_buf`: a window shows a buffer, at row 0.
 pub fn nvim_win_set_buf(editor: &mut Editor, args: &Args) -> Result<Value, Fail>
-    ensures row { (session : ℕ) (told : List Fact)
-        → GivesAnswer (nvim_win_set_buf (seen_now editor.old) session (typed_arguments args.now))
-        result editor.old editor.new told told }
+    ensures row { GivesAlone nvim_win_set_buf (typed_arguments args.now) result
+        editor.old editor.new }
     ensures spelled { IfOk result (λ value. HasSpelling (content value)) }
 {
     let buffer = the_buffer(editor, args, 1)?;
@@ -58,9 +51,8 @@ pub fn nvim_win_set_buf(editor: &mut Editor, args: &Args) -> Result<Value, Fail>
 
 /// `nvim_win_set_cursor`: puts a window's cursor, its row from 1 and its column from 0.
 pub fn nvim_win_set_cursor(editor: &mut Editor, args: &Args) -> Result<Value, Fail>
-    ensures row { (session : ℕ) (told : List Fact)
-        → GivesAnswer (nvim_win_set_cursor (seen_now editor.old) session (typed_arguments args.now))
-        result editor.old editor.new told told }
+    ensures row { GivesAlone nvim_win_set_cursor (typed_arguments args.now) result
+        editor.old editor.new }
     ensures spelled { IfOk result (λ value. HasSpelling (content value)) }
 {
     editor.known();
@@ -85,9 +77,8 @@ fn asked_size(args: &Args, most: u32) -> Option<u32>
 
 /// `nvim_win_set_height`: a window wishes so many rows of text.
 pub fn nvim_win_set_height(editor: &mut Editor, args: &Args) -> Result<Value, Fail>
-    ensures row { (session : ℕ) (told : List Fact)
-        → GivesAnswer (nvim_win_set_height (seen_now editor.old) session (typed_arguments args.now))
-        result editor.old editor.new told told }
+    ensures row { GivesAlone nvim_win_set_height (typed_arguments args.now) result
+        editor.old editor.new }
     ensures spelled { IfOk result (λ value. HasSpelling (content value)) }
 {
     let window = the_window(editor, args)?;
@@ -102,9 +93,8 @@ pub fn nvim_win_set_height(editor: &mut Editor, args: &Args) -> Result<Value, Fa
 
 /// `nvim_win_set_width`: a window wishes so many columns.
 pub fn nvim_win_set_width(editor: &mut Editor, args: &Args) -> Result<Value, Fail>
-    ensures row { (session : ℕ) (told : List Fact)
-        → GivesAnswer (nvim_win_set_width (seen_now editor.old) session (typed_arguments args.now))
-        result editor.old editor.new told told }
+    ensures row { GivesAlone nvim_win_set_width (typed_arguments args.now) result
+        editor.old editor.new }
     ensures spelled { IfOk result (λ value. HasSpelling (content value)) }
 {
     let window = the_window(editor, args)?;
@@ -119,9 +109,8 @@ pub fn nvim_win_set_width(editor: &mut Editor, args: &Args) -> Result<Value, Fai
 
 /// `nvim_win_close`: a window is closed, and its tabpage with its last one.
 pub fn nvim_win_close(editor: &mut Editor, args: &Args) -> Result<Value, Fail>
-    ensures row { (session : ℕ) (told : List Fact)
-        → GivesAnswer (nvim_win_close (seen_now editor.old) session (typed_arguments args.now))
-        result editor.old editor.new told told }
+    ensures row { GivesAlone nvim_win_close (typed_arguments args.now) result
+        editor.old editor.new }
     ensures spelled { IfOk result (λ value. HasSpelling (content value)) }
 {
     let window = the_window(editor, args)?;

@@ -1,5 +1,5 @@
 //! How a window is opened.
-ghost use Rattle.std.specs.Prelude.{◌≡◌, ◌≤◌, ℕ, true, false, List, map, IfOk};
+ghost use Rattle.std.specs.Prelude.{◌≡◌, ◌≤◌, true, false, List, map, IfOk};
 ghost use Rattle.nv_value.specs.View.{content, pair_content};
 ghost use Rattle.nv_msgpack.specs.Shortest.{HasSpelling};
 ghost use Rattle.nv_args.specs.Args.{typed_arguments};
@@ -11,7 +11,7 @@ ghost use Rattle.nv_windows.specs.Rooms.{has_room_beside, has_window_left};
 ghost use Rattle.nv_windows.specs.Workspace.{is_live_window};
 ghost use Rattle.nv_model.specs.Answers.{Fact};
 ghost use Rattle.nv_model.specs.Standing.{seen_now};
-ghost use Rattle.nv_editor.specs.Doing.{GivesAnswer};
+ghost use Rattle.nv_editor.specs.Doing.{GivesAlone, GivesAnswer};
 ghost use Rattle.nv_editor.specs.Sound.{is_live_buffer};
 ghost use Rattle.nv_api_win.specs.Opening.{beside_of, opening_keys, side_named, side_of, wished_height, wished_width};
 ghost use Rattle.nv_api_win.specs.WindowRows.{nvim_open_win, opening_answer};
@@ -26,7 +26,7 @@ use nv_args::{
 use nv_editor::Editor;
 use nv_layout::Side;
 use nv_value::{Pair, Value};
-use nv_windows::Opened;
+use nv_windows::{Opened, Wishes};
 use std::alloc::Global;
 
 // Refuses pairs with an unknown key or a wrong value, or without a side.
@@ -165,8 +165,10 @@ fn open_at(editor: &mut Editor, place: Place, args: &Args) -> Result<Value, Fail
         place.beside,
         side_of(pairs),
         place.buffer,
-        wished_width(pairs),
-        wished_height(pairs),
+        Wishes {
+            width: wished_width(pairs),
+            height: wished_height(pairs),
+        },
         args.flag(1),
     )?;
     match opened {
@@ -179,9 +181,8 @@ fn open_at(editor: &mut Editor, place: Place, args: &Args) -> Result<Value, Fail
 /// `nvim_open_win`: a new window on a side of another one shows a buffer at row 0; with `enter` it
 /// becomes current. Keys: `split`, `win`, `width`, `height`.
 pub fn nvim_open_win(editor: &mut Editor, args: &Args) -> Result<Value, Fail>
-    ensures row { (session : ℕ) (told : List Fact)
-        → GivesAnswer (nvim_open_win (seen_now editor.old) session (typed_arguments args.now))
-        result editor.old editor.new told told }
+    ensures row { GivesAlone nvim_open_win (typed_arguments args.now) result
+        editor.old editor.new }
     ensures spelled { IfOk result (λ value. HasSpelling (content value)) }
 {
     let place = named_place(editor, args)?;

@@ -1,11 +1,9 @@
 //! The methods that tell of windows.
-ghost use Rattle.std.specs.Prelude.{◌≡◌, ℕ, List, IfOk};
+ghost use Rattle.std.specs.Prelude.{IfOk};
 ghost use Rattle.nv_value.specs.View.{content};
 ghost use Rattle.nv_msgpack.specs.Shortest.{HasSpelling};
 ghost use Rattle.nv_args.specs.Args.{typed_arguments};
-ghost use Rattle.nv_args.specs.Reading.{Arg};
-ghost use Rattle.nv_model.specs.Standing.{seen_now};
-ghost use Rattle.nv_editor.specs.Doing.{ReadsAnswer};
+ghost use Rattle.nv_editor.specs.Doing.{GivesAlone};
 ghost use Rattle.nv_api_win.specs.WindowRows.{nvim_list_wins, nvim_get_current_win, nvim_win_is_valid, nvim_win_get_buf, nvim_win_get_cursor, nvim_win_get_height, nvim_win_get_width, nvim_win_get_position, nvim_win_get_tabpage};
 
 use crate::finding::{area_of, home_of, the_window, window_named};
@@ -18,29 +16,30 @@ use nv_editor::Editor;
 use nv_value::Value;
 
 /// `nvim_list_wins`: the windows of all tabpages, each tabpage's in tree order.
-pub fn nvim_list_wins(editor: &Editor) -> Result<Value, Fail>
-    ensures row { (session : ℕ) (args : List Arg)
-        → ReadsAnswer (nvim_list_wins (seen_now editor.now) session args) result }
+pub fn nvim_list_wins(editor: &Editor, args: &Args) -> Result<Value, Fail>
+    ensures row { GivesAlone nvim_list_wins (typed_arguments args.now) result
+        editor.now editor.now }
     ensures spelled { IfOk result (λ value. HasSpelling (content value)) }
 {
+    let _ = args;
     let all = editor.windows().all(editor.alloc())?;
     Ok(window_list(editor.alloc(), all.as_slice())?)
 }
 
 /// `nvim_get_current_win`: the current window.
-pub fn nvim_get_current_win(editor: &Editor) -> Result<Value, Fail>
-    ensures row { (session : ℕ) (args : List Arg)
-        → ReadsAnswer (nvim_get_current_win (seen_now editor.now) session args) result }
+pub fn nvim_get_current_win(editor: &Editor, args: &Args) -> Result<Value, Fail>
+    ensures row { GivesAlone nvim_get_current_win (typed_arguments args.now) result
+        editor.now editor.now }
     ensures spelled { IfOk result (λ value. HasSpelling (content value)) }
 {
+    let _ = args;
     Ok(window_value(editor.alloc(), editor.windows().current_window())?)
 }
 
 /// `nvim_win_get_buf`: the buffer that a window shows.
 pub fn nvim_win_get_buf(editor: &Editor, args: &Args) -> Result<Value, Fail>
-    ensures row { (session : ℕ)
-        → ReadsAnswer (nvim_win_get_buf (seen_now editor.now) session (typed_arguments args.now))
-        result }
+    ensures row { GivesAlone nvim_win_get_buf (typed_arguments args.now) result
+        editor.now editor.now }
     ensures spelled { IfOk result (λ value. HasSpelling (content value)) }
 {
     let window = the_window(editor, args)?;
@@ -49,9 +48,8 @@ pub fn nvim_win_get_buf(editor: &Editor, args: &Args) -> Result<Value, Fail>
 
 /// `nvim_win_get_cursor`: a window's cursor, its row from 1 and its column from 0.
 pub fn nvim_win_get_cursor(editor: &Editor, args: &Args) -> Result<Value, Fail>
-    ensures row { (session : ℕ)
-        → ReadsAnswer (nvim_win_get_cursor (seen_now editor.now) session (typed_arguments args.now))
-        result }
+    ensures row { GivesAlone nvim_win_get_cursor (typed_arguments args.now) result
+        editor.now editor.now }
     ensures spelled { IfOk result (λ value. HasSpelling (content value)) }
 {
     let window = the_window(editor, args)?;
@@ -60,9 +58,8 @@ pub fn nvim_win_get_cursor(editor: &Editor, args: &Args) -> Result<Value, Fail>
 
 /// `nvim_win_is_valid`: whether a window of this handle is live.
 pub fn nvim_win_is_valid(editor: &Editor, args: &Args) -> Result<Value, Fail>
-    ensures row { (session : ℕ)
-        → ReadsAnswer (nvim_win_is_valid (seen_now editor.now) session (typed_arguments args.now))
-        result }
+    ensures row { GivesAlone nvim_win_is_valid (typed_arguments args.now) result
+        editor.now editor.now }
     ensures spelled { IfOk result (λ value. HasSpelling (content value)) }
 {
     let found = window_named(editor, args.number(0));
@@ -71,9 +68,8 @@ pub fn nvim_win_is_valid(editor: &Editor, args: &Args) -> Result<Value, Fail>
 
 /// `nvim_win_get_height`: a window's rows of text, without its status line.
 pub fn nvim_win_get_height(editor: &Editor, args: &Args) -> Result<Value, Fail>
-    ensures row { (session : ℕ)
-        → ReadsAnswer (nvim_win_get_height (seen_now editor.now) session (typed_arguments args.now))
-        result }
+    ensures row { GivesAlone nvim_win_get_height (typed_arguments args.now) result
+        editor.now editor.now }
     ensures spelled { IfOk result (λ value. HasSpelling (content value)) }
 {
     let window = the_window(editor, args)?;
@@ -82,9 +78,8 @@ pub fn nvim_win_get_height(editor: &Editor, args: &Args) -> Result<Value, Fail>
 
 /// `nvim_win_get_width`: a window's columns of text.
 pub fn nvim_win_get_width(editor: &Editor, args: &Args) -> Result<Value, Fail>
-    ensures row { (session : ℕ)
-        → ReadsAnswer (nvim_win_get_width (seen_now editor.now) session (typed_arguments args.now))
-        result }
+    ensures row { GivesAlone nvim_win_get_width (typed_arguments args.now) result
+        editor.now editor.now }
     ensures spelled { IfOk result (λ value. HasSpelling (content value)) }
 {
     let window = the_window(editor, args)?;
@@ -93,10 +88,8 @@ pub fn nvim_win_get_width(editor: &Editor, args: &Args) -> Result<Value, Fail>
 
 /// `nvim_win_get_position`: row and column of a window's first cell on the screen.
 pub fn nvim_win_get_position(editor: &Editor, args: &Args) -> Result<Value, Fail>
-    ensures row { (session : ℕ)
-        → ReadsAnswer (nvim_win_get_position (seen_now editor.now) session (typed_arguments
-        args.now))
-        result }
+    ensures row { GivesAlone nvim_win_get_position (typed_arguments args.now) result
+        editor.now editor.now }
     ensures spelled { IfOk result (λ value. HasSpelling (content value)) }
 {
     let window = the_window(editor, args)?;
@@ -106,10 +99,8 @@ pub fn nvim_win_get_position(editor: &Editor, args: &Args) -> Result<Value, Fail
 
 /// `nvim_win_get_tabpage`: the tabpage that a window is in.
 pub fn nvim_win_get_tabpage(editor: &Editor, args: &Args) -> Result<Value, Fail>
-    ensures row { (session : ℕ)
-        → ReadsAnswer (nvim_win_get_tabpage (seen_now editor.now) session (typed_arguments
-        args.now))
-        result }
+    ensures row { GivesAlone nvim_win_get_tabpage (typed_arguments args.now) result
+        editor.now editor.now }
     ensures spelled { IfOk result (λ value. HasSpelling (content value)) }
 {
     let window = the_window(editor, args)?;

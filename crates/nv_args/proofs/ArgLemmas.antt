@@ -8,6 +8,7 @@ use Rattle.nv_args.specs.declared.kinds.Kind.{Kind as TypeKind}
 use Rattle.nv_args.specs.Arguments.{truth_in, string_in, pairs_in}
 use Rattle.nv_args.specs.Table.{Kind}
 use Rattle.nv_args.specs.Kinds.{kind_of}
+use Rattle.nv_args.specs.Methods.{kind_of_parameter}
 use Rattle.nv_args.specs.Reading.{array_in, number_of, flag_of, string_of, values_of, pairs_of, object_of, number_at, flag_at, string_at, values_at, pairs_at, object_at}
 use Rattle.nv_args.specs.Args.{typed_arguments}
 use Rattle.nv_args.specs.inside.Held.{is_flag_kind, is_string_kind, is_list_kind, is_map_kind, is_any_kind}
@@ -15,7 +16,7 @@ use Rattle.nv_args.proofs.HeldLemmas.{held_there, held-there, no-flag, no-string
 
 -- the kinds of the parameters, and the values
 abbrev pub kinds_in : Args → List Kind
-kinds_in args = map kind_of args.kinds.now
+kinds_in args = map kind_of_parameter args.parameters.now
 
 abbrev pub values_in : Args → List Tree
 values_in args = map content args.values.now

@@ -1,7 +1,7 @@
 -- Lemmas on the pairs of a Dict of which the last counts.
 use Rattle.std.proofs.Common.{◌≡◌, ℕ, zero, suc, ◌+◌, ◌<◌, ◌≤◌, nat_cmp, Bor, Bool, true, false, cond, not, ◌&&◌, ◌||◌, List, [], ◌∷◌, length, map, drop, Option, Some, None, refl, sym, ap, ◌∙◌, arith}
 use Rattle.std.proofs.lemmas.Bool.{false≢true}
-use Rattle.std.proofs.lemmas.List.{at_drop_more, drop-map, drop_all}
+use Rattle.std.proofs.lemmas.List.{at_drop_more, drop-map}
 use Rattle.std.proofs.lemmas.Slice.Eq.{bytes_eq-Decides}
 use Rattle.std.proofs.lemmas.Bool.{and_parts}
 use Rattle.std.proofs.lemmas.Map.Text.{is_eq-slice_cmp}
@@ -98,12 +98,6 @@ last_value-behind name (suc n) [] t e = e
 last_value-behind name (suc n) (p ∷ ps) t e =
     ap (λ o. or_value o (cond (has_name name p) (Some p.1) None)) (last_value-behind name n ps t e)
 
--- one pair more, without the name and with it
-pub last_value-other : (name : List ℕ) (p : Tree × Tree) (ps : List (Tree × Tree)) → last_value name ps ≡ None → has_name name p ≡ false
-    → last_value name (p ∷ ps) ≡ None
-last_value-other name p ps none e =
-    ap (λ b. or_value (last_value name ps) (cond b (Some p.1) None)) e ∙ or_value-none (last_value name ps) ∙ none
-
 pub last_value-here : (name : List ℕ) (p : Tree × Tree) (ps : List (Tree × Tree)) → last_value name ps ≡ None → has_name name p ≡ true
     → last_value name (p ∷ ps) ≡ Some p.1
 last_value-here name p ps none e =
@@ -184,16 +178,6 @@ pub value-nowhere : (name : List ℕ) (pairs : List Pair) (left : ℕ) → left 
     → None ≡ value_of name (last_pairs (map pair_content pairs))
 value-nowhere name pairs left start none =
     sym (value_of-last name (map pair_content pairs) ∙ ap (λ n. last_value name (map pair_content (drop n pairs))) (sym start) ∙ none)
-
-pub value-other : (name : List ℕ) (pairs : List Pair) (left place : ℕ) (pair d : Pair) → left ≡ place + 1 → place < length pairs
-    → pair ≡ get_or pairs place d → last_value name (map pair_content (drop left pairs)) ≡ None → has_name name (pair_content pair) ≡ false
-    → last_value name (map pair_content (drop place pairs)) ≡ None
-value-other name pairs left place pair d next within is none e =
-    let F : List Pair → Option Tree = λ ps. last_value name (map pair_content ps) in
-    let behind : F (drop (place + 1) pairs) ≡ None = ap (λ n. F (drop n pairs)) (sym next) ∙ none in
-    at_drop_more F pairs place d within
-    ∙ ap (λ (p : Pair). F (p ∷ drop (place + 1) pairs)) (sym is)
-    ∙ last_value-other name (pair_content pair) (map pair_content (drop (place + 1) pairs)) behind e
 
 -- where no key names a group
 pub none-naming : (keys : List Key) (ps : List (Tree × Tree)) → wrong_value_of [] keys ps ≡ wrong_value keys ps
@@ -313,19 +297,6 @@ pub record LookedAt (rules : List Rule) (pairs : List Pair) (left : ℕ) (names 
   pub found : option_map (λ (name : Bor (List ℕ)). invalid_key name.now) first
       ≡ unknown_key (map key_of rules) (last_pairs (map pair_content (drop left pairs)))
   pub known : (name : List ℕ) → list_any (λ k. bytes_eq name k.now) names ≡ is_key_among (Some name) (map pair_content (drop left pairs))
-
--- at first none was
-pub looked-none : (rules : List Rule) (pairs : List Pair) (left : ℕ) (names : List (Bor (List ℕ))) → left ≡ length pairs → names ≡ []
-    → LookedAt rules pairs left names None
-looked-none rules pairs left names end none =
-    let nothing : drop left pairs ≡ [] = drop_all left pairs (omega (arith, end)) in
-    record {
-      within = omega (arith, end);
-      found = ap (λ (ps : List Pair). unknown_key (map key_of rules) (last_pairs (map pair_content ps))) (sym nothing);
-      known = λ name.
-          ap (list_any (λ (k : Bor (List ℕ)). bytes_eq name k.now)) none
-          ∙ ap (λ (ps : List Pair). is_key_among (Some name) (map pair_content ps)) (sym nothing);
-    }
 
 -- one pair more
 next-pairs : {Y : Type 0} (F : List (Tree × Tree) → Y) (pairs : List Pair) (left place : ℕ) (pair d : Pair) → left ≡ place + 1 → place < length pairs

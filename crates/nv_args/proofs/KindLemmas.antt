@@ -6,9 +6,9 @@ use Rattle.std.specs.List.{list_all}
 use Rattle.nv_value.specs.Content.{Tree, Trees, list}
 use Rattle.nv_value.specs.View.{content, contents}
 use Rattle.nv_value.specs.declared.value.Value.{Value}
-use Rattle.nv_args.specs.declared.kinds.Kind.{Kind as TypeKind}
+use Rattle.nv_args.specs.declared.signatures.Parameter.{Parameter as Taken}
 use Rattle.nv_args.specs.Arguments.{tree_list, string_in, strings_in, with_string, pairs_in}
-use Rattle.nv_args.specs.Kinds.{kind_of}
+use Rattle.nv_args.specs.Methods.{kind_of_parameter}
 use Rattle.nv_args.specs.Reading.{list_arg, array_in, values_passing, arg_of}
 use Rattle.nv_args.specs.inside.Held.{first_wrong}
 
@@ -71,56 +71,56 @@ not-all-strings (v ∷ values) b is fails =
     with-none (string_in (content v)) (list_all (λ t. is_some (string_in t)) (map content values)) (strings_in (contents values))
     (λ e. not-all-strings values _ refl e) (sym is ∙ fails)
 
--- the kind at a place
-pub kind-there : (kinds : List TypeKind) (place : ℕ) (d : TypeKind) → place < length kinds
-    → slice_get (map kind_of kinds) place ≡ Some (kind_of (get_or kinds place d))
-kind-there [] place d within = absurd (omega arith)
-kind-there (k ∷ kinds) zero d within = refl
-kind-there (k ∷ kinds) (suc place) d within = kind-there kinds place d (omega arith)
+-- what stands at a place of a list that was mapped
+pub map-there : {X Y : Type 0} (f : X → Y) (xs : List X) (place : ℕ) (d : X) → place < length xs
+    → slice_get (map f xs) place ≡ Some (f (get_or xs place d))
+map-there f [] place d within = absurd (omega arith)
+map-there f (x ∷ xs) zero d within = refl
+map-there f (x ∷ xs) (suc place) d within = map-there f xs place d (omega arith)
 
 -- the first wrong value from a place on
-wrong-step : (kinds : List TypeKind) (values : List Value) (place : ℕ) (d : TypeKind) (v : Value)
-    → place < length kinds → place < length values → v ≡ get_or values place v
-    → first_wrong (drop place (map kind_of kinds)) (drop place (map content values))
-    ≡ cond (is_some (arg_of (kind_of (get_or kinds place d)) (content v)))
-    (option_map (λ n. suc n) (first_wrong (drop (suc place) (map kind_of kinds)) (drop (suc place) (map content values))))
+wrong-step : (taken : List Taken) (values : List Value) (place : ℕ) (d : Taken) (v : Value)
+    → place < length taken → place < length values → v ≡ get_or values place v
+    → first_wrong (drop place (map kind_of_parameter taken)) (drop place (map content values))
+    ≡ cond (is_some (arg_of (kind_of_parameter (get_or taken place d)) (content v)))
+    (option_map (λ n. suc n) (first_wrong (drop (suc place) (map kind_of_parameter taken)) (drop (suc place) (map content values))))
     (Some 0)
 wrong-step [] values place d v a b is = absurd (omega arith)
-wrong-step (k ∷ kinds) [] place d v a b is = absurd (omega arith)
-wrong-step (k ∷ kinds) (x ∷ values) zero d v a b is =
-    ap (λ (u : Value). cond (is_some (arg_of (kind_of k) (content u)))
-    (option_map (λ n. suc n) (first_wrong (map kind_of kinds) (map content values))) (Some 0)) (sym is)
-wrong-step (k ∷ kinds) (x ∷ values) (suc place) d v a b is =
-    wrong-step kinds values place d v (omega arith) (omega arith) is
+wrong-step (k ∷ taken) [] place d v a b is = absurd (omega arith)
+wrong-step (k ∷ taken) (x ∷ values) zero d v a b is =
+    ap (λ (u : Value). cond (is_some (arg_of (kind_of_parameter k) (content u)))
+    (option_map (λ n. suc n) (first_wrong (map kind_of_parameter taken) (map content values))) (Some 0)) (sym is)
+wrong-step (k ∷ taken) (x ∷ values) (suc place) d v a b is =
+    wrong-step taken values place d v (omega arith) (omega arith) is
 
 -- it stands there
-pub wrong-here : (kinds : List TypeKind) (values : List Value) (place : ℕ) (d : TypeKind) (v : Value)
-    (b : Bool) (all : Option ℕ) → place < length kinds → place < length values
-    → v ≡ get_or values place v → b ≡ is_some (arg_of (kind_of (get_or kinds place d)) (content v))
+pub wrong-here : (taken : List Taken) (values : List Value) (place : ℕ) (d : Taken) (v : Value)
+    (b : Bool) (all : Option ℕ) → place < length taken → place < length values
+    → v ≡ get_or values place v → b ≡ is_some (arg_of (kind_of_parameter (get_or taken place d)) (content v))
     → b ≡ false
-    → all ≡ option_map (λ n. place + n) (first_wrong (drop place (map kind_of kinds)) (drop place (map content values)))
+    → all ≡ option_map (λ n. place + n) (first_wrong (drop place (map kind_of_parameter taken)) (drop place (map content values)))
     → Some place ≡ all
-wrong-here kinds values place d v b all a h is test fails so_far =
-    let next = first_wrong (drop (suc place) (map kind_of kinds)) (drop (suc place) (map content values)) in
-    let here : is_some (arg_of (kind_of (get_or kinds place d)) (content v)) ≡ false = sym test ∙ fails in
-    let found : first_wrong (drop place (map kind_of kinds)) (drop place (map content values)) ≡ Some 0 =
-    wrong-step kinds values place d v a h is
+wrong-here taken values place d v b all a h is test fails so_far =
+    let next = first_wrong (drop (suc place) (map kind_of_parameter taken)) (drop (suc place) (map content values)) in
+    let here : is_some (arg_of (kind_of_parameter (get_or taken place d)) (content v)) ≡ false = sym test ∙ fails in
+    let found : first_wrong (drop place (map kind_of_parameter taken)) (drop place (map content values)) ≡ Some 0 =
+    wrong-step taken values place d v a h is
     ∙ ap (λ (t : Bool). cond t (option_map (λ n. suc n) next) (Some 0)) here in
     let number : place ≡ place + 0 = omega arith in
     ap Some number ∙ sym (so_far ∙ ap (option_map (λ n. place + n)) found)
 
 -- or behind it
-pub wrong-behind : (kinds : List TypeKind) (values : List Value) (place m : ℕ) (d : TypeKind) (v : Value)
-    (b : Bool) (all : Option ℕ) → place < length kinds → place < length values
-    → v ≡ get_or values place v → b ≡ is_some (arg_of (kind_of (get_or kinds place d)) (content v))
+pub wrong-behind : (taken : List Taken) (values : List Value) (place m : ℕ) (d : Taken) (v : Value)
+    (b : Bool) (all : Option ℕ) → place < length taken → place < length values
+    → v ≡ get_or values place v → b ≡ is_some (arg_of (kind_of_parameter (get_or taken place d)) (content v))
     → b ≡ true → m ≡ suc place
-    → all ≡ option_map (λ n. place + n) (first_wrong (drop place (map kind_of kinds)) (drop place (map content values)))
-    → all ≡ option_map (λ n. m + n) (first_wrong (drop m (map kind_of kinds)) (drop m (map content values)))
-wrong-behind kinds values place m d v b all a h is test passes next_is so_far =
-    let rest : ℕ → Option ℕ = λ k. first_wrong (drop k (map kind_of kinds)) (drop k (map content values)) in
-    let here : is_some (arg_of (kind_of (get_or kinds place d)) (content v)) ≡ true = sym test ∙ passes in
+    → all ≡ option_map (λ n. place + n) (first_wrong (drop place (map kind_of_parameter taken)) (drop place (map content values)))
+    → all ≡ option_map (λ n. m + n) (first_wrong (drop m (map kind_of_parameter taken)) (drop m (map content values)))
+wrong-behind taken values place m d v b all a h is test passes next_is so_far =
+    let rest : ℕ → Option ℕ = λ k. first_wrong (drop k (map kind_of_parameter taken)) (drop k (map content values)) in
+    let here : is_some (arg_of (kind_of_parameter (get_or taken place d)) (content v)) ≡ true = sym test ∙ passes in
     let found : rest place ≡ option_map (λ n. suc n) (rest (suc place)) =
-    wrong-step kinds values place d v a h is
+    wrong-step taken values place d v a h is
     ∙ ap (λ (t : Bool). cond t (option_map (λ n. suc n) (rest (suc place))) (Some 0)) here in
     so_far
     ∙ ap (option_map (λ n. place + n)) found

@@ -5,9 +5,9 @@ pub mod ColourLemmas
 pub mod DictLemmas
 pub mod HeldLemmas
 pub mod KindLemmas
-pub mod NameSearch
+pub mod NameLookup
 pub mod Pairs
 pub mod ReadLemmas
 pub mod Refusing
-pub mod Signatures
+pub mod Spelled
 pub mod Words

@@ -7,9 +7,12 @@ use Rattle.nv_args.specs.Faults.{invalid_value}
 use Rattle.nv_args.specs.Arguments.{string_in, first_key}
 use Rattle.nv_args.specs.Maps.{Key, known_key, takes_value, unknown_key, missing_key, or_else}
 
--- the length of a group's name: 1 to 200 bytes (own rule)
+-- a group's name has 1 to so many bytes (own rule)
+abbrev pub longest_group_name : ℕ
+longest_group_name = 200
+
 abbrev pub is_group_name : List ℕ → Bool
-is_group_name name = nat_le 1 (length name) && nat_le (length name) 200
+is_group_name name = nat_le 1 (length name) && nat_le (length name) longest_group_name
 
 -- a value that is no string, or the name of a group
 abbrev pub names_group : Option (List ℕ) → Bool

@@ -3,8 +3,8 @@ ghost use Rattle.std.specs.Prelude.{◌≡◌, false, [], length, map, slice_get
 ghost use Rattle.nv_value.specs.Content.{Trees, nil};
 ghost use Rattle.nv_value.specs.View.{content, contents, pair_content};
 ghost use Rattle.nv_args.specs.Arguments.{truth_in, string_in, strings_in, pairs_in};
-ghost use Rattle.nv_args.specs.Methods.{signature_of};
 ghost use Rattle.nv_args.specs.Kinds.{kind_of};
+ghost use Rattle.nv_args.specs.Methods.{IsBrief, kind_of_parameter, signature_of};
 ghost use Rattle.nv_args.specs.Reading.{read, array_in, number_of, number_at, flag_at, string_at, values_at, pairs_at, object_at, lines_at, first_string, second_values, name_of_call, arguments_of_call};
 ghost use Rattle.nv_args.specs.Refusals.{Meets};
 ghost use Rattle.nv_args.specs.Args.{typed_arguments};
@@ -12,8 +12,8 @@ ghost use Rattle.nv_args.specs.inside.Held.{arg_held, first_wrong, is_flag_kind,
 
 use crate::faults::{Fail, wrong_count, wrong_type};
 use crate::kinds::{BUFFER, Kind, TABPAGE, WINDOW, are_strings, handle_number};
-use crate::methods::Method;
 use crate::reading::integer_of;
+use crate::signatures::{Parameter, Signature};
 use nv_value::{Bytes, Pair, Value};
 use std::alloc::{AllocError, Global};
 
@@ -21,39 +21,47 @@ use std::alloc::{AllocError, Global};
 /// themselves, lent, and looked through once.
 #[derive(Clone, Copy)]
 pub struct Args<'a> {
-    kinds: &'static [Kind],
+    parameters: &'static [Parameter],
     values: &'a [Value],
 }
 
 /// The arguments of a call of a method. Their number is looked at first, and then their types, the
 /// first argument first. A call without a fault takes no memory.
-pub fn read(alloc: Global, method: Method, params: &[Value]) -> Result<Args<'_>, Fail>
-    ensures { Meets typed_arguments result (read (signature_of method) (map content params.now)) }
+pub fn read<'a>(
+    alloc: Global,
+    signature: &'static Signature,
+    params: &'a [Value],
+) -> Result<Args<'a>, Fail>
+    requires brief { IsBrief signature.now }
+    ensures { Meets typed_arguments result
+        (read (signature_of signature.now) (map content params.now)) }
 {
-    let kinds = method.kinds();
-    if params.len() != kinds.len() {
-        return Err(wrong_count(alloc, kinds.len(), params.len()));
+    let parameters = signature.parameters;
+    if params.len() != parameters.len() {
+        return Err(wrong_count(alloc, parameters.len(), params.len()));
     }
-    match first_wrong(kinds, params) {
+    match first_wrong(parameters, params) {
         Some(place) => {
             let number = place as u8 + 1;
-            Err(wrong_type(alloc, number, method.name(), kinds[place].type_name()))
+            let kind = parameters[place].0;
+            Err(wrong_type(alloc, number, signature.name, kind.type_name()))
         }
         None => Ok(Args {
-            kinds,
+            parameters,
             values: params,
         }),
     }
 }
 
 // The place, from 0, of the first value that isn't of its kind.
-fn first_wrong(kinds: &[Kind], values: &[Value]) -> Option<usize>
-    requires { length kinds.now ≡ length values.now }
-    ensures place { result ≡ first_wrong (map kind_of kinds.now) (map content values.now) }
-    ensures within { IfSome result (λ place. place < length kinds.now) }
+fn first_wrong(parameters: &[Parameter], values: &[Value]) -> Option<usize>
+    requires { length parameters.now ≡ length values.now }
+    ensures place { result
+        ≡ first_wrong (map kind_of_parameter parameters.now) (map content values.now) }
+    ensures within { IfSome result (λ place. place < length parameters.now) }
 {
-    for place in 0..kinds.len() {
-        if !kinds[place].takes(&values[place]) {
+    for place in 0..parameters.len() {
+        if !parameters[place].0.takes(&values[place]) {
             return Some(place);
         }
     }
@@ -63,10 +71,11 @@ fn first_wrong(kinds: &[Kind], values: &[Value]) -> Option<usize>
 impl<'a> Args<'a> {
     // The kind of the parameter at a place.
     fn kind(&self, place: usize) -> Option<Kind>
-        ensures { option_map kind_of result ≡ slice_get (map kind_of self.now.kinds.now) place }
+        ensures { option_map kind_of result
+            ≡ slice_get (map kind_of_parameter self.now.parameters.now) place }
     {
-        match self.kinds.get(place) {
-            Some(kind) => Some(*kind),
+        match self.parameters.get(place) {
+            Some(parameter) => Some(parameter.0),
             None => None,
         }
     }

@@ -20,6 +20,9 @@ use std::collections::BTreeSet;
 // The longest name that a fault tells.
 const LONGEST_NAME: usize = 2_147_483_647;
 
+// The longest name that a highlight group may have, in bytes.
+const LONGEST_GROUP_NAME: usize = 200;
+
 /// The value of a key, where it is there.
 #[inline(always)]
 pub fn value_of<'a>(pairs: &'a [Pair], name: &str) -> Option<&'a Value>
@@ -282,11 +285,11 @@ fn names_group(value: &Value) -> bool
     }
 }
 
-/// Whether a highlight group may have a name: 1 to 200 bytes.
+/// Whether a highlight group may have a name: 1 to `LONGEST_GROUP_NAME` bytes.
 pub fn is_group_name(name: &[u8]) -> bool
     ensures { result ≡ is_group_name name.now }
 {
-    1 <= name.len() && name.len() <= 200
+    1 <= name.len() && name.len() <= LONGEST_GROUP_NAME
 }
 
 fn stands_among(key: &Value, pairs: &[Pair]) -> bool

@@ -11,6 +11,7 @@ mod kinds;
 mod methods;
 mod reading;
 mod rules;
+mod signatures;
 
 pub use args::{Args, NamedCall, bytes_of, call_in, read};
 pub use dicts::{
@@ -28,6 +29,8 @@ pub use getting::{
     tabpage_at, terminal_colour_at, window_at,
 };
 pub use indexing::{is_outside, leaves_text, row_of_index, text_col, text_row};
-pub use methods::{Method, method_of};
+pub use kinds::Kind;
+pub use methods::{BufferMethod, MarkMethod, Method, UiMethod, WindowMethod};
 pub use reading::{integer_of, truth_of};
 pub use rules::{Rule, Takes};
+pub use signatures::{Parameter, Signature, method_of, told_signatures};

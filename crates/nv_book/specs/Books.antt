@@ -8,6 +8,7 @@ use Rattle.nv_msgpack.specs.Shortest.{shortest, depth, HasSpelling}
 use Rattle.nv_msgpack.specs.Within.{SpellsWithin}
 use Rattle.nv_rpc.specs.Calls.{Call, request, notice}
 use Rattle.nv_history.specs.Events.{Event, open_session, request_of, take_of, close_of, Entry}
+use Rattle.nv_world.specs.declared.world.TheConstants.{LEAST_OUTBOX, MOST_OUTBOX}
 
 -- an entry of a history with its output: the bytes that a take gave, and none for any other entry
 pub record Recorded : Type 0 where
@@ -140,8 +141,8 @@ pub record IsFairRecord (r : Recorded) : Type 0 where
 
 -- an outbox and records of which there are values of a book
 pub record AreFair (outbox : ℕ) (rs : List Recorded) : Type 0 where
-  pub least : 16 ≤ outbox
-  pub most : outbox ≤ 1048576
+  pub least : LEAST_OUTBOX ≤ outbox
+  pub most : outbox ≤ MOST_OUTBOX
   pub each : AllByRecursion IsFairRecord rs
 
 -- the greatest number of lists and maps one in another in a value of a book

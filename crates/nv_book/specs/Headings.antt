@@ -7,6 +7,7 @@ use Rattle.nv_rpc.specs.Calls.{Call, request, notice, params_in}
 use Rattle.nv_rpc.specs.Received.{text_in}
 use Rattle.nv_history.specs.Events.{Event, open_session, request_of, take_of, close_of, Entry}
 use Rattle.nv_book.specs.Books.{book_name}
+use Rattle.nv_world.specs.declared.world.TheConstants.{LEAST_OUTBOX, MOST_OUTBOX}
 
 -- an entry, and of how many pieces its output is
 pub record Heading : Type 0 where
@@ -100,7 +101,7 @@ entry_count_in _ = None
 
 -- how many messages an outbox holds, as the first value of a book tells
 abbrev pub if_fair : ℕ → Option ℕ
-if_fair n = if nat_le 16 n && nat_le n 1048576 then Some n else None
+if_fair n = if nat_le LEAST_OUTBOX n && nat_le n MOST_OUTBOX then Some n else None
 
 abbrev pub if_first_version : ℕ → Option ℕ → Option ℕ
 if_first_version version outbox = if version == 1 then outbox else None

@@ -12,7 +12,7 @@ ghost use Rattle.nv_book.specs.inside.Heads.{plain_heading};
 use crate::copying::copy_of_values;
 use nv_rpc::Frame;
 use nv_value::{Bytes, Items, Value};
-use nv_world::{Entry, Event};
+use nv_world::{Entry, Event, LEAST_OUTBOX, MOST_OUTBOX};
 use std::alloc::{AllocError, Global};
 
 /// An entry of a book, and of how many pieces its output is.
@@ -295,7 +295,7 @@ pub fn end_of(value: &Value) -> Option<u64>
 fn fair(outbox: u64) -> Option<u32>
     ensures { result ≡ if_fair outbox }
 {
-    if outbox < 16 || outbox > 1_048_576 {
+    if outbox < LEAST_OUTBOX || outbox > MOST_OUTBOX {
         return None;
     }
     Some(outbox as u32)

@@ -43,15 +43,16 @@ pub struct Intake {
 impl Model for Intake {
     ghost use Rattle.std.specs.Prelude.{◌+◌, ◌^◌, ◌≤◌, ◌≡◌, length, vec_len};
     ghost use Rattle.nv_book.specs.Books.{most_nested, most_value};
+    ghost use Rattle.nv_book.specs.declared.intake.TheConstants.{PIECE};
     ghost use Rattle.nv_book.specs.inside.Intakes.{Intaking};
 
     ghost Value = { Intaking };
 
     ghost view = { λ i. record { taken = i.taken; stream = i.stream } };
 
-    ghost invariant = { λ i. (vec_len i.buffer ≡ 65536) × (i.stream.depth ≡ most_nested)
+    ghost invariant = { λ i. (vec_len i.buffer ≡ PIECE) × (i.stream.depth ≡ most_nested)
         × (i.stream.most ≡ most_value) × (i.stream.start + length i.stream.held ≤ i.taken)
-        × (i.taken ≤ 2 ^ 62 + 65536) };
+        × (i.taken ≤ 2 ^ 62 + PIECE) };
 }
 
 // Reads once, where so many bytes were taken before, and answers how many bytes came: none where
@@ -62,7 +63,7 @@ fn read_piece<R: Net<Listener = TcpListener, Stream = TcpStream>, S: Source>(
     taken: u64,
     buffer: &mut [u8],
 ) -> Result<usize, Unread>
-    requires { length buffer.old ≡ 65536 }
+    requires { length buffer.old ≡ PIECE }
     ensures reads { (bytes : List ℕ)
         × Gave (S.taken source.old) (S.taken source.new) (S.left source.old)
         (S.left source.new) bytes

@@ -9,6 +9,7 @@ ghost use Rattle.nv_book.specs.Books.{most_value};
 ghost use Rattle.nv_book.specs.Headings.{outbox_in};
 ghost use Rattle.nv_book.specs.Reading.{HasGiven};
 ghost use Rattle.nv_book.specs.inside.Parts.{EndsBook, GetsFirst, GetsPart, HasLightPart, IsPartIfAny, IsPlaceBehind};
+ghost use Rattle.nv_world.specs.Worlds.{IsOutboxSize};
 
 use crate::faults::Unread;
 use crate::headings::{Heading, end_of, heading_of, outbox_of};
@@ -94,7 +95,7 @@ pub fn read_first<R: Net<Listener = TcpListener, Stream = TcpStream>, S: Source>
         × ((fed : List ℕ) (values : List Tree)
         → HasGiven fed values intake.old.taken intake.old.stream
         → GetsFirst (fed ++ bytes) (S.left source.new) values result intake.new) }
-    ensures fair { IfOk result (λ outbox. (16 ≤ outbox) × (outbox ≤ 1048576)) }
+    ensures fair { IfOk result (λ outbox. IsOutboxSize outbox) }
     ensures later { S.faults source.old ≤ S.faults source.new }
     ensures fault { result ≡ Err Unread.ReadFault
         → Rose (S.faults source.old) (S.faults source.new) }

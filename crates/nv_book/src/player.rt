@@ -3,7 +3,7 @@ ghost use Rattle.std.specs.Prelude.{◌≡◌, ◌≤◌, [], false, None, Some,
 ghost use Rattle.nv_painter.specs.Spoken.{IsSoundIfThere};
 ghost use Rattle.nv_history.specs.Worlds.{World as ModelWorld, step, world_made};
 ghost use Rattle.nv_world.specs.Contents.{plain_event, scene_given};
-ghost use Rattle.nv_world.specs.Worlds.{GivesSendable, IsLightEvent, model_of, with_entry};
+ghost use Rattle.nv_world.specs.Worlds.{GivesSendable, IsLightEvent, IsOutboxSize, model_of, with_entry};
 ghost use Rattle.nv_book.specs.Outputs.{IsSessionOf, session_named};
 ghost use Rattle.nv_book.specs.inside.Playing.{GaveOut, MakesNoEntry, PlaysOne};
 
@@ -56,7 +56,7 @@ pub fn session_named(event: &Event) -> u64
 impl Player {
     /// A fresh world, nobody of whose clients was told anything.
     pub fn new(alloc: Global, limits: Limits, outbox: u32) -> Result<Player, AllocError>
-        requires outbox { (16 ≤ outbox) × (outbox ≤ 1048576) }
+        requires outbox { IsOutboxSize outbox }
         requires entries { 1 ≤ limits.entries }
         ensures world { IfOk result (λ player. player.world ≡ record {
           capacity = outbox;

@@ -4,7 +4,7 @@ ghost use Rattle.nv_io.specs.Faults.{Rose};
 ghost use Rattle.nv_io.specs.Streams.{Gave};
 ghost use Rattle.nv_history.specs.Runs.{run};
 ghost use Rattle.nv_world.specs.Contents.{plain_entries, plain_event};
-ghost use Rattle.nv_world.specs.Worlds.{IsLightEvent, model_of};
+ghost use Rattle.nv_world.specs.Worlds.{IsLightEvent, IsOutboxSize, model_of};
 ghost use Rattle.nv_world.specs.declared.step.Step.{Step as PlainStep};
 ghost use Rattle.nv_world.specs.declared.story.Start.{Start as PlainStart};
 ghost use Rattle.nv_book.specs.Books.{Recorded};
@@ -54,7 +54,7 @@ pub struct Book {
 impl Model for Replay {
     ghost use Rattle.std.specs.Prelude.{◌≡◌, ◌≤◌};
     ghost use Rattle.std.specs.Coded.{codes};
-    ghost use Rattle.nv_world.specs.Worlds.{world_code};
+    ghost use Rattle.nv_world.specs.Worlds.{IsOutboxSize, world_code};
     ghost use Rattle.nv_book.specs.Reading.{Replaying};
 
     ghost Value = { Replaying };
@@ -71,7 +71,7 @@ impl Model for Replay {
       output = r.player.output.items;
     } };
 
-    ghost invariant = { λ r. (16 ≤ r.start.outbox) × (r.start.outbox ≤ 1048576)
+    ghost invariant = { λ r. IsOutboxSize r.start.outbox
         × (1 ≤ r.start.limits.entries) × (r.player.world.capacity ≡ r.start.outbox)
         × (r.player.world.limits ≡ r.start.limits) };
 }
@@ -337,7 +337,7 @@ impl Replay {
     /// What the world begins with.
     pub fn start(&self) -> Start
         ensures start { result ≡ self.now.start }
-        ensures outbox { (16 ≤ result.outbox) × (result.outbox ≤ 1048576) }
+        ensures outbox { IsOutboxSize result.outbox }
         ensures entries { 1 ≤ result.limits.entries }
     {
         self.start
@@ -366,8 +366,7 @@ pub fn read_book<R: Net<Listener = TcpListener, Stream = TcpStream>, S: Source>(
         × Gave (S.taken source.old) (S.taken source.new) (S.left source.old)
         (S.left source.new) bytes
         × ReadsBook limits bytes (S.left source.new) result }
-    ensures outbox { IfOk result (λ book. (16 ≤ book.start.outbox)
-        × (book.start.outbox ≤ 1048576)) }
+    ensures outbox { IfOk result (λ book. IsOutboxSize book.start.outbox) }
     ensures later { S.faults source.old ≤ S.faults source.new }
     ensures fault { result ≡ Err Unread.ReadFault
         → Rose (S.faults source.old) (S.faults source.new) }

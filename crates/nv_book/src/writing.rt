@@ -8,7 +8,7 @@ ghost use Rattle.nv_args.specs.Weight.{weight};
 ghost use Rattle.nv_history.specs.Runs.{run};
 ghost use Rattle.nv_history.specs.Worlds.{World as ModelWorld, step, world_made};
 ghost use Rattle.nv_world.specs.Contents.{plain_entries, plain_entry, plain_event};
-ghost use Rattle.nv_world.specs.Worlds.{IsLightEvent, model_of};
+ghost use Rattle.nv_world.specs.Worlds.{IsLightEvent, IsOutboxSize, model_of};
 ghost use Rattle.nv_book.specs.Books.{IsFitEntry, IsFitValue, most_value, output_pieces, shortest_of_all};
 ghost use Rattle.nv_book.specs.Outputs.{session_named};
 ghost use Rattle.nv_book.specs.Writing.{IsUnfitAt, WroteBook, WroteBookFront, WroteReplay, WroteReplayFront};
@@ -101,7 +101,7 @@ fn spell_piece(
     bytes: &[u8],
     room: &mut Vec<u8>,
 ) -> Result<(), AllocError>
-    requires { length bytes.now ≤ 1048576 }
+    requires { length bytes.now ≤ PIECE }
     ensures { OnOk result (room.new.items ≡ room.old.items
         ++ shortest (piece_tree form at session bytes.now)) }
 {
@@ -254,7 +254,7 @@ fn write_entries<R: Net<Listener = TcpListener, Stream = TcpStream>, S: Sink>(
     entries: &[Entry],
     sink: &mut S,
 ) -> Result<(), BookFault>
-    requires outbox { (16 ≤ start.outbox) × (start.outbox ≤ 1048576) }
+    requires outbox { IsOutboxSize start.outbox }
     requires limits { 1 ≤ start.limits.entries }
     requires runs { IsSome (run start.outbox start.limits (plain_entries entries.now)) }
     ensures ok { OnOk result (WentOut start form (plain_entries entries.now)
@@ -312,7 +312,7 @@ pub fn write_book<R: Net<Listener = TcpListener, Stream = TcpStream>, S: Sink>(
     history: &History,
     sink: &mut S,
 ) -> Result<(), BookFault>
-    requires outbox { (16 ≤ start.outbox) × (start.outbox ≤ 1048576) }
+    requires outbox { IsOutboxSize start.outbox }
     requires limits { 1 ≤ start.limits.entries }
     requires runs { IsSome (run start.outbox start.limits (plain_entries history.now.entries)) }
     ensures ok { OnOk result (WroteBook start (plain_entries history.now.entries)
@@ -341,7 +341,7 @@ pub fn write_replay<R: Net<Listener = TcpListener, Stream = TcpStream>, S: Sink>
     history: &History,
     sink: &mut S,
 ) -> Result<(), BookFault>
-    requires outbox { (16 ≤ start.outbox) × (start.outbox ≤ 1048576) }
+    requires outbox { IsOutboxSize start.outbox }
     requires limits { 1 ≤ start.limits.entries }
     requires runs { IsSome (run start.outbox start.limits (plain_entries history.now.entries)) }
     ensures ok { OnOk result (WroteReplay start (plain_entries history.now.entries)

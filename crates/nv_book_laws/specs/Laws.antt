@@ -10,6 +10,7 @@ use Rattle.nv_world.specs.declared.story.Start.{Start}
 use Rattle.nv_book.specs.Books.{Recorded, entries_of_records, bytes_of_book, IsFitEntry, IsOutputOf, HasSmallCall, AreFair, IsBook}
 use Rattle.nv_book.specs.Outputs.{AreOutputs}
 use Rattle.nv_book.specs.Writing.{WroteBook}
+use Rattle.nv_world.specs.declared.world.TheConstants.{LEAST_OUTBOX, MOST_OUTBOX}
 
 -- bytes are a book of one outbox and of one list of entries with their outputs
 unfoldable pub BooksAreOne : Type 0
@@ -82,7 +83,7 @@ pub record WentOutAsBook (start : Start) (history : List Entry) (before after : 
 unfoldable pub WroteIsBook : Type 0
 WroteIsBook =
     (start : Start) (history : List Entry) (before after : Option (List ℕ))
-    → 16 ≤ start.outbox → start.outbox ≤ 1048576
+    → LEAST_OUTBOX ≤ start.outbox → start.outbox ≤ MOST_OUTBOX
     → AllByRecursion IsTypedEntry history → AllByRecursion IsFitEntry history
     → (wrote : WroteBook start history before after)
     → length (bytes_of_book start.outbox wrote.records) < 2 ^ 64

@@ -1,35 +1,36 @@
 -- Laws of calls.
-use Rattle.std.proofs.Common.{◌≡◌, ◌∙◌, refl, sym, ap, subst, ℕ, suc, ◌+◌, ℤ, Bool, true, false, List, [], ◌∷◌, ◌++◌, map, length, append-nil, length-append, arith, Option, Some, None, Result, Ok, Err}
-use Rattle.std.specs.Prelude.{cond, if◌then◌else◌, bytes_eq, IsTrue, find, option_map, codes}
-use Rattle.std.specs.List.{list_all, AllByRecursion}
+use Rattle.std.proofs.Common.{◌≡◌, ◌∙◌, refl, sym, ap, subst, ℕ, suc, ◌+◌, ℤ, Bool, true, false, List, [], ◌∷◌, ◌++◌, map, length, length-append, arith, Option, Some, None, Result, Ok, Err}
+use Rattle.std.specs.Prelude.{if◌then◌else◌, bytes_eq, IsTrue, IfSome, option_map, codes}
+use Rattle.std.specs.List.{list_all}
 use Rattle.std.proofs.lemmas.List.Concat.{flat_map-append}
 use Rattle.nv_value.specs.Content.{Tree, Trees, nil, trees_of}
 use Rattle.nv_value.specs.declared.fault.ApiFault.{ApiFault}
 use Rattle.nv_args.specs.Arguments.{tree_list, require, answer_after}
 use Rattle.nv_args.specs.Faults.{wrong_type}
 use Rattle.nv_args.specs.Table.{Signature, method_named}
-use Rattle.nv_args.specs.Reading.{Arg, list_arg, read, values_passing, values_at, is_call, name_of_call, arguments_of_call}
+use Rattle.nv_args.specs.Reading.{Arg, list_arg, read, values_passing, is_call}
+use Rattle.nv_args.specs.declared.methods.Method.{Method}
+use Rattle.nv_args.specs.declared.methods.Method.TheVariants.{Atomic, PassedOver, Buffer, Mark, Window, Ui}
 use Rattle.nv_model.specs.Buffers.{tick_of, Splice, text_after, splice_events}
 use Rattle.nv_model.specs.Editors.{ModelEditor, handles_of}
-use Rattle.nv_model.specs.Seen.{Seen, seen_of}
+use Rattle.nv_model.specs.Seen.{seen_of}
 use Rattle.nv_model.specs.Operations.{Operation, sealed_in, after_operation, after_operations}
 use Rattle.nv_model.specs.Answers.{Answer, Fact, refused, replied}
 use Rattle.nv_model.specs.Laws.{splices_in, splices_among}
 use Rattle.nv_model.specs.Answering.{array_of}
-use Rattle.nv_model.specs.Rows.{Row}
-use Rattle.nv_api_buf.specs.Rows.{buffer_rows}
-use Rattle.nv_model.specs.Rows.{TellsSplices, RowTells, edits_in, edits_among, text_seen, tick_seen}
-use Rattle.nv_api_buf.specs.Laws.{EachSpliceIsTold}
+use Rattle.nv_model.specs.Kinds.{no_effects}
+use Rattle.nv_model.specs.Rows.{Row, TellsSplices, RowTells, edits_in, edits_among, text_seen, tick_seen}
+use Rattle.nv_model.proofs.Making.{silent_tells}
 use Rattle.nv_model.proofs.Texts.{operations_make_texts}
+use Rattle.nv_api_buf.specs.Laws.{EachSpliceIsTold}
 use Rattle.nv_api_buf.proofs.RowsTell.{each_splice_is_told}
-use Rattle.nv_api_mark.specs.Rows.{mark_rows}
-use Rattle.nv_api_mark.proofs.RowsTell.{no_splice_is_told as marks_tell}
-use Rattle.nv_api_win.specs.Rows.{window_rows}
-use Rattle.nv_api_ui.specs.Rows.{ui_rows}
-use Rattle.nv_api_ui.proofs.RowsTell.{no_splice_is_told as uis_tell}
-use Rattle.nv_api_win.proofs.RowsTell.{no_splice_is_told as windows_tell}
-use Rattle.nv_dispatch.specs.Calls.{CallOutcome, Batch, all_rows, row_named, editor_after, outcome_of_answer, answer_to_args, outcome_by_row, outcome_of_method, outcome_of_value, batch_with_first, batch_from_result, batch_of_values, outcome_of_batch, atomic_outcome, atomic_name, nvim_call_atomic, outcome_before_seal, seal_operations, outcome_with_seal, stop_value, outcome_of_call}
-use Rattle.nv_dispatch.specs.Laws.{NamesStandOnce, RowsStandInTable, RefusedLeavesAll, EachSpliceIsOneFact, TicksCountFacts, IsFirst, OneByOne, outcome_of_calls, ComesTo, AtomicIsOneByOne, AtomicStops}
+use Rattle.nv_api_mark.proofs.RowsMake.{no_splice_is_told as marks_tell}
+use Rattle.nv_api_ui.proofs.RowsMake.{no_splice_is_told as uis_tell}
+use Rattle.nv_api_win.proofs.RowsMake.{no_splice_is_told as windows_tell}
+use Rattle.nv_dispatch.specs.Calls.{CallOutcome, Batch, passed_over, row_of, editor_after, outcome_of_answer, answer_of_method, outcome_of_found, outcome_of_value, batch_with_first, batch_from_result, batch_of_values, outcome_of_batch, atomic_outcome, atomic_name, nvim_call_atomic, outcome_before_seal, outcome_with_seal, stop_value, outcome_of_call}
+use Rattle.nv_dispatch.specs.Laws.{NamesStandOnce, MethodsHaveRows, RefusedLeavesAll, EachSpliceIsOneFact, TicksCountFacts, IsFirst, OneByOne, outcome_of_calls, ComesTo, AtomicIsOneByOne, AtomicStops}
+use Rattle.nv_dispatch.proofs.ByCalls.{OfAnswer, OfRow, HoldsByCalls, call_holds}
+use Rattle.nv_dispatch.proofs.RowsMake.{passed_over_makes, if_some}
 
 -- ---- the table
 
@@ -37,9 +38,9 @@ pub names_stand_once : NamesStandOnce
 unfolding NamesStandOnce
 names_stand_once = refl
 
-pub rows_stand_in_table : RowsStandInTable
-unfolding RowsStandInTable
-rows_stand_in_table = refl
+pub methods_have_rows : MethodsHaveRows
+unfolding MethodsHaveRows row_of
+methods_have_rows = refl
 
 -- ---- refused calls
 
@@ -51,10 +52,9 @@ quiet_answer : (is_seen : Bool) (a : Answer) → IsQuiet (outcome_of_answer is_s
 quiet_answer is_seen (refused f) fault is = (refl, refl)
 quiet_answer is_seen (replied t cs fs) fault is = absurd (grind arith)
 
-quiet_made : (m : ModelEditor) (session : ℕ) (name : List ℕ) (given : List Tree) (method : Option Signature) (row : Option Row) → IsQuiet (outcome_by_row m session name given method row)
-quiet_made m session name given (Some method) (Some row) = quiet_answer method.is_seen (answer_to_args m session row (read method given))
-quiet_made m session name given (Some method) None = quiet_answer false (refused _)
-quiet_made m session name given None row = quiet_answer false (refused _)
+quiet_found : (m : ModelEditor) (session : ℕ) (name : List ℕ) (given : List Tree) (found : Option Signature) → IsQuiet (outcome_of_found m session name found given)
+quiet_found m session name given (Some s) = quiet_answer s.is_seen (answer_of_method (seen_of m) session s given)
+quiet_found m session name given None = quiet_answer false (refused _)
 
 quiet_read : (m : ModelEditor) (session : ℕ) (args : Result (List Arg) ApiFault) → IsQuiet (atomic_outcome m session args)
 quiet_read m session (Ok args) fault is = absurd (grind arith)
@@ -73,7 +73,7 @@ quiet_called : (m : ModelEditor) (session : ℕ) (name : List ℕ) (given : List
 quiet_called m session name given =
     of_both IsQuiet (bytes_eq name atomic_name) _ _
     (quiet_atomic m session given (method_named name))
-    (quiet_made m session name given (method_named name) (row_named name))
+    (quiet_found m session name given (method_named name))
 
 quiet_whole : (m : ModelEditor) (o : CallOutcome) (r : Result Tree ApiFault) → o.result ≡ r → IsQuiet o → IsQuiet (outcome_with_seal m o r)
 quiet_whole m o (Ok t) e q fault is = absurd (let told : Ok t ≡ Err fault = sym e ∙ is in grind arith)
@@ -104,102 +104,49 @@ counts-append n cs ds fs gs c d =
     ∙ sym (length-append (splices_among n cs) (splices_among n ds))
     ∙ sym (ap length (flat_map-append (splices_in n) cs ds))
 
-abbrev OutcomeCounts : ℤ → CallOutcome → Type 0
-OutcomeCounts n o = Counts n o.operations o.facts
+-- and in each buffer, of any editor
+abbrev IsAny : ModelEditor → Type 0
+IsAny m = Unit {0}
 
-counts_answer : (n : ℤ) (s : Seen) (is_seen : Bool) (a : Answer) → TellsSplices s a → OutcomeCounts n (outcome_of_answer is_seen a)
+abbrev AllCount : ModelEditor → List Operation → List Fact → Bool → Type 0
+AllCount m operations facts is_seen = (n : ℤ) → Counts n operations facts
+
+answer_counts : (m : ModelEditor) (is_seen : Bool) (a : Answer) → TellsSplices (seen_of m) a → OfAnswer AllCount m is_seen a
 unfolding TellsSplices
-counts_answer n s is_seen (refused f) tells = refl
-counts_answer n s is_seen (replied t cs fs) tells =
-    ap length (tells n) ∙ length-events (text_seen s n) (tick_seen s n) (splices_among n cs)
+answer_counts m is_seen (refused f) tells = tt
+answer_counts m is_seen (replied t cs fs) tells = λ n.
+    ap length (tells n) ∙ length-events (text_seen (seen_of m) n) (tick_seen (seen_of m) n) (splices_among n cs)
 
--- a row that was found tells its splices
-abbrev FoundTells : Option (List ℕ × Row) → Type 0
-FoundTells None = Unit {0}
-FoundTells (Some entry) = RowTells entry.1
+row_counts : (is_seen : Bool) (row : Row) → RowTells row → OfRow IsAny AllCount is_seen row
+row_counts is_seen row tells m any session args = answer_counts m is_seen (row (seen_of m) session args) (tells (seen_of m) session args)
 
-found_first : (b : Bool) (x : List ℕ × Row) (rest : Option (List ℕ × Row)) → RowTells x.1 → FoundTells rest → FoundTells (cond b (Some x) rest)
-found_first true x rest p q = p
-found_first false x rest p q = q
+rows_tell : (method : Method) → IfSome (row_of method) RowTells
+unfolding row_of EachSpliceIsTold
+rows_tell Atomic = tt
+rows_tell PassedOver = silent_tells no_effects passed_over refl passed_over_makes
+rows_tell (Buffer method) = each_splice_is_told method
+rows_tell (Mark method) = marks_tell method
+rows_tell (Window method) = windows_tell method
+rows_tell (Ui method) = uis_tell method
 
-found_tells : (test : List ℕ × Row → Bool) (rows : List (List ℕ × Row)) → AllByRecursion (λ (entry : List ℕ × Row). RowTells entry.1) rows → FoundTells (find test rows)
-found_tells test [] all = tt
-found_tells test (x ∷ xs) all = found_first (test x) x (find test xs) all.0 (found_tells test xs all.1)
-
--- rows that tell their splices, behind others that do
-abbrev AllTell : List (List ℕ × Row) → Type 0
-AllTell rows = AllByRecursion (λ (entry : List ℕ × Row). RowTells entry.1) rows
-
-all-append : (xs ys : List (List ℕ × Row)) → AllTell xs → AllTell ys → AllTell (xs ++ ys)
-all-append [] ys a b = b
-all-append (x ∷ xs) ys a b = (a.0, all-append xs ys a.1 b)
-
-rows_tell : (test : List ℕ × Row → Bool) → FoundTells (find test all_rows)
-unfolding EachSpliceIsTold
-rows_tell test =
-    found_tells test all_rows
-    (all-append buffer_rows (mark_rows ++ (window_rows ++ ui_rows)) each_splice_is_told
-    (all-append mark_rows (window_rows ++ ui_rows) marks_tell (all-append window_rows ui_rows windows_tell uis_tell)))
-
-counts_read : (n : ℤ) (m : ModelEditor) (session : ℕ) (row : Row) (is_seen : Bool) (args : Result (List Arg) ApiFault) → RowTells row → OutcomeCounts n (outcome_of_answer is_seen (answer_to_args m session row args))
-counts_read n m session row is_seen (Ok args) tells = counts_answer n (seen_of m) is_seen (row (seen_of m) session args) (tells (seen_of m) session args)
-counts_read n m session row is_seen (Err f) tells = refl
-
-counts_found :
-    (n : ℤ) (m : ModelEditor) (session : ℕ) (name : List ℕ) (given : List Tree) (method : Option Signature) (entry : Option (List ℕ × Row))
-    → FoundTells entry → OutcomeCounts n (outcome_by_row m session name given method (option_map (λ (e : List ℕ × Row). e.1) entry))
-counts_found n m session name given (Some method) (Some entry) tells = counts_read n m session entry.1 method.is_seen (read method given) tells
-counts_found n m session name given (Some method) None tells = refl
-counts_found n m session name given None entry tells = refl
-
-counts_made : (n : ℤ) (m : ModelEditor) (session : ℕ) (name : List ℕ) (given : List Tree) → OutcomeCounts n (outcome_of_method m session name given)
-unfolding row_named
-counts_made n m session name given =
-    counts_found n m session name given (method_named name) (find (λ (entry : List ℕ × Row). bytes_eq entry.0 name) all_rows)
-    (rows_tell (λ (entry : List ℕ × Row). bytes_eq entry.0 name))
-
-abbrev BatchCounts : ℤ → Batch → Type 0
-BatchCounts n b = Counts n b.operations b.facts
-
-counts_then :
-    (n : ℤ) (number : ℕ) (m : ModelEditor) (o : CallOutcome) (next : ModelEditor → Batch) (r : Result Tree ApiFault)
-    → OutcomeCounts n o → ((after : ModelEditor) → BatchCounts n (next after)) → BatchCounts n (batch_from_result number m o next r)
-counts_then n number m o next (Ok t) c d = counts-append n o.operations (next (editor_after m o)).operations o.facts (next (editor_after m o)).facts c (d (editor_after m o))
-counts_then n number m o next (Err f) c d = refl
-
-counts_all : (n : ℤ) (number : ℕ) (m : ModelEditor) (session : ℕ) (values : List Tree) → BatchCounts n (batch_of_values number m session values)
-counts_all n number m session [] = refl
-counts_all n number m session (v ∷ vs) =
-    counts_then n number m (outcome_of_value m session v) (λ after. batch_of_values (suc number) after session vs) (outcome_of_value m session v).result
-    (counts_made n m session (name_of_call v) (arguments_of_call v)) (λ after. counts_all n (suc number) after session vs)
-
-counts_atomic_read : (n : ℤ) (m : ModelEditor) (session : ℕ) (args : Result (List Arg) ApiFault) → OutcomeCounts n (atomic_outcome m session args)
-counts_atomic_read n m session (Ok args) = counts_all n 0 m session (tree_list (values_at args 0))
-counts_atomic_read n m session (Err f) = refl
-
-counts_atomic : (n : ℤ) (m : ModelEditor) (session : ℕ) (given : List Tree) (method : Option Signature) → OutcomeCounts n (nvim_call_atomic m session given method)
-counts_atomic n m session given (Some method) = counts_atomic_read n m session (read method given)
-counts_atomic n m session given None = refl
-
-counts_called : (n : ℤ) (m : ModelEditor) (session : ℕ) (name : List ℕ) (given : List Tree) → OutcomeCounts n (outcome_before_seal m session name given)
-counts_called n m session name given =
-    of_both (OutcomeCounts n) (bytes_eq name atomic_name) (nvim_call_atomic m session given (method_named name)) (outcome_of_method m session name given)
-    (counts_atomic n m session given (method_named name))
-    (counts_made n m session name given)
+rows_count : (name : List ℕ) (s : Signature) → method_named name ≡ Some s → IfSome (row_of s.method) (OfRow IsAny AllCount s.is_seen)
+rows_count name s is = if_some RowTells (OfRow IsAny AllCount s.is_seen) (row_counts s.is_seen) (row_of s.method) (rows_tell s.method)
 
 none_sealed : (n : ℤ) (handles : List ℤ) → splices_among n (map sealed_in handles) ≡ []
 none_sealed n [] = refl
 none_sealed n (k ∷ ks) = none_sealed n ks
 
-counts_closed : (n : ℤ) (m : ModelEditor) (o : CallOutcome) (r : Result Tree ApiFault) → OutcomeCounts n o → OutcomeCounts n (outcome_with_seal m o r)
-counts_closed n m o (Ok t) c =
-    c
-    ∙ sym (ap length (flat_map-append (splices_in n) o.operations (seal_operations (editor_after m o)) ∙ ap (λ (ss : List Splice). splices_among n o.operations ++ ss) (none_sealed n (handles_of (editor_after m o).buffers)) ∙ append-nil (splices_among n o.operations)))
-counts_closed n m o (Err f) c = c
+calls_count : HoldsByCalls IsAny AllCount
+calls_count = record {
+  none = λ m is_seen any n. refl;
+  both = λ m cs ds fs gs a b any first more n. counts-append n cs ds fs gs (first n) (more tt n);
+  rows = rows_count;
+  seals = λ m any n. sym (ap length (none_sealed n (handles_of m.buffers)));
+}
 
-counts_whole : (n : ℤ) (m : ModelEditor) (session : ℕ) (name : List ℕ) (given : List Tree) → OutcomeCounts n (outcome_of_call m session name given)
-counts_whole n m session name given =
-    counts_closed n m (outcome_before_seal m session name given) (outcome_before_seal m session name given).result (counts_called n m session name given)
+counts_whole : (n : ℤ) (m : ModelEditor) (session : ℕ) (name : List ℕ) (given : List Tree)
+    → Counts n (outcome_of_call m session name given).operations (outcome_of_call m session name given).facts
+counts_whole n m session name given = call_holds IsAny AllCount calls_count m tt session name given n
 
 pub each_splice_is_one_fact : EachSpliceIsOneFact
 unfolding EachSpliceIsOneFact

@@ -9,7 +9,6 @@ use Rattle.nv_msgpack.specs.Shortest.{HasSpelling, HaveSpellings}
 use Rattle.nv_rpc.specs.Outcomes.{call_result_content}
 use Rattle.nv_rpc.specs.declared.outcome.CallResult.{CallResult}
 use Rattle.nv_args.specs.Arguments.{tree_list, string_in}
-use Rattle.nv_args.specs.Texts.{strings}
 use Rattle.nv_args.specs.Weight.{weight, weights}
 use Rattle.nv_args.specs.Reading.{first_string, values_in, second_values, name_of_call, arguments_of_call}
 use Rattle.nv_dispatch.specs.inside.Weights.{list_weight}
@@ -79,8 +78,3 @@ spelled_more (r ∷ results) result h s = (h.0, spelled_more results result h.1 
 pub count-trees : (ts : List Tree) → count (trees_of ts) ≡ length ts
 count-trees [] = refl
 count-trees (t ∷ ts) = ap suc (count-trees ts)
-
--- lines as strings, one by one
-pub strings_are : (lines : List (List ℕ)) → strings lines ≡ trees_of (map text lines)
-strings_are [] = refl
-strings_are (line ∷ lines) = ap (one (text line)) (strings_are lines)

@@ -1,6 +1,7 @@
 -- What operations keep of a sound model editor, and of the past of its buffers.
 use Rattle.std.proofs.Common.{◌≡◌, ◌∙◌, refl, sym, ap, subst, ℤ, pos, ◌<ℤ◌, List, [], ◌∷◌, ◌++◌, Bool, true, false, cond, arith, All, Option, Some, None}
 use Rattle.std.specs.Prelude.{filter, option_map, is_some}
+use Rattle.std.specs.List.{AllByRecursion}
 use Rattle.std.specs.Option.{option_or}
 use Rattle.std.specs.Ordering.{int_eq}
 use Rattle.std.proofs.lemmas.Int.{ints}
@@ -126,8 +127,7 @@ leaves_keeps (tabstop_put n cells) leaves m sound =
 leaves_keeps c leaves m sound = keeps_buffers m (after_operation c m) sound (stays_below c m sound.numbered) refl refl
 
 abbrev pub AllLeaveTexts : List Operation → Type 0
-AllLeaveTexts [] = Unit {0}
-AllLeaveTexts (c ∷ cs) = LeavesTexts c × AllLeaveTexts cs
+AllLeaveTexts operations = AllByRecursion LeavesTexts operations
 
 pub all_leave-append : (cs ds : List Operation) → AllLeaveTexts cs → AllLeaveTexts ds → AllLeaveTexts (cs ++ ds)
 all_leave-append [] ds are then = then

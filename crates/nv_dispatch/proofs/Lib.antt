@@ -2,11 +2,13 @@ pub mod WorkedFacts
 pub mod WorkedMarks
 pub mod WorkedRuns
 pub mod WorkedWindows
+pub mod ByCalls
 pub mod CallLaws
 pub mod CallValues
 pub mod Light
 pub mod OutcomeLemmas
 pub mod RowLemmas
+pub mod RowsMake
 pub mod Pasts
 pub mod Kept
 pub mod Fitting

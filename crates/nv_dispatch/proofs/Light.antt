@@ -2,12 +2,12 @@
 use Rattle.std.proofs.Common.{◌≡◌, ℕ, suc, ◌^◌, ◌<◌, ◌≤◌, Bool, true, false, List, [], ◌∷◌, subst, arith, Option, Some, None, Result, Ok, Err}
 use Rattle.std.specs.Prelude.{if◌then◌else◌, option_map, option_and_then, is_some}
 use Rattle.std.specs.List.{list_all}
-use Rattle.std.proofs.lemmas.List.Elements.{All-nil, All-cons, All-head}
+use Rattle.std.proofs.lemmas.List.Elements.{All-nil, All-cons}
 use Rattle.nv_value.specs.Content.{Tree, Trees, nil, truth, integer, big, text, bin, list, pairs, ext, opaque, no_more, one}
 use Rattle.nv_value.specs.declared.fault.ApiFault.{ApiFault}
 use Rattle.nv_args.specs.Arguments.{keys_with_values, pairs_in, string_in, require, answer_after, refuse, tree_list}
 use Rattle.nv_args.specs.Faults.{wrong_type}
-use Rattle.nv_args.specs.Reading.{Arg, number_arg, flag_arg, string_arg, list_arg, map_arg, any_arg, array_in, values_passing, is_mark_place, is_call, are_two_integers, arg_of, read_from, read, values_of, values_at}
+use Rattle.nv_args.specs.Reading.{Arg, number_arg, flag_arg, string_arg, list_arg, map_arg, any_arg, array_in, values_passing, is_mark_place, is_call, are_two_integers, arg_of, read_from, read}
 use Rattle.nv_args.specs.Table.{Kind, Parameter, Signature, type_name}
 use Rattle.nv_args.specs.Weight.{weight, weights}
 use Rattle.nv_editor.specs.Light.{pairs_weight, arg_weight, AreLightArgs}
@@ -133,16 +133,3 @@ read_light method given h = refused_light _ _ _ (read_from_light 1 method.name m
 -- what was read for a method weighs little
 pub args_light : (method : Signature) (given : List Tree) (args : List Arg) → list_weight given < 2 ^ 31 → read method given ≡ Ok args → AreLightArgs args
 args_light method given args h e = subst IsLightRead e (read_light method given h)
-
-arg_values : (arg : Arg) → weights (values_of (Some arg)) ≤ arg_weight arg
-arg_values (number_arg n) = omega arith
-arg_values (flag_arg b) = omega arith
-arg_values (string_arg bytes) = omega arith
-arg_values (list_arg ts) = omega arith
-arg_values (map_arg ps) = omega arith
-arg_values (any_arg t) = omega arith
-
--- the values of the first argument weigh little
-pub values_light : (args : List Arg) → AreLightArgs args → weights (values_at args 0) < 2 ^ 31
-values_light [] h = omega arith
-values_light (arg ∷ args) h = omega (arith, arg_values arg, All-head (λ (a : Arg). arg_weight a < 2 ^ 31) arg args h)

@@ -5,26 +5,20 @@ use Rattle.std.proofs.lemmas.List.{length-map}
 use Rattle.nv_value.specs.Content.{Tree}
 use Rattle.nv_value.specs.declared.fault.ApiFault.{ApiFault}
 use Rattle.nv_rpc.specs.Outcomes.{call_result_content, outcome_content}
-use Rattle.nv_args.specs.Reading.{Arg}
 use Rattle.nv_args.specs.Args.{typed_arguments}
 use Rattle.nv_args.specs.Arguments.{tree_list}
-use Rattle.nv_args.specs.Reading.{read, values_at}
-use Rattle.nv_args.specs.Methods.{signature_of}
-use Rattle.nv_args.specs.declared.methods.Method.TheVariants.{CallAtomic}
+use Rattle.nv_args.specs.Reading.{Arg, values_at}
 use Rattle.nv_args.specs.Refusals.{Meets, RefusedKeeps}
 use Rattle.nv_args.specs.Weight.{weight}
 use Rattle.nv_args.specs.declared.faults.Fail.{Fail}
 use Rattle.nv_args.specs.declared.faults.Fail.TheVariants.{Api, NoMemory}
 use Rattle.nv_model.specs.Editors.{ModelEditor, handles_of}
-use Rattle.nv_model.specs.Seen.{Seen, seen_of}
 use Rattle.nv_model.specs.Operations.{Operation, sealed_in, after_operations}
 use Rattle.nv_model.specs.Answers.{Answer, Fact, refused, replied}
 use Rattle.nv_model.specs.Answering.{array_of}
-use Rattle.nv_model.specs.Rows.{Row}
-use Rattle.nv_model.specs.Standing.{PresentEditor, Stands, seen_now}
-use Rattle.nv_model.proofs.Seeing.{seen_is_same}
+use Rattle.nv_model.specs.Standing.{PresentEditor, Stands}
 use Rattle.nv_editor.specs.Doing.{Does, Replies}
-use Rattle.nv_dispatch.specs.Calls.{CallOutcome, Batch, editor_after, outcome_of_answer, outcome_of_value, batch_of_values, batch_with_first, batch_from_result, outcome_of_batch, atomic_outcome, atomic_name, outcome_before_seal, stop_value, no_calls, seal_operations, outcome_with_seal, sealed_outcome}
+use Rattle.nv_dispatch.specs.Calls.{CallOutcome, Batch, editor_after, outcome_of_answer, outcome_of_value, batch_of_values, batch_with_first, batch_from_result, outcome_of_batch, atomic_outcome, stop_value, no_calls, seal_operations, outcome_with_seal, sealed_outcome}
 use Rattle.nv_dispatch.specs.Outcomes.{IsOutcome, GaveOutcome}
 use Rattle.nv_dispatch.specs.inside.Batches.{batch_behind, IsBatch, IsMadeSoFar, TakesResult, stop_of}
 use Rattle.nv_dispatch.specs.declared.batch.Results.{Results}
@@ -34,10 +28,6 @@ use Rattle.nv_dispatch.specs.inside.Weights.{list_weight}
 use Rattle.nv_dispatch.proofs.CallLaws.{after_operations-append}
 
 -- ---- a row
-
--- what is told of a row is that of what is seen of the model
-pub row_seen : (row : Row) (session : ℕ) (args : List Arg) (e : PresentEditor) (m : ModelEditor) → Stands e m → row (seen_now e) session args ≡ row (seen_of m) session args
-row_seen row session args e m is = ap (λ (s : Seen). row s session args) (seen_is_same e m is)
 
 pub replies_outcome :
     (answer : Answer) (reply : Tree) (is_seen : Bool) (m : ModelEditor) (before after : PresentEditor) (told now : List Fact)
@@ -325,8 +315,3 @@ atomic_unread m session args NoMemory e told r is = tt
 atomic_unread m session args (Api fault) e told r is =
     subst (λ (x : Result (List Arg) ApiFault). GaveOutcome (atomic_outcome m session x) m (Err (Api fault)) e told told) (sym r.0)
     (refused_outcome (refused fault) fault false m e e told told is refl refl refl)
-
--- the call of calls, by its name
-pub atomic_named : (m : ModelEditor) (session : ℕ) (given : List Tree) → outcome_before_seal m session atomic_name given ≡ atomic_outcome m session (read (signature_of CallAtomic) given)
-unfolding signature_of
-atomic_named m session given = refl

@@ -1,31 +1,34 @@
 -- What a method gave by its row is what a call of it comes to.
-use Rattle.std.proofs.Common.{◌≡◌, ◌⊎◌, inl, inr, ℕ, List, refl, sym, ap, ◌∙◌, subst, append-nil, Bool, true, false, Option, Some, None, Result, Ok, Err}
-use Rattle.std.specs.Prelude.{is_some, ◌++◌, ◌∷◌, [], cond, option_map, find, bytes_eq}
-use Rattle.nv_value.specs.Content.{Tree}
-use Rattle.nv_value.specs.View.{content}
-use Rattle.nv_value.specs.declared.value.Value.{Value}
+use Rattle.std.proofs.Common.{◌≡◌, ◌≢◌, ℕ, List, [], refl, sym, ap, ◌∙◌, subst, append-nil, Bool, true, false, Option, Some, None, Result, Ok, Err}
+use Rattle.std.specs.Prelude.{bytes_eq, if◌then◌else◌, not}
+use Rattle.std.specs.List.{list_all}
+use Rattle.std.specs.Result.{IsErrAnd}
+use Rattle.std.proofs.lemmas.Option.{none-some}
+use Rattle.std.proofs.lemmas.Slice.Eq.{bytes_eq-Decides}
+use Rattle.nv_value.specs.Content.{Tree, nil}
 use Rattle.nv_value.specs.declared.fault.ApiFault.{ApiFault}
+use Rattle.nv_rpc.specs.Outcomes.{outcome_content}
+use Rattle.nv_rpc.specs.declared.outcome.Outcome.{Outcome}
 use Rattle.nv_args.specs.Faults.{unknown_method}
 use Rattle.nv_args.specs.Reading.{Arg, read}
 use Rattle.nv_args.specs.Refusals.{Refuses, Meets}
 use Rattle.nv_args.specs.Args.{typed_arguments}
-use Rattle.nv_args.specs.Table.{Signature, method_named}
+use Rattle.nv_args.specs.Table.{Signature, method_named, other_names, table}
 use Rattle.nv_args.specs.declared.faults.Fail.{Fail}
 use Rattle.nv_args.specs.declared.faults.Fail.TheVariants.{Api, NoMemory}
+use Rattle.nv_args.specs.declared.methods.Method.{Method}
+use Rattle.nv_args.specs.declared.methods.Method.TheVariants.{Atomic, PassedOver}
+use Rattle.nv_args.proofs.NameLookup.{named_passes, named_same}
 use Rattle.nv_model.specs.Editors.{ModelEditor}
 use Rattle.nv_model.specs.Seen.{Seen, seen_of}
 use Rattle.nv_model.specs.Answers.{Answer, Fact, refused}
-use Rattle.nv_model.specs.Answering.{reply_of}
 use Rattle.nv_model.specs.Rows.{Row}
 use Rattle.nv_model.specs.Standing.{PresentEditor, Stands, seen_now}
-use Rattle.nv_editor.specs.Doing.{AnswersRow, row_among, GivesAnswer, Replies}
-use Rattle.nv_api_buf.specs.Excerpts.{ReadsLines}
-use Rattle.nv_api_mark.specs.Outcomes.{ReadsOutcome}
-use Rattle.nv_dispatch.specs.Calls.{CallOutcome, outcome_of_answer, answer_to_args, outcome_by_row, outcome_of_method, row_named}
-use Rattle.nv_dispatch.specs.Outcomes.{IsOutcome, GaveOutcome, GivesOutcome}
-use Rattle.nv_dispatch.specs.inside.Rows.{outcome_of_row, IsUnknown}
-use Rattle.nv_dispatch.specs.declared.done.Done.{Done}
-use Rattle.nv_dispatch.proofs.OutcomeLemmas.{row_seen, replies_outcome, refused_outcome}
+use Rattle.nv_model.proofs.Seeing.{seen_is_same}
+use Rattle.nv_editor.specs.Doing.{GivesResult, Replies}
+use Rattle.nv_dispatch.specs.Calls.{CallOutcome, outcome_of_answer, passed_over, arguments_for, answer_to_args, answer_by_row, answer_of_method, row_of, outcome_of_name, outcome_of_found, outcome_of_method, atomic_name, atomic_outcome, nvim_call_atomic, outcome_before_seal}
+use Rattle.nv_dispatch.specs.Outcomes.{IsOutcome, GaveOutcome}
+use Rattle.nv_dispatch.proofs.OutcomeLemmas.{replies_outcome, refused_outcome}
 
 -- a refused call, whose fault may have found no memory
 pub refuses_outcome :
@@ -36,183 +39,159 @@ refuses_outcome answer fault NoMemory is_seen m before after told now r is e f g
 refuses_outcome answer fault (Api given) is_seen m before after told now r is e f g =
     refused_outcome answer given is_seen m before after told now is (e ∙ ap refused (sym r.0)) f g
 
-gave_ok :
-    (row : Row) (session : ℕ) (args : List Arg) (is_seen : Bool) (t : Tree) (before after : PresentEditor) (told now : List Fact)
-    → Replies (row (seen_now before) session args) t before after told now → (m : ModelEditor) → Stands before m
-    → IsOutcome (outcome_of_answer is_seen (row (seen_of m) session args)) m (Ok t) is_seen after told now
-gave_ok row session args is_seen t before after told now h m is =
-    replies_outcome (row (seen_of m) session args) t is_seen m before after told now is
-    (subst (λ (a : Answer). Replies a t before after told now) (row_seen row session args before m is) h)
+-- ---- from what is seen now to each model editor
 
-gave_err :
-    (row : Row) (session : ℕ) (args : List Arg) (is_seen : Bool) (fail : Fail) (before after : PresentEditor) (told now : List Fact)
-    → GivesAnswer (row (seen_now before) session args) (Err fail) before after told now → (m : ModelEditor) → Stands before m
-    → GaveOutcome (outcome_of_answer is_seen (row (seen_of m) session args)) m (Err fail) after told now
-gave_err row session args is_seen NoMemory before after told now h m is = tt
-gave_err row session args is_seen (Api fault) before after told now h m is =
-    refused_outcome (row (seen_of m) session args) fault is_seen m before after told now is (sym (row_seen row session args before m is) ∙ h.0) h.2 h.3
+answer_seen : (f : Seen → Answer) (e : PresentEditor) (m : ModelEditor) → Stands e m → f (seen_now e) ≡ f (seen_of m)
+answer_seen f e m is = ap f (seen_is_same e m is)
 
--- what a row gave
-pub row_ok :
-    (row : Option Row) (name : List ℕ) (session : ℕ) (args : List Arg) (is_seen seen : Bool) (value : Value) (before after : PresentEditor) (told now : List Fact)
-    → AnswersRow row (seen_now before) session args (Some (Ok value)) before after told now → seen ≡ is_seen → (m : ModelEditor) → Stands before m
-    → IsOutcome (outcome_of_row m session is_seen name row args) m (Ok (content value)) seen after told now
-row_ok None name session args is_seen seen value before after told now h e m is = absurd h
-row_ok (Some row) name session args is_seen seen value before after told now h e m is =
-    subst (λ (b : Bool). IsOutcome (outcome_of_answer is_seen (row (seen_of m) session args)) m (Ok (content value)) b after told now) (sym e)
-    (gave_ok row session args is_seen (content value) before after told now h m is)
+pub gave_ok :
+    (f : Seen → Answer) (is_seen : Bool) (outcome : Outcome) (before after : PresentEditor) (told now : List Fact)
+    → GivesResult (f (seen_now before)) (Ok outcome) before after told now → (m : ModelEditor) → Stands before m
+    → IsOutcome (outcome_of_answer is_seen (f (seen_of m))) m (Ok (outcome_content outcome)) is_seen after told now
+gave_ok f is_seen outcome before after told now h m is =
+    replies_outcome (f (seen_of m)) (outcome_content outcome) is_seen m before after told now is
+    (subst (λ (a : Answer). Replies a (outcome_content outcome) before after told now) (answer_seen f before m is) h)
 
-pub row_err :
-    (row : Option Row) (name : List ℕ) (session : ℕ) (args : List Arg) (is_seen : Bool) (fail : Fail) (before after : PresentEditor) (told now : List Fact)
-    → AnswersRow row (seen_now before) session args (Some (Err fail)) before after told now → (m : ModelEditor) → Stands before m
-    → GaveOutcome (outcome_of_row m session is_seen name row args) m (Err fail) after told now
-row_err None name session args is_seen fail before after told now h m is = absurd h
-row_err (Some row) name session args is_seen fail before after told now h m is =
-    gave_err row session args is_seen fail before after told now h m is
+pub gave_err :
+    (f : Seen → Answer) (is_seen : Bool) (fail : Fail) (before after : PresentEditor) (told now : List Fact)
+    → GivesResult (f (seen_now before)) (Err fail) before after told now → (m : ModelEditor) → Stands before m
+    → GaveOutcome (outcome_of_answer is_seen (f (seen_of m))) m (Err fail) after told now
+gave_err f is_seen NoMemory before after told now h m is = tt
+gave_err f is_seen (Api fault) before after told now h m is =
+    refused_outcome (f (seen_of m)) fault is_seen m before after told now is (sym (answer_seen f before m is) ∙ h.0) h.2 h.3
 
-pub row_none :
-    (row : Option Row) (name : List ℕ) (session : ℕ) (args : List Arg) (is_seen : Bool) (fail : Fail) (before after : PresentEditor) (told now : List Fact)
-    → AnswersRow row (seen_now before) session args None before after told now → Refuses fail (unknown_method name) → (m : ModelEditor) → Stands before m
-    → GaveOutcome (outcome_of_row m session is_seen name row args) m (Err fail) after told now
-row_none None name session args is_seen fail before after told now h r m is =
-    refuses_outcome (refused (unknown_method name)) (unknown_method name) fail false m before after told now r is refl h.0 h.1
-row_none (Some row) name session args is_seen fail before after told now h r m is = absurd h
+-- ---- a method by its row
 
--- what a listing read
-pub listed_ok :
-    (found : Option Row) (row : Row) (name : List ℕ) (session : ℕ) (args : List Arg) (is_seen : Bool) (t : Tree) (e : PresentEditor) (told : List Fact)
-    → found ≡ Some row → row (seen_now e) session args ≡ reply_of t → (m : ModelEditor) → Stands e m
-    → IsOutcome (outcome_of_row m session is_seen name found args) m (Ok t) is_seen e told told
-listed_ok found row name session args is_seen t e told there h m is =
-    subst (λ (r : Option Row). IsOutcome (outcome_of_row m session is_seen name r args) m (Ok t) is_seen e told told) (sym there)
-    (gave_ok row session args is_seen t e e told told
-    (subst (λ (a : Answer). Replies a t e e told told) (sym h) (refl, (λ n stands. stands), sym (append-nil told))) m is)
+answer_is :
+    (s : Seen) (session : ℕ) (signature : Signature) (given : List Tree) (method : Method) (row : Row) (args : Result (List Arg) ApiFault)
+    → signature.method ≡ method → row_of method ≡ Some row → arguments_for method signature given ≡ args
+    → answer_of_method s session signature given ≡ answer_to_args s session row args
+answer_is s session signature given method row args is has are =
+    ap (answer_by_row s session signature given) (ap row_of is ∙ has)
+    ∙ ap (λ (v : Method). answer_to_args s session row (arguments_for v signature given)) is
+    ∙ ap (answer_to_args s session row) are
 
-pub listed_err :
-    (found : Option Row) (row : Row) (name : List ℕ) (session : ℕ) (args : List Arg) (is_seen : Bool) (fail : Fail) (e : PresentEditor) (told : List Fact)
-    → found ≡ Some row → ReadsOutcome (row (seen_now e) session args) (Err fail) → (m : ModelEditor) → Stands e m
-    → GaveOutcome (outcome_of_row m session is_seen name found args) m (Err fail) e told told
-listed_err found row name session args is_seen NoMemory e told there h m is = tt
-listed_err found row name session args is_seen (Api fault) e told there h m is =
-    subst (λ (r : Option Row). GaveOutcome (outcome_of_row m session is_seen name r args) m (Err (Api fault)) e told told) (sym there)
-    (gave_err row session args is_seen (Api fault) e e told told (h.0, h.1, refl, refl) m is)
+-- what a method's row gave to arguments that were read
+pub by_row :
+    (s : Seen) (session : ℕ) (signature : Signature) (given : List Tree) (method : Method) (row : Row) (args : List Arg) (result : Result Outcome Fail)
+    (before after : PresentEditor) (told now : List Fact)
+    → signature.method ≡ method → row_of method ≡ Some row → arguments_for method signature given ≡ Ok args
+    → GivesResult (row s session args) result before after told now
+    → GivesResult (answer_of_method s session signature given) result before after told now
+by_row s session signature given method row args result before after told now is has are gives =
+    subst (λ (a : Answer). GivesResult a result before after told now) (sym (answer_is s session signature given method row (Ok args) is has are)) gives
 
--- what a call that reads lines was refused with
-pub lines_err : (answer : Answer) (fail : Fail) → ReadsLines answer (Err fail) → ReadsOutcome answer (Err fail)
-lines_err answer NoMemory h = tt
-lines_err answer (Api fault) h = h
+-- the arguments couldn't be read
+pub by_fault :
+    (s : Seen) (session : ℕ) (signature : Signature) (given : List Tree) (method : Method) (row : Row) (fail : Fail) (result : Result Outcome Fail) (e : PresentEditor) (told : List Fact)
+    → signature.method ≡ method → row_of method ≡ Some row → arguments_for method signature given ≡ read signature given
+    → Meets typed_arguments (Err fail) (read signature given) → IsErrAnd result (λ y. y ≡ fail)
+    → GivesResult (answer_of_method s session signature given) result e e told told
+by_fault s session signature given method row fail (Ok outcome) e told is has are unread same = absurd same
+by_fault s session signature given method row NoMemory (Err other) e told is has are unread same =
+    subst (λ (f : Fail). GivesResult (answer_of_method s session signature given) (Err f) e e told told) (sym same) tt
+by_fault s session signature given method row (Api fault) (Err other) e told is has are unread same =
+    subst (λ (f : Fail). GivesResult (answer_of_method s session signature given) (Err f) e e told told) (sym same)
+    (answer_is s session signature given method row (Err fault) is has (are ∙ unread.0), unread.1, refl, refl)
 
--- ---- rows of several crates
+-- a method that has no row
+pub by_none :
+    (s : Seen) (session : ℕ) (signature : Signature) (given : List Tree) (fail : Fail) (e : PresentEditor) (told : List Fact)
+    → signature.method ≡ Atomic → Refuses fail (unknown_method signature.name)
+    → GivesResult (answer_of_method s session signature given) (Err fail) e e told told
+unfolding row_of
+by_none s session signature given NoMemory e told is refuses = tt
+by_none s session signature given (Api fault) e told is refuses =
+    (ap (λ (v : Method). answer_by_row s session signature given (row_of v)) is ∙ ap refused (sym refuses.0), refuses.1, refl, refl)
 
--- the first of two rows that is there
-abbrev or_row : Option Row → Option Row → Option Row
-or_row None row = row
-or_row (Some first) row = Some first
-
-first_row :
-    (b : Bool) (entry : List ℕ × Row) (more all : Option (List ℕ × Row)) (row : Option Row)
-    → option_map (λ (e : List ℕ × Row). e.1) all ≡ or_row (option_map (λ (e : List ℕ × Row). e.1) more) row
-    → option_map (λ (e : List ℕ × Row). e.1) (cond b (Some entry) all) ≡ or_row (option_map (λ (e : List ℕ × Row). e.1) (cond b (Some entry) more)) row
-first_row true entry more all row h = refl
-first_row false entry more all row h = h
-
-row_among-append : (xs ys : List (List ℕ × Row)) (name : List ℕ) → row_among (xs ++ ys) name ≡ or_row (row_among xs name) (row_among ys name)
-row_among-append [] ys name = refl
-row_among-append (x ∷ xs) ys name =
-    first_row (bytes_eq x.0 name) x (find (λ (e : List ℕ × Row). bytes_eq e.0 name) xs) (find (λ (e : List ℕ × Row). bytes_eq e.0 name) (xs ++ ys)) (row_among ys name)
-    (row_among-append xs ys name)
-
-answers_one :
-    (row other : Option Row) (s : Seen) (session : ℕ) (args : List Arg) (given : Result Value Fail) (before after : PresentEditor) (told now : List Fact)
-    → AnswersRow row s session args (Some given) before after told now → AnswersRow (or_row row other) s session args (Some given) before after told now
-answers_one None other s session args given before after told now h = absurd h
-answers_one (Some row) other s session args given before after told now h = h
-
-answers_other :
-    (row other : Option Row) (session : ℕ) (args : List Arg) (given : Option (Result Value Fail)) (before middle after : PresentEditor) (told between now : List Fact)
-    → AnswersRow row (seen_now before) session args None before middle told between → AnswersRow other (seen_now middle) session args given middle after between now
-    → AnswersRow (or_row row other) (seen_now before) session args given before after told now
-answers_other None other session args given before middle after told between now h k =
-    subst (λ (e : PresentEditor). AnswersRow other (seen_now e) session args given e after told now) h.0
-    (subst (λ (fs : List Fact). AnswersRow other (seen_now middle) session args given middle after fs now) h.1 k)
-answers_other (Some row) other session args given before middle after told between now h k = absurd h
-
--- what a row among the first gave
-pub among_first :
-    (xs ys : List (List ℕ × Row)) (name : List ℕ) (s : Seen) (session : ℕ) (args : List Arg) (given : Result Value Fail) (before after : PresentEditor) (told now : List Fact)
-    → AnswersRow (row_among xs name) s session args (Some given) before after told now
-    → AnswersRow (row_among (xs ++ ys) name) s session args (Some given) before after told now
-among_first xs ys name s session args given before after told now h =
-    subst (λ (row : Option Row). AnswersRow row s session args (Some given) before after told now) (sym (row_among-append xs ys name))
-    (answers_one (row_among xs name) (row_among ys name) s session args given before after told now h)
-
--- what a row among the others gave, where none is among the first
-pub among_others :
-    (xs ys : List (List ℕ × Row)) (name : List ℕ) (session : ℕ) (args : List Arg) (given : Option (Result Value Fail)) (before middle after : PresentEditor) (told between now : List Fact)
-    → AnswersRow (row_among xs name) (seen_now before) session args None before middle told between
-    → AnswersRow (row_among ys name) (seen_now middle) session args given middle after between now
-    → AnswersRow (row_among (xs ++ ys) name) (seen_now before) session args given before after told now
-among_others xs ys name session args given before middle after told between now h k =
-    subst (λ (row : Option Row). AnswersRow row (seen_now before) session args given before after told now) (sym (row_among-append xs ys name))
-    (answers_other (row_among xs name) (row_among ys name) session args given before middle after told between now h k)
+-- a method that is passed over
+pub by_nothing :
+    (s : Seen) (session : ℕ) (signature : Signature) (given : List Tree) (outcome : Outcome) (e : PresentEditor) (told : List Fact)
+    → signature.method ≡ PassedOver → outcome_content outcome ≡ nil
+    → GivesResult (answer_of_method s session signature given) (Ok outcome) e e told told
+unfolding row_of
+by_nothing s session signature given outcome e told is none =
+    by_row s session signature given PassedOver passed_over [] (Ok outcome) e e told told is refl refl (none, (λ n stands. stands), sym (append-nil told))
 
 -- ---- a call by its name
 
-unknown_by : (m : ModelEditor) (session : ℕ) (name : List ℕ) (given : List Tree) (method : Option Signature) (row : Option Row) → (method ≡ None) ⊎ (row ≡ None)
-    → outcome_by_row m session name given method row ≡ outcome_of_answer false (refused (unknown_method name))
-unknown_by m session name given None row h = refl
-unknown_by m session name given (Some method) None h = refl
-unknown_by m session name given (Some method) (Some row) (inl e) = absurd (let f : Some method ≡ None = e in cc)
-unknown_by m session name given (Some method) (Some row) (inr e) = absurd (let f : Some row ≡ None = e in cc)
+-- a method was found
+pub found_outcome :
+    (m : ModelEditor) (session : ℕ) (name : List ℕ) (given : List Tree) (signature : Signature) → method_named name ≡ Some signature
+    → outcome_of_name m session name given ≡ outcome_of_method m session signature given
+found_outcome m session name given signature e = ap (λ (o : Option Signature). outcome_of_found m session name o given) e
 
+-- there is none
 pub unknown_outcome :
     (session : ℕ) (name : List ℕ) (given : List Tree) (fail : Fail) (e : PresentEditor) (told : List Fact)
-    → IsUnknown name → Refuses fail (unknown_method name) → (m : ModelEditor) → Stands e m
-    → GaveOutcome (outcome_of_method m session name given) m (Err fail) e told told
-unknown_outcome session name given fail e told h r m is =
-    subst (λ (o : CallOutcome). GaveOutcome o m (Err fail) e told told) (sym (unknown_by m session name given (method_named name) (row_named name) h))
+    → method_named name ≡ None → Refuses fail (unknown_method name) → (m : ModelEditor) → Stands e m
+    → GaveOutcome (outcome_of_name m session name given) m (Err fail) e told told
+unknown_outcome session name given fail e told none r m is =
+    subst (λ (o : CallOutcome). GaveOutcome o m (Err fail) e told told) (sym (ap (λ (o : Option Signature). outcome_of_found m session name o given) none))
     (refuses_outcome (refused (unknown_method name)) (unknown_method name) fail false m e e told told r is refl refl refl)
 
-read_row : (m : ModelEditor) (session : ℕ) (name other : List ℕ) (given : List Tree) (method : Signature) (row : Option Row) (args : List Arg)
-    → is_some row ≡ true → read method given ≡ Ok args
-    → outcome_by_row m session name given (Some method) row ≡ outcome_of_row m session method.is_seen other row args
-read_row m session name other given method None args s e = absurd (let f : false ≡ true = s in cc)
-read_row m session name other given method (Some row) args s e =
-    ap (λ (r : Result (List Arg) ApiFault). outcome_of_answer method.is_seen (answer_to_args m session row r)) e
+-- calls in one have a name of their own
+abbrev pub is_atomic : Method → Bool
+is_atomic Atomic = true
+is_atomic _ = false
 
-by_names : (m : ModelEditor) (session : ℕ) (name : List ℕ) (given : List Tree) (method : Signature) (row : Option Row)
-    → method_named name ≡ Some method → row_named name ≡ row
-    → outcome_of_method m session name given ≡ outcome_by_row m session name given (Some method) row
-by_names m session name given method row e f =
-    ap (λ (o : Option Signature). outcome_by_row m session name given o (row_named name)) e
-    ∙ ap (λ (o : Option Row). outcome_by_row m session name given (Some method) o) f
+pub not_atomic : (method : Method) → method ≢ Atomic → is_atomic method ≡ false
+not_atomic Atomic apart = absurd (apart refl)
+not_atomic method apart = refl
 
--- the arguments were read, and the row was called
-pub named_outcome :
-    (session : ℕ) (name other : List ℕ) (given : List Tree) (method : Signature) (row : Option Row) (args : List Arg) (result : Result Done Fail) (before after : PresentEditor) (told now : List Fact)
-    → method_named name ≡ Some method → row_named name ≡ row → is_some (row_named name) ≡ true → read method given ≡ Ok args
-    → GivesOutcome (λ m. outcome_of_row m session method.is_seen other row args) result before after told now
-    → GivesOutcome (λ m. outcome_of_method m session name given) result before after told now
-named_outcome session name other given method row args result before after told now e f s r h m is =
-    subst (λ (o : CallOutcome). GaveOutcome o m result after told now)
-    (sym (by_names m session name given method row e f ∙ read_row m session name other given method row args (ap is_some (sym f) ∙ s) r))
-    (h m is)
+-- two tests that agree
+abbrev agree : Bool → Bool → Bool
+agree true b = b
+agree false b = not b
 
-unread_row : (m : ModelEditor) (session : ℕ) (name : List ℕ) (given : List Tree) (method : Signature) (row : Option Row) (fault : ApiFault)
-    → is_some row ≡ true → read method given ≡ Err fault
-    → outcome_by_row m session name given (Some method) row ≡ outcome_of_answer method.is_seen (refused fault)
-unread_row m session name given method None fault s e = absurd (let f : false ≡ true = s in cc)
-unread_row m session name given method (Some row) fault s e =
-    ap (λ (r : Result (List Arg) ApiFault). outcome_of_answer method.is_seen (answer_to_args m session row r)) e
+agrees : (a b : Bool) → agree a b ≡ true → a ≡ b
+agrees true true e = refl
+agrees true false e = cc
+agrees false true e = cc
+agrees false false e = refl
 
--- the arguments couldn't be read
-pub unread_outcome :
-    (session : ℕ) (name : List ℕ) (given : List Tree) (method : Signature) (fail : Fail) (e : PresentEditor) (told : List Fact)
-    → method_named name ≡ Some method → is_some (row_named name) ≡ true → Meets typed_arguments (Err fail) (read method given)
-    → (m : ModelEditor) → Stands e m
-    → GaveOutcome (outcome_of_method m session name given) m (Err fail) e told told
-unread_outcome session name given method NoMemory e told h s r m is = tt
-unread_outcome session name given method (Api fault) e told h s r m is =
-    subst (λ (o : CallOutcome). GaveOutcome o m (Err (Api fault)) e told told)
-    (sym (by_names m session name given method (row_named name) h refl ∙ unread_row m session name given method (row_named name) fault s r.0))
-    (refused_outcome (refused fault) fault method.is_seen m e e told told is refl refl refl)
+abbrev names_atomic : Signature → Bool
+names_atomic s = agree (bytes_eq s.name atomic_name) (is_atomic s.method)
+
+one_named : list_all names_atomic table ≡ true
+one_named = refl
+
+none_else : list_all names_atomic other_names ≡ true
+none_else = refl
+
+pub atomic_by : (name : List ℕ) (s : Signature) → method_named name ≡ Some s → bytes_eq name atomic_name ≡ is_atomic s.method
+atomic_by name s e =
+    ap (λ (n : List ℕ). bytes_eq n atomic_name) (named_same name s e)
+    ∙ agrees (bytes_eq s.name atomic_name) (is_atomic s.method) (named_passes names_atomic name s one_named none_else e)
+
+-- a call of calls, and one of another method
+pub atomic_found :
+    (m : ModelEditor) (session : ℕ) (name : List ℕ) (given : List Tree) (s : Signature) → method_named name ≡ Some s → s.method ≡ Atomic
+    → outcome_before_seal m session name given ≡ atomic_outcome m session (read s given)
+atomic_found m session name given s e is =
+    ap (λ (b : Bool). if b then nvim_call_atomic m session given (method_named name) else outcome_of_name m session name given)
+    (atomic_by name s e ∙ ap is_atomic is)
+    ∙ ap (nvim_call_atomic m session given) e
+
+pub other_found :
+    (m : ModelEditor) (session : ℕ) (name : List ℕ) (given : List Tree) (s : Signature) → method_named name ≡ Some s → s.method ≢ Atomic
+    → outcome_before_seal m session name given ≡ outcome_of_method m session s given
+other_found m session name given s e apart =
+    ap (λ (b : Bool). if b then nvim_call_atomic m session given (method_named name) else outcome_of_name m session name given)
+    (atomic_by name s e ∙ not_atomic s.method apart)
+    ∙ found_outcome m session name given s e
+
+-- a name that no method has isn't that of calls in one
+atomic_is_there : method_named atomic_name ≡ None → ⊥
+atomic_is_there e = none-some _ (sym e)
+
+pub unknown_found :
+    (session : ℕ) (name : List ℕ) (given : List Tree) (fail : Fail) (e : PresentEditor) (told : List Fact)
+    → method_named name ≡ None → Refuses fail (unknown_method name) → (m : ModelEditor) → Stands e m
+    → GaveOutcome (outcome_before_seal m session name given) m (Err fail) e told told
+unknown_found session name given fail e told none r m is = by (bytes_eq name atomic_name) refl
+  where
+    by : (b : Bool) → bytes_eq name atomic_name ≡ b
+        → GaveOutcome (if b then nvim_call_atomic m session given (method_named name) else outcome_of_name m session name given) m (Err fail) e told told
+    by false same = unknown_outcome session name given fail e told none r m is
+    by true same = absurd (atomic_is_there (ap method_named (sym ((bytes_eq-Decides name atomic_name).0 same)) ∙ none))

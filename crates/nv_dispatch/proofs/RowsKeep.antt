@@ -1,7 +1,7 @@
 -- Each row keeps a sound model editor, and its facts tell what becomes of the buffers.
 use Rattle.std.proofs.Common.{◌≡◌, ◌≢◌, ◌∙◌, refl, sym, ap, subst, ℕ, ℤ, pos, negsuc, ◌<◌, ◌≤◌, Bool, true, false, ◌||◌, ◌+◌, List, [], ◌∷◌, ◌++◌, length, arith, All, Option, Some, None}
 use Rattle.std.specs.Prelude.{◌==◌, ◌&&◌, not, codes, nat_lt, int_lt, if◌then◌else◌, option_map, option_and_then, IfSome}
-use Rattle.std.specs.List.{AllByRecursion, list_any}
+use Rattle.std.specs.List.{list_any}
 use Rattle.std.specs.Ordering.{int_eq}
 use Rattle.std.proofs.Math.Nat.{min-le_right}
 use Rattle.std.proofs.lemmas.Bool.{false≢true}
@@ -32,7 +32,7 @@ use Rattle.nv_model.specs.Buffers.{Splice, ModelBuffer, rows_splice, text_splice
 use Rattle.nv_model.specs.Stage.{or_current}
 use Rattle.nv_windows.specs.Operations.{has_one_tabpage}
 use Rattle.nv_windows.specs.Workspace.{current_buffer, showing}
-use Rattle.nv_windows.specs.declared.window.Window.{Window}
+use Rattle.nv_windows.specs.declared.window.Window.{Window as ShownWindow}
 use Rattle.nv_model.specs.Editors.{ModelEditor, at_handle}
 use Rattle.nv_model.specs.Seen.{SeenBuffer, seen_buffer, seen_of, sealed_undo}
 use Rattle.nv_model.specs.Operations.{Operation, spliced, shown, buffer_made, buffer_dropped, tab_made, tab_closed, with_new_buffer, without_buffer, after_operation, after_operations}
@@ -47,20 +47,37 @@ use Rattle.nv_model.proofs.Gone.{all-append}
 use Rattle.nv_api_buf.specs.Texts.{place_in_row, place_named, splice_passes_limit}
 use Rattle.nv_api_buf.specs.TextRows.{range_leaves, put_answer, rows_answer, nvim_buf_set_lines, nvim_buf_set_text}
 use Rattle.nv_api_buf.specs.BufferRows.{buffers_are_full, nvim_create_buf, nvim_buf_delete, nvim_buf_attach, nvim_buf_detach}
-use Rattle.nv_api_buf.specs.Commands.{Command, undo, redo, undo_to, tabnew, tabclose, quit_all, command_of}
+use Rattle.nv_api_buf.specs.Commands.{Command as Order, undo, redo, undo_to, tabnew, tabclose, quit_all, command_of}
 use Rattle.nv_api_buf.specs.CommandRows.{no_tab_left, tabs_are_full, legs_answer, command_answer, nvim_command}
-use Rattle.nv_api_buf.specs.Rows.{buffer_rows}
+use Rattle.nv_api_buf.specs.Rows.{buffer_row, buffer_effects}
+use Rattle.nv_api_buf.proofs.RowsMake.{buffer_makes}
 use Rattle.nv_api_buf.proofs.Newlines.{line-from_search}
 use Rattle.nv_api_buf.proofs.Placing.{row-within, col-within}
-use Rattle.nv_api_mark.specs.Rows.{mark_rows}
-use Rattle.nv_api_win.specs.Rows.{window_rows}
-use Rattle.nv_api_ui.specs.Rows.{ui_rows}
+use Rattle.nv_api_mark.specs.Rows.{mark_row, mark_effects}
+use Rattle.nv_api_mark.proofs.RowsMake.{mark_makes}
+use Rattle.nv_api_win.specs.WindowRows.{window_row, window_effects}
+use Rattle.nv_api_win.proofs.RowsMake.{window_makes}
+use Rattle.nv_api_ui.specs.UiRows.{ui_row, ui_effects}
+use Rattle.nv_api_ui.proofs.RowsMake.{ui_makes}
+use Rattle.nv_args.specs.declared.methods.Method.{Method}
+use Rattle.nv_args.specs.declared.methods.Method.TheVariants.{Atomic, PassedOver, Buffer, Mark, Window, Ui}
+use Rattle.nv_args.specs.declared.methods.BufferMethod.{BufferMethod}
+use Rattle.nv_args.specs.declared.methods.BufferMethod.TheVariants.{Command, CreateBuf, BufDelete, BufSetLines, BufSetText, BufAttach, BufDetach}
+use Rattle.nv_args.specs.declared.methods.MarkMethod.{MarkMethod}
+use Rattle.nv_args.specs.declared.methods.MarkMethod.TheVariants.{SetHl}
+use Rattle.nv_args.specs.declared.methods.WindowMethod.{WindowMethod}
+use Rattle.nv_args.specs.declared.methods.WindowMethod.TheVariants.{OpenWin}
+use Rattle.nv_args.specs.declared.methods.UiMethod.{UiMethod}
+use Rattle.nv_args.specs.declared.methods.UiMethod.TheVariants.{UiAttach}
+use Rattle.nv_model.specs.Kinds.{no_effects}
 use Rattle.nv_dispatch.specs.Telling.{Past, past_at, text_then, FitsLines, FactsTell, IsAttachTold, IsSoundBuffer, IsSoundModel}
 use Rattle.nv_dispatch.proofs.Pasts.{told_own, told_other}
 use Rattle.nv_dispatch.proofs.Kept.{past_live, KeepsPasts, keeps_same, keeps_then, AllLeaveTexts, all_leave_keeps, leaves_keeps, keeps_made, made_stays, sound_dropped, past_dropped, past_stays}
 use Rattle.nv_dispatch.proofs.Fitting.{IsPut, rows_are_put, text_is_put, put_sound, text_is, lines_kept, flat_lines, changed_by, TellsAll, tells_changed}
 use Rattle.nv_dispatch.proofs.Undone.{undo_leads, redo_leads, to_leads, tree_sound, tells_legs}
-use Rattle.nv_dispatch.proofs.QuietRows.{IsQuiet, QuietRow, closes_tab, api_info, client_info, get_option, set_option, list_bufs, current_buf, set_current_buf, is_valid, get_name, set_name, line_count, changedtick, get_offset, get_lines, get_text, create_namespace, get_namespaces, set_extmark, del_extmark, get_extmark, get_extmarks, clear_namespace, set_hl, get_hl, get_hl_id, list_wins, get_current_win, set_current_win, open_win, win_close, win_is_valid, win_get_buf, win_set_buf, win_get_cursor, win_set_cursor, win_get_height, win_get_width, win_set_height, win_set_width, win_get_position, win_get_tabpage, list_tabpages, get_current_tabpage, set_current_tabpage, tabpage_is_valid, tabpage_list_wins, tabpage_get_win, tabpage_get_number, strwidth, ui_attach, ui_detach, ui_try_resize, ui_set_option, list_uis}
+use Rattle.nv_dispatch.specs.Calls.{passed_over, row_of}
+use Rattle.nv_dispatch.proofs.QuietRows.{IsQuiet, QuietRow, is_quiet, quiet_done, quiet_row as quiet}
+use Rattle.nv_dispatch.proofs.RowsMake.{passed_over_makes}
 
 -- an answer after which the editor is sound, and whose facts tell
 unfoldable pub AnswerTells : ModelEditor → Answer → Type 0
@@ -91,8 +108,8 @@ quiet_keeps m sound (replied t operations facts) quiet =
     subst (λ (fs : List Fact). TellsAll m (after_operations operations m) fs) (sym quiet.1)
     (tells_kept m (after_operations operations m) (all_leave_keeps operations quiet.0 m sound))
 
-quiet_row : (row : Row) → QuietRow row → RowKeeps row
-quiet_row row quiet m sound session args = quiet_keeps m sound (row (seen_of m) session args) (quiet (seen_of m) session args)
+row_keeps : (row : Row) → QuietRow row → RowKeeps row
+row_keeps row quiet m sound session args = quiet_keeps m sound (row (seen_of m) session args) (quiet (seen_of m) session args)
 
 tells_reply : (m : ModelEditor) → IsSoundModel m → (t : Tree) → AnswerTells m (reply_of t)
 tells_reply m sound t = tells_done m t [] [] (tells_kept m m (record { sound = sound; past = λ n. refl }))
@@ -333,15 +350,15 @@ module _ (m between : ModelEditor) (n : ℤ) (b : ModelBuffer) (keeps : KeepsPas
   tells_dropped = record { sound = sound_dropped n between keeps.sound b there; tell = λ k. drop_tells k (int_eq n k) refl }
 
 -- windows that show another buffer
-leave_in_shown : (n : ℤ) (windows : List Window) → AllLeaveTexts (showing_operations n windows)
+leave_in_shown : (n : ℤ) (windows : List ShownWindow) → AllLeaveTexts (showing_operations n windows)
 leave_in_shown n [] = tt
 leave_in_shown n (w ∷ ws) = (tt, leave_in_shown n ws)
 
-shown_buffers : (n : ℤ) (windows : List Window) (m : ModelEditor) → (after_operations (showing_operations n windows) m).buffers ≡ m.buffers
+shown_buffers : (n : ℤ) (windows : List ShownWindow) (m : ModelEditor) → (after_operations (showing_operations n windows) m).buffers ≡ m.buffers
 shown_buffers n [] m = refl
 shown_buffers n (w ∷ ws) m = shown_buffers n ws (after_operation (shown w.handle n) m)
 
-shown_dropped : (first m : ModelEditor) (n k : ℤ) (windows : List Window) (b : ModelBuffer) → KeepsPasts first m → at_handle m.buffers n ≡ Some b
+shown_dropped : (first m : ModelEditor) (n k : ℤ) (windows : List ShownWindow) (b : ModelBuffer) → KeepsPasts first m → at_handle m.buffers n ≡ Some b
     → TellsAll first (after_operations (showing_operations k windows ++ buffer_dropped n ∷ []) m) (deleted n ∷ [])
 shown_dropped first m n k windows b keeps there =
     let between : ModelEditor = after_operations (showing_operations k windows) m in
@@ -385,7 +402,7 @@ tells_legs_answer m n b legs sound there way =
     ∷ [])
     (replied nil operations facts) (tells_done m nil operations facts (tells_legs m n b legs sound there way))
 
-tells_command : (m : ModelEditor) → IsSoundModel m → (c : Command) → AnswerTells m (command_answer (seen_of m) c)
+tells_command : (m : ModelEditor) → IsSoundModel m → (c : Order) → AnswerTells m (command_answer (seen_of m) c)
 tells_command m sound undo =
     tells_on_buffer m (pos 0) (λ n b. legs_answer (seen_of m) n b (undo_legs (sealed_undo b))) (λ n b there.
     let tree = sealed_undo (seen_buffer b) in
@@ -409,25 +426,41 @@ tells_command m sound tabnew =
     (keeps_then m (with_new_buffer true m) (after_operation tab (with_new_buffer true m)) made (leaves_keeps tab tt (with_new_buffer true m) made.sound))))
 tells_command m sound tabclose =
     let done : Answer = replied nil (tab_closed m.stage.workspace.tabpage ∷ []) [] in
-    tells_unless m ((has_one_tabpage m.stage.workspace, last_one) ∷ []) done (quiet_keeps m sound done (closes_tab m.stage.workspace.tabpage))
+    tells_unless m ((has_one_tabpage m.stage.workspace, last_one) ∷ []) done (quiet_keeps m sound done (quiet_done nil (tab_closed m.stage.workspace.tabpage ∷ []) (tt, tt)))
 tells_command m sound quit_all = tells_done m nil [] (quit ∷ []) (record { sound = sound; tell = λ k. (past_at m k, refl, refl) })
 
 command : RowKeeps nvim_command
 command m sound session args =
-    tells_found m Command (command_of (string_at args 0)) (unknown_name (string_at args 0)) (command_answer (seen_of m)) (λ c is. tells_command m sound c)
+    tells_found m Order (command_of (string_at args 0)) (unknown_name (string_at args 0)) (command_answer (seen_of m)) (λ c is. tells_command m sound c)
 
--- ---- all rows
-abbrev pub AllKeep : List (List ℕ × Row) → Type 0
-AllKeep rows = AllByRecursion (λ (entry : List ℕ × Row). RowKeeps entry.1) rows
+-- ---- all rows; those that aren't named leave texts, and tell nothing
+buffer_keeps : (method : BufferMethod) → RowKeeps (buffer_row method)
+buffer_keeps Command = command
+buffer_keeps CreateBuf = create_buf
+buffer_keeps BufDelete = delete_buf
+buffer_keeps BufSetLines = set_lines
+buffer_keeps BufSetText = set_text
+buffer_keeps BufAttach = attach
+buffer_keeps BufDetach = detach
+buffer_keeps method = row_keeps (buffer_row method) (quiet (buffer_effects method) (buffer_row method) refl (buffer_makes method))
 
-pub buffer_rows_keep : AllKeep buffer_rows
-buffer_rows_keep = (quiet_row _ api_info, (quiet_row _ client_info, (command, (quiet_row _ get_option, (quiet_row _ set_option, (quiet_row _ list_bufs, (quiet_row _ current_buf, (quiet_row _ set_current_buf, (create_buf, (delete_buf, (quiet_row _ is_valid, (quiet_row _ get_name, (quiet_row _ set_name, (quiet_row _ line_count, (quiet_row _ changedtick, (quiet_row _ get_offset, (quiet_row _ get_lines, (set_lines, (quiet_row _ get_text, (set_text, (attach, (detach, tt))))))))))))))))))))))
+marks_quiet : (method : MarkMethod) → is_quiet (mark_effects method) ≡ true
+marks_quiet SetHl = refl
+marks_quiet method = refl
 
-pub mark_rows_keep : AllKeep mark_rows
-mark_rows_keep = (quiet_row _ create_namespace, (quiet_row _ get_namespaces, (quiet_row _ set_extmark, (quiet_row _ del_extmark, (quiet_row _ get_extmark, (quiet_row _ get_extmarks, (quiet_row _ clear_namespace, (quiet_row _ set_hl, (quiet_row _ get_hl, (quiet_row _ get_hl_id, tt))))))))))
+windows_quiet : (method : WindowMethod) → is_quiet (window_effects method) ≡ true
+windows_quiet OpenWin = refl
+windows_quiet method = refl
 
-pub window_rows_keep : AllKeep window_rows
-window_rows_keep = (quiet_row _ list_wins, (quiet_row _ get_current_win, (quiet_row _ set_current_win, (quiet_row _ open_win, (quiet_row _ win_close, (quiet_row _ win_is_valid, (quiet_row _ win_get_buf, (quiet_row _ win_set_buf, (quiet_row _ win_get_cursor, (quiet_row _ win_set_cursor, (quiet_row _ win_get_height, (quiet_row _ win_get_width, (quiet_row _ win_set_height, (quiet_row _ win_set_width, (quiet_row _ win_get_position, (quiet_row _ win_get_tabpage, (quiet_row _ list_tabpages, (quiet_row _ get_current_tabpage, (quiet_row _ set_current_tabpage, (quiet_row _ tabpage_is_valid, (quiet_row _ tabpage_list_wins, (quiet_row _ tabpage_get_win, (quiet_row _ tabpage_get_number, tt)))))))))))))))))))))))
+uis_quiet : (method : UiMethod) → is_quiet (ui_effects method) ≡ true
+uis_quiet UiAttach = refl
+uis_quiet method = refl
 
-pub ui_rows_keep : AllKeep ui_rows
-ui_rows_keep = (quiet_row _ strwidth, (quiet_row _ ui_attach, (quiet_row _ ui_detach, (quiet_row _ ui_try_resize, (quiet_row _ ui_set_option, (quiet_row _ list_uis, tt))))))
+pub rows_keep : (method : Method) → IfSome (row_of method) RowKeeps
+unfolding row_of
+rows_keep Atomic = tt
+rows_keep PassedOver = row_keeps passed_over (quiet no_effects passed_over refl passed_over_makes)
+rows_keep (Buffer method) = buffer_keeps method
+rows_keep (Mark method) = row_keeps (mark_row method) (quiet (mark_effects method) (mark_row method) (marks_quiet method) (mark_makes method))
+rows_keep (Window method) = row_keeps (window_row method) (quiet (window_effects method) (window_row method) (windows_quiet method) (window_makes method))
+rows_keep (Ui method) = row_keeps (ui_row method) (quiet (ui_effects method) (ui_row method) (uis_quiet method) (ui_makes method))

@@ -6,26 +6,32 @@ use Rattle.nv_value.specs.declared.fault.ApiFault.{ApiFault}
 use Rattle.nv_args.specs.Faults.{unknown_method}
 use Rattle.nv_args.specs.Arguments.{tree_list}
 use Rattle.nv_args.specs.Table.{Signature, method_named}
+use Rattle.nv_args.specs.declared.methods.Method.{Method}
+use Rattle.nv_args.specs.declared.methods.Method.TheVariants.{Atomic, PassedOver, Buffer, Mark, Window, Ui}
 use Rattle.nv_args.specs.Reading.{Arg, read, values_at, name_of_call, arguments_of_call}
 use Rattle.nv_model.specs.Editors.{ModelEditor, handles_of}
-use Rattle.nv_model.specs.Seen.{seen_of}
+use Rattle.nv_model.specs.Seen.{Seen, seen_of}
 use Rattle.nv_model.specs.Operations.{Operation, sealed_in, after_operations}
 use Rattle.nv_model.specs.Answers.{Answer, Fact, refused, replied}
-use Rattle.nv_model.specs.Answering.{array_of}
+use Rattle.nv_model.specs.Answering.{array_of, reply_of}
 use Rattle.nv_model.specs.Rows.{Row}
-use Rattle.nv_editor.specs.Doing.{row_among}
-use Rattle.nv_api_buf.specs.Rows.{buffer_rows}
-use Rattle.nv_api_mark.specs.Rows.{mark_rows}
-use Rattle.nv_api_win.specs.Rows.{window_rows}
-use Rattle.nv_api_ui.specs.Rows.{ui_rows}
+use Rattle.nv_api_buf.specs.Rows.{buffer_row}
+use Rattle.nv_api_mark.specs.Rows.{mark_row}
+use Rattle.nv_api_win.specs.WindowRows.{window_row}
+use Rattle.nv_api_ui.specs.UiRows.{ui_row}
 
--- all rows by the names of their methods
-abbrev pub all_rows : List (List ℕ × Row)
-all_rows = buffer_rows ++ (mark_rows ++ (window_rows ++ ui_rows))
+-- the row of a method that is passed over
+abbrev pub passed_over : Row
+passed_over s session args = reply_of nil
 
--- the row of a method
-unfoldable pub row_named : List ℕ → Option Row
-row_named name = row_among all_rows name
+-- the row of a method; calls in one have none
+unfoldable pub row_of : Method → Option Row
+row_of Atomic = None
+row_of PassedOver = Some passed_over
+row_of (Buffer method) = Some (buffer_row method)
+row_of (Mark method) = Some (mark_row method)
+row_of (Window method) = Some (window_row method)
+row_of (Ui method) = Some (ui_row method)
 
 -- what a call comes to: its result or its fault, the operations that it makes and the facts, both
 -- in order, and whether it may have changed what is seen
@@ -46,25 +52,42 @@ outcome_of_answer is_seen (refused fault) =
 outcome_of_answer is_seen (replied result operations facts) =
     record { result = Ok result; operations = operations; facts = facts; is_seen = is_seen }
 
+-- the arguments of a call as its method reads them; one that is passed over takes any
+abbrev pub arguments_for : Method → Signature → List Tree → Result (List Arg) ApiFault
+arguments_for PassedOver signature given = Ok []
+arguments_for method signature given = read signature given
+
 -- the answer of a row to arguments, where they could be read
-abbrev pub answer_to_args : ModelEditor → ℕ → Row → Result (List Arg) ApiFault → Answer
-answer_to_args m session row (Ok args) = row (seen_of m) session args
-answer_to_args m session row (Err fault) = refused fault
+abbrev pub answer_to_args : Seen → ℕ → Row → Result (List Arg) ApiFault → Answer
+answer_to_args s session row (Ok args) = row s session args
+answer_to_args s session row (Err fault) = refused fault
 
--- a call of a method that has a row: number and types of the arguments come before all else
-abbrev pub outcome_by_row : ModelEditor → ℕ → List ℕ → List Tree → Option Signature → Option Row
+-- the answer to a call of a method that has a row: number and types of the arguments come before
+-- all else
+abbrev pub answer_by_row : Seen → ℕ → Signature → List Tree → Option Row → Answer
+answer_by_row s session signature given (Some row) =
+    answer_to_args s session row (arguments_for signature.method signature given)
+answer_by_row s session signature given None = refused (unknown_method signature.name)
+
+-- what a call of a method of the table answers, and what it comes to
+abbrev pub answer_of_method : Seen → ℕ → Signature → List Tree → Answer
+answer_of_method s session signature given =
+    answer_by_row s session signature given (row_of signature.method)
+
+abbrev pub outcome_of_method : ModelEditor → ℕ → Signature → List Tree → CallOutcome
+outcome_of_method m session signature given =
+    outcome_of_answer signature.is_seen (answer_of_method (seen_of m) session signature given)
+
+-- a call by the name of its method
+abbrev pub outcome_of_found : ModelEditor → ℕ → List ℕ → Option Signature → List Tree
     → CallOutcome
-outcome_by_row m session name given (Some method) (Some row) =
-    outcome_of_answer method.is_seen (answer_to_args m session row (read method given))
-outcome_by_row m session name given (Some method) None =
-    outcome_of_answer false (refused (unknown_method name))
-outcome_by_row m session name given None row =
+outcome_of_found m session name (Some signature) given = outcome_of_method m session signature given
+outcome_of_found m session name None given =
     outcome_of_answer false (refused (unknown_method name))
 
--- one call by its row
-abbrev pub outcome_of_method : ModelEditor → ℕ → List ℕ → List Tree → CallOutcome
-outcome_of_method m session name given =
-    outcome_by_row m session name given (method_named name) (row_named name)
+abbrev pub outcome_of_name : ModelEditor → ℕ → List ℕ → List Tree → CallOutcome
+outcome_of_name m session name given =
+    outcome_of_found m session name (method_named name) given
 
 -- calls one after another: the results up to the first fault, and that with the number of its call,
 -- from 0
@@ -104,7 +127,7 @@ batch_from_call number m o next = batch_from_result number m o next o.result
 -- the call of a value `[name, arguments]`
 abbrev pub outcome_of_value : ModelEditor → ℕ → Tree → CallOutcome
 outcome_of_value m session value =
-    outcome_of_method m session (name_of_call value) (arguments_of_call value)
+    outcome_of_name m session (name_of_call value) (arguments_of_call value)
 
 -- calls one after another, the first of this number
 abbrev pub batch_of_values : ℕ → ModelEditor → ℕ → List Tree → Batch
@@ -149,7 +172,7 @@ nvim_call_atomic m session given None =
 abbrev pub outcome_before_seal : ModelEditor → ℕ → List ℕ → List Tree → CallOutcome
 outcome_before_seal m session name given =
     if bytes_eq name atomic_name then nvim_call_atomic m session given (method_named name)
-    else outcome_of_method m session name given
+    else outcome_of_name m session name given
 
 -- a call that is whole: where it succeeded, it ends by closing the open change of each buffer
 abbrev pub seal_operations : ModelEditor → List Operation

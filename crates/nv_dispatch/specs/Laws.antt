@@ -1,9 +1,9 @@
 -- Laws of calls.
-use Rattle.std.specs.Prelude.{◌≡◌, ℕ, ℤ, List, [], ◌∷◌, ◌++◌, ◌+◌, length, map, Some, is_some, IsTrue, Result, Ok, Err}
+use Rattle.std.specs.Prelude.{◌≡◌, ℕ, ℤ, List, [], ◌∷◌, ◌++◌, ◌+◌, length, map, bytes_eq, not, Some, is_some, IsTrue, Result, Ok, Err}
 use Rattle.std.specs.List.{list_all, range_with_len}
 use Rattle.nv_value.specs.Content.{Tree, nil, list, trees_of}
 use Rattle.nv_value.specs.declared.fault.ApiFault.{ApiFault}
-use Rattle.nv_args.specs.Table.{table, method_named, place_in_table}
+use Rattle.nv_args.specs.Table.{all_names, table, place_of_name}
 use Rattle.nv_args.specs.Reading.{is_call}
 use Rattle.nv_model.specs.Buffers.{tick_of}
 use Rattle.nv_model.specs.Editors.{ModelEditor, fresh_editor}
@@ -13,17 +13,19 @@ use Rattle.nv_model.specs.Laws.{IsNumbered, OfBuffer, splices_among}
 use Rattle.nv_model.specs.Answering.{array_of}
 use Rattle.nv_model.specs.Rows.{edits_among}
 use Rattle.nv_model.specs.declared.parts.Limits.{Limits}
-use Rattle.nv_dispatch.specs.Calls.{CallOutcome, all_rows, editor_after, outcome_of_value, atomic_name, outcome_before_seal, outcome_of_call, stop_value}
+use Rattle.nv_dispatch.specs.Calls.{CallOutcome, row_of, editor_after, outcome_of_value, atomic_name, outcome_before_seal, outcome_of_call, stop_value}
 use Rattle.nv_dispatch.specs.Telling.{IsSoundModel, FactsTell, past_at}
 
--- the method of each name stands at one place of the table
+-- each name stands at one place of the tables
 unfoldable pub NamesStandOnce : Type 0
 NamesStandOnce =
-    map (λ method. place_in_table method.name) table ≡ map Some (range_with_len 0 (length table))
+    map (λ signature. place_of_name signature.name) all_names
+    ≡ map Some (range_with_len 0 (length all_names))
 
--- each row is that of a method of the table
-unfoldable pub RowsStandInTable : Type 0
-RowsStandInTable = IsTrue (list_all (λ entry. is_some (method_named entry.0)) all_rows)
+-- each method of the table but that of calls in one has a row
+unfoldable pub MethodsHaveRows : Type 0
+MethodsHaveRows = map (λ signature. is_some (row_of signature.method)) table
+    ≡ map (λ signature. not (bytes_eq signature.name atomic_name)) table
 
 -- a refused call leaves the editor as it was, and tells nothing
 unfoldable pub RefusedLeavesAll : Type 0

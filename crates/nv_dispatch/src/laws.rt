@@ -1,6 +1,7 @@
 //! Laws of calls, each the contract of a function that does nothing.
 
-ghost use Rattle.nv_dispatch.specs.Laws.{AtomicIsOneByOne, AtomicStops, EachSpliceIsOneFact, FactsTellPasts, NamesStandOnce, RefusedLeavesAll, RowsStandInTable, SoundnessIsKept, TicksCountFacts};
+ghost use Rattle.nv_dispatch.specs.Effects.{RowsHaveEffects};
+ghost use Rattle.nv_dispatch.specs.Laws.{AtomicIsOneByOne, AtomicStops, EachSpliceIsOneFact, FactsTellPasts, MethodsHaveRows, NamesStandOnce, RefusedLeavesAll, SoundnessIsKept, TicksCountFacts};
 ghost use Rattle.nv_dispatch.specs.WorkedFacts.{FollowingAnswers, FollowingTells, FollowingFaults, RefusedTellNothing, FactsInOne, DeletionAnswers, DeletionTells};
 ghost use Rattle.nv_dispatch.specs.WorkedMarks.{MarksMoveWithText, MarksPastEnd, MarksReverse, MarkDetails, MarkFaults, Namespaces, HighlightGroups};
 ghost use Rattle.nv_dispatch.specs.WorkedWindows.{SplitRight, WidthWish, CloseSplit, TabNewClose, CursorMoves, OpeningFaults};
@@ -53,11 +54,12 @@ pub fn worked_windows()
     ensures opening_faults { OpeningFaults }
 {}
 
-/// The method of each name stands at one place of the table, and each row is that of a method of
-/// the table.
+/// Each name stands at one place of the tables, and each method but that of calls in one has a row,
+/// which makes operations and tells facts of the kinds that are said of its method.
 pub fn table_laws()
     ensures once { NamesStandOnce }
-    ensures rows { RowsStandInTable }
+    ensures rows { MethodsHaveRows }
+    ensures effects { RowsHaveEffects }
 {}
 
 /// A refused call leaves the editor as it was and tells nothing; each splice that a call makes is

@@ -6,7 +6,6 @@ mod calling;
 mod done;
 mod laws;
 mod limits;
-mod table;
 
 pub use calling::call;
 pub use done::Done;

@@ -18,7 +18,6 @@ pub mod TakingOut
 pub mod MadeBuffers
 pub mod Replaced
 pub mod WindowsKept
-pub mod GroupsKept
 pub mod Ways
 pub mod Runs
 pub mod EditsMade
@@ -26,3 +25,4 @@ pub mod Going
 pub mod Undone
 pub mod MarksDone
 pub mod Clearing
+pub mod Giving

@@ -1,8 +1,10 @@
 -- What a method of the API does to an editor as it is kept, by what its row answers.
-use Rattle.std.specs.Prelude.{◌≡◌, ◌++◌, ⊤, List, Result, Ok, Err, ℕ, Option, Some, None, option_map, find, bytes_eq}
+use Rattle.std.specs.Prelude.{◌≡◌, ◌++◌, ℕ, ⊤, List, Result, Ok, Err}
 use Rattle.nv_value.specs.Content.{Tree}
 use Rattle.nv_value.specs.View.{content}
 use Rattle.nv_value.specs.declared.value.Value.{Value}
+use Rattle.nv_rpc.specs.Outcomes.{outcome_content}
+use Rattle.nv_rpc.specs.declared.outcome.Outcome.{Outcome}
 use Rattle.nv_args.specs.Reading.{Arg}
 use Rattle.nv_args.specs.Refusals.{CanBeTold}
 use Rattle.nv_args.specs.declared.faults.Fail.{Fail}
@@ -12,8 +14,7 @@ use Rattle.nv_model.specs.Operations.{Operation, after_operations}
 use Rattle.nv_model.specs.Answers.{Answer, Fact, refused, replied}
 use Rattle.nv_model.specs.Answering.{reply_of}
 use Rattle.nv_model.specs.Rows.{Row}
-use Rattle.nv_model.specs.Seen.{Seen}
-use Rattle.nv_model.specs.Standing.{PresentEditor, Stands}
+use Rattle.nv_model.specs.Standing.{PresentEditor, Stands, seen_now}
 
 -- these operations were made: for each model editor that the editor stood for it stands for that
 -- one with the operations afterwards
@@ -43,15 +44,22 @@ ReadsAnswer answer (Ok value) = answer ≡ reply_of (content value)
 ReadsAnswer answer (Err (Api fault)) = (answer ≡ refused fault) × CanBeTold fault
 ReadsAnswer answer (Err NoMemory) = ⊤
 
--- the row of the method of a name, among rows by the names of their methods
-abbrev pub row_among : List (List ℕ × Row) → List ℕ → Option Row
-row_among rows name = option_map (λ entry. entry.1) (find (λ entry. bytes_eq entry.0 name) rows)
+-- a call gave so much of what is answered, its result as it is sent
+abbrev pub GivesResult : Answer → Result Outcome Fail → PresentEditor → PresentEditor → List Fact
+    → List Fact → Type 0
+GivesResult answer (Ok outcome) before after told now =
+    Replies answer (outcome_content outcome) before after told now
+GivesResult answer (Err (Api fault)) before after told now =
+    (answer ≡ refused fault) × CanBeTold fault × (after ≡ before) × (now ≡ told)
+GivesResult answer (Err NoMemory) before after told now = ⊤
 
--- a call gave what the row of its method answers; where there is no such row nothing was given, and
--- nothing changed
-abbrev pub AnswersRow : Option Row → Seen → ℕ → List Arg → Option (Result Value Fail)
-    → PresentEditor → PresentEditor → List Fact → List Fact → Type 0
-AnswersRow (Some row) s session args (Some result) before after told now =
-    GivesAnswer (row s session args) result before after told now
-AnswersRow None s session args None before after told now = (after ≡ before) × (now ≡ told)
-AnswersRow _ s session args given before after told now = ⊥
+-- a call that tells nothing gave what is answered, whatever was told before
+pub record GivesQuietly (answer : Answer) (result : Result Value Fail)
+    (before after : PresentEditor) : Type 0 where
+  pub given : (told : List Fact) → GivesAnswer answer result before after told told
+
+-- and it gave what its row answers, whichever session it is for
+pub record GivesAlone (row : Row) (args : List Arg) (result : Result Value Fail)
+    (before after : PresentEditor) : Type 0 where
+  pub given : (session : ℕ) (told : List Fact)
+      → GivesAnswer (row (seen_now before) session args) result before after told told

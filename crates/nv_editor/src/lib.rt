@@ -6,6 +6,7 @@
 //! editor between two operations.
 #![tactic(auto)]
 
+mod answering;
 mod buffers;
 mod editor;
 mod grouping;
@@ -22,6 +23,7 @@ mod undoing;
 mod views;
 mod windows;
 
+pub use answering::as_outcome;
 pub use editor::Editor;
 pub use happened::{Fact, Happened};
 pub use naming::Namespaces;

@@ -15,7 +15,7 @@ use crate::editor::Editor;
 use crate::stage::Stage;
 use nv_buffer::Pos;
 use nv_layout::Side;
-use nv_windows::Opened;
+use nv_windows::{Opened, Wishes};
 use std::alloc::{AllocError, Global};
 
 impl Stage {
@@ -90,22 +90,22 @@ impl Stage {
         beside: i64,
         side: Side,
         buffer: i64,
-        width: u32,
-        height: u32,
+        wishes: Wishes,
         enter: bool,
     ) -> Result<Opened, AllocError>
         requires beside { is_live_window self.old.workspace beside ≡ true }
-        requires width { width < 2 ^ 16 }
-        requires height { height < 2 ^ 16 }
+        requires width { wishes.width < 2 ^ 16 }
+        requires height { wishes.height < 2 ^ 16 }
         ensures told { IfOk result (λ told. told ≡ opening self.old.workspace beside side) }
         ensures put { OnOk result (self.new
-            ≡ in_workspace (after_opening beside side buffer width height enter) self.old) }
+            ≡ in_workspace (after_opening beside side buffer wishes.width wishes.height enter)
+            self.old) }
         ensures err { OnErr result (self.new ≡ self.old) }
         ensures sound { IsSoundWorkspace self.new.workspace }
     {
         let told = self
             .windows
-            .open(alloc, beside, side, buffer, width, height, enter);
+            .open(alloc, beside, side, buffer, wishes, enter);
         let _windows = self.windows.windows();
         told
     }
@@ -223,9 +223,8 @@ impl Editor {
         self.stage.put_height(window, n);
     }
 
-    /// Opens the next window on a side of a live one. It shows a live buffer at row 0, and wishes a
-    /// width and a height in cells, which counts the status line; 0 is no wish. With `enter` it
-    /// becomes current, and its tabpage too (help: nvim_open_win()).
+    /// Opens the next window on a side of a live one. It shows a live buffer at row 0. With
+    /// `enter` it becomes current, and its tabpage too (help: nvim_open_win()).
     ///
     /// `NoId` comes exactly where no handle is left, else `NoRoom` exactly where its tabpage's tree
     /// would not have its least size on the screen; then nothing changes, nor where memory is
@@ -235,19 +234,18 @@ impl Editor {
         beside: i64,
         side: Side,
         buffer: i64,
-        width: u32,
-        height: u32,
+        wishes: Wishes,
         enter: bool,
     ) -> Result<Opened, AllocError>
         requires beside { is_live_window self.old.stage.workspace beside ≡ true }
         requires live { is_live_buffer self.old buffer ≡ true }
-        requires width { width < 2 ^ 16 }
-        requires height { height < 2 ^ 16 }
+        requires width { wishes.width < 2 ^ 16 }
+        requires height { wishes.height < 2 ^ 16 }
         ensures told { IfOk result (λ told. told ≡ opening self.old.stage.workspace beside side) }
         ensures done { OnOk result (Does
             (if has_window_left self.old.stage.workspace
             && has_room_beside self.old.stage.workspace beside side
-            then window_opened beside side buffer width height
+            then window_opened beside side buffer wishes.width wishes.height
             ∷ (if enter then went_to_window self.old.stage.workspace.next_window ∷ [] else [])
             else []) self.old self.new) }
         ensures kept { OnOk result
@@ -259,7 +257,7 @@ impl Editor {
         self.known_text(buffer);
         let told = self
             .stage
-            .open_window(self.alloc, beside, side, buffer, width, height, enter)?;
+            .open_window(self.alloc, beside, side, buffer, wishes, enter)?;
         Ok(told)
     }
 

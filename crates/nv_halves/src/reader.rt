@@ -18,7 +18,7 @@ use std::net::{Net, TcpListener, TcpStream};
 use std::sync::Wait;
 
 // The bytes that are read at once.
-const PIECE: usize = 65_536;
+pub const PIECE: usize = 65_536;
 
 // A source from which so many bytes were taken counts as ended.
 const MOST_TAKEN: u64 = 1 << 62;
@@ -45,7 +45,7 @@ fn read_all<R: Net<Listener = TcpListener, Stream = TcpStream> + Wait, I: Source
     requires turn { pass.turn ≡ turn.now.turn }
     requires new { IsUnread intake }
     requires ready { IsReadable intake }
-    requires room { length buffer.old ≡ 65536 }
+    requires room { length buffer.old ≡ PIECE }
     ensures read { ReadsHalf result.1 (plain_pass pass) (plain_pass result.0) session
         (I.taken input.old) (I.taken input.new) (I.left input.old) (I.left input.new) }
     ensures later { I.faults input.old ≤ I.faults input.new }

@@ -10,6 +10,7 @@ ghost use Rattle.nv_halves.specs.Passes.{plain_pass};
 ghost use Rattle.nv_rpc.specs.Frames.{call_of_frame};
 ghost use Rattle.nv_world.specs.Worlds.{IsLightCall};
 ghost use Rattle.nv_halves.specs.inside.Intakes.{CountsAsked, HoldsPiece, IsReadable, IsUnread, MakesHeld, MakesPiece, Steps, StepsAtCall, reader_end_by_flaw};
+ghost use Rattle.nv_halves.specs.declared.reader.TheConstants.{PIECE};
 
 use crate::bells::Bell;
 use crate::calls::{CallStream, NextCall};
@@ -174,7 +175,7 @@ impl Intake {
         requires ready { IsReadable self.old }
         requires waits { NeedsMore self.old.stream }
         requires fits { self.old.stream.start + length self.old.stream.held < 2 ^ 62 }
-        requires room { length buffer.old ≡ 65536 }
+        requires room { length buffer.old ≡ PIECE }
         ensures holds { (piece : List ℕ)
             × Gave (I.taken input.old) (I.taken input.new) (I.left input.old)
             (I.left input.new) piece
@@ -208,7 +209,7 @@ impl Intake {
         requires ready { IsReadable self.old }
         requires waits { NeedsMore self.old.stream }
         requires fits { self.old.stream.start + length self.old.stream.held < 2 ^ 62 }
-        requires room { length buffer.old ≡ 65536 }
+        requires room { length buffer.old ≡ PIECE }
         ensures makes { (piece : List ℕ)
             × Gave (I.taken input.old) (I.taken input.new) (I.left input.old)
             (I.left input.new) piece

@@ -29,15 +29,14 @@ pub mod Counting
 pub mod GroupsGrown
 pub mod UisStand
 pub mod LooksOn
+pub mod RowKinds
 pub mod CalmRows
 pub mod CalmCalls
 pub mod SameScenes
 pub mod WindowBuffers
-pub mod StillRows
 pub mod PlacedRows
 pub mod PlacedCalls
 pub mod SafeStages
-pub mod HarmlessRows
 pub mod SafeRows
 pub mod SafeCalls
 pub mod SettledRuns

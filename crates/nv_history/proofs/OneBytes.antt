@@ -108,9 +108,6 @@ pictures_are_one capacity limits history w a b runs is also =
     picture_of_editor w.editor a b (run_apart (fresh_world capacity limits) w history (fresh_apart capacity limits) runs) is also
 
 -- ---- the editors that a session was given
-abbrev ApartIfGiven : Option ModelEditor → Type 0
-ApartIfGiven o = IfSome o MarksApart
-
 given_if : (w : World) (o : Option ModelEditor) → MarksApart w.editor → ((m : ModelEditor) → o ≡ Some m → w.editor ≡ m) → IfSome o MarksApart
 given_if w None h is = tt
 given_if w (Some m) h is = subst (λ (k : ModelEditor). MarksApart k) (is m refl) h

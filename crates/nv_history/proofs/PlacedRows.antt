@@ -1,35 +1,36 @@
 -- Each row keeps handles numbered, and shows no buffer that isn't given yet.
 use Rattle.std.proofs.Common.{◌≡◌, refl, subst, arith, ℕ, ℤ, pos, ◌+ℤ◌, ◌<ℤ◌, ◌≤ℤ◌, Bool, true, false, List, [], ◌∷◌, ◌++◌, slice_get, All, Option, Some, None}
-use Rattle.std.specs.Prelude.{if◌then◌else◌, nat_lt, option_map}
+use Rattle.std.specs.Prelude.{if◌then◌else◌, option_map}
+use Rattle.std.specs.List.{list_all}
 use Rattle.std.specs.Ordering.{int_eq}
 use Rattle.std.proofs.lemmas.Int.{ints}
 use Rattle.std.proofs.lemmas.List.Elements.{All-head, All-tail}
 use Rattle.std.proofs.lemmas.Option.{none-some, same_Some}
 use Rattle.nv_value.specs.Content.{Tree, nil}
 use Rattle.nv_value.specs.declared.fault.ApiFault.{ApiFault}
-use Rattle.nv_args.specs.Faults.{out_of_bounds, limit_reached, no_id_left, last_one, unknown_name}
+use Rattle.nv_args.specs.Faults.{limit_reached, no_id_left, last_one, unknown_name}
 use Rattle.nv_args.specs.Reading.{Arg, number_at, string_at}
 use Rattle.nv_windows.specs.Operations.{has_one_tabpage}
 use Rattle.nv_windows.specs.Workspace.{current_buffer, current_window, showing}
 use Rattle.nv_windows.specs.declared.window.Window.{Window}
-use Rattle.nv_undo.specs.Ways.{undo_legs, redo_legs, legs_to}
-use Rattle.nv_undo.specs.Tree.{last}
 use Rattle.nv_model.specs.Buffers.{ModelBuffer}
 use Rattle.nv_model.specs.Editors.{ModelEditor, at_handle, handles_of}
-use Rattle.nv_model.specs.Seen.{SeenBuffer, seen_buffer, seen_of, sealed_undo}
+use Rattle.nv_model.specs.Seen.{SeenBuffer, seen_buffer, seen_of}
 use Rattle.nv_model.specs.Stage.{Stage, or_current}
 use Rattle.nv_model.specs.Operations.{Operation, buffer_made, buffer_dropped, shown, tab_made, tab_closed, after_operation, after_operations}
 use Rattle.nv_model.specs.Answers.{Answer, Fact, quit, refused, replied, unless, or_refused, on_buffer, on_window}
 use Rattle.nv_model.specs.Answering.{fault_or}
 use Rattle.nv_model.specs.Deleting.{other_handles, least_other, showing_operations, dropping_operations}
+use Rattle.nv_model.specs.Kinds.{Effects, MakesOnly, HasEffects}
 use Rattle.nv_model.specs.Rows.{Row}
 use Rattle.nv_model.proofs.AnswersTell.{keeps_unless, keeps_or_refused, keeps_barred}
 use Rattle.nv_api_buf.specs.BufferRows.{nvim_set_current_buf, nvim_buf_delete}
-use Rattle.nv_api_buf.specs.CommandRows.{no_tab_left, tabs_are_full, legs_answer, command_answer, nvim_command}
+use Rattle.nv_api_buf.specs.CommandRows.{no_tab_left, tabs_are_full, command_answer, nvim_command}
+use Rattle.nv_api_buf.proofs.RowsMake.{undoing, undo_makes, redo_makes, undo_to_makes}
 use Rattle.nv_api_buf.specs.Commands.{Command, undo, redo, undo_to, tabnew, tabclose, quit_all, command_of}
 use Rattle.nv_api_win.specs.WindowRows.{opening_operations, nvim_open_win, nvim_win_set_buf}
 use Rattle.nv_history.proofs.GoneBuffers.{live_below}
-use Rattle.nv_history.proofs.StillRows.{IsStillAnswer, StillRow, closes_tab, still_undo, still_on_buffer, still_unless}
+use Rattle.nv_history.proofs.RowKinds.{is_still, all_still}
 use Rattle.nv_history.proofs.WindowBuffers.{AllShowBelow, IsPlaced, operations_placed, still_placed}
 
 unfoldable pub IsPlacedAfter : ModelEditor → Answer → Type 0
@@ -47,13 +48,14 @@ placed_done : (m : ModelEditor) (t : Tree) (operations : List Operation) (facts 
 unfolding IsPlacedAfter
 placed_done m t operations facts h = h
 
-answer_placed : (m : ModelEditor) → IsPlaced m → (a : Answer) → IsStillAnswer a → IsPlacedAfter m a
-unfolding IsPlacedAfter IsStillAnswer
-answer_placed m placed (refused f) h = tt
-answer_placed m placed (replied t operations facts) h = still_placed operations m h placed
+-- operations of kinds that show no buffer
+answer_placed : (e : Effects) → list_all is_still e.makes ≡ true → (m : ModelEditor) → IsPlaced m → (a : Answer) → MakesOnly e a → IsPlacedAfter m a
+unfolding IsPlacedAfter MakesOnly
+answer_placed e all m placed (refused f) h = tt
+answer_placed e all m placed (replied t operations facts) h = still_placed operations m (all_still e operations all h.0) placed
 
-pub by_still : (row : Row) → StillRow row → PlacedRow row
-by_still row h = λ m placed session args. answer_placed m placed (row (seen_of m) session args) (h (seen_of m) session args)
+pub by_still : (e : Effects) (row : Row) → list_all is_still e.makes ≡ true → HasEffects e row → PlacedRow row
+by_still e row all h = λ m placed session args. answer_placed e all m placed (row (seen_of m) session args) (h (seen_of m) session args)
 
 placed_unless : (m : ModelEditor) (fs : List (Bool × ApiFault)) (a : Answer) → IsPlacedAfter m a → IsPlacedAfter m (unless fs a)
 placed_unless m fs a = keeps_unless (IsPlacedAfter m) (placed_fault m) fs a
@@ -152,20 +154,13 @@ tabnew_placed m placed =
     (operations_placed (m.stage.next_buffer +ℤ pos 1) (tab_made m.stage.next_buffer ∷ []) (after_operation (buffer_made true) m) (same_next (m.stage.next_buffer +ℤ pos 1)) (low, tt) made))
 
 command_placed : (m : ModelEditor) → IsPlaced m → (c : Command) → IsPlacedAfter m (command_answer (seen_of m) c)
-command_placed m placed undo =
-    answer_placed m placed (command_answer (seen_of m) undo) (still_on_buffer (seen_of m) (pos 0) _ (λ n b. still_undo (seen_of m) n b (undo_legs (sealed_undo b))))
-command_placed m placed redo =
-    answer_placed m placed (command_answer (seen_of m) redo) (still_on_buffer (seen_of m) (pos 0) _ (λ n b. still_undo (seen_of m) n b (redo_legs (sealed_undo b))))
-command_placed m placed (undo_to k) =
-    answer_placed m placed (command_answer (seen_of m) (undo_to k))
-    (still_on_buffer (seen_of m) (pos 0)
-    (λ n b. unless ((nat_lt (last (sealed_undo b)) k, out_of_bounds) ∷ []) (legs_answer (seen_of m) n b (legs_to k (sealed_undo b))))
-    (λ n b. still_unless ((nat_lt (last (sealed_undo b)) k, out_of_bounds) ∷ []) (legs_answer (seen_of m) n b (legs_to k (sealed_undo b)))
-    (still_undo (seen_of m) n b (legs_to k (sealed_undo b)))))
+command_placed m placed undo = answer_placed undoing refl m placed (command_answer (seen_of m) undo) (undo_makes (seen_of m))
+command_placed m placed redo = answer_placed undoing refl m placed (command_answer (seen_of m) redo) (redo_makes (seen_of m))
+command_placed m placed (undo_to k) = answer_placed undoing refl m placed (command_answer (seen_of m) (undo_to k)) (undo_to_makes (seen_of m) k)
 command_placed m placed tabnew = tabnew_placed m placed
 command_placed m placed tabclose =
     placed_unless m ((has_one_tabpage m.stage.workspace, last_one) ∷ []) (replied nil (tab_closed m.stage.workspace.tabpage ∷ []) [])
-    (answer_placed m placed (replied nil (tab_closed m.stage.workspace.tabpage ∷ []) []) (closes_tab m.stage.workspace.tabpage))
+    (placed_done m nil (tab_closed m.stage.workspace.tabpage ∷ []) [] (still_placed (tab_closed m.stage.workspace.tabpage ∷ []) m (tt, tt) placed))
 command_placed m placed quit_all = placed_done m nil [] (quit ∷ []) placed
 
 pub nvim_command_placed : PlacedRow nvim_command

@@ -1,6 +1,7 @@
 -- Each row keeps windows sound, and the screen at the least size of the UIs.
 use Rattle.std.proofs.Common.{◌≡◌, refl, sym, ap, ◌∙◌, subst, arith, ℕ, ℤ, pos, negsuc, ◌+◌, ◌<◌, ◌≤◌, ◌^◌, Bool, true, false, not, cond, List, [], ◌∷◌, map, All, Option, Some, None}
-use Rattle.std.specs.Prelude.{if◌then◌else◌, is_some, ◌==◌, ◌&&◌, ◌||◌, nat_le, nat_lt, find, option_map, option_and_then}
+use Rattle.std.specs.Prelude.{if◌then◌else◌, is_some, ◌==◌, ◌&&◌, ◌||◌, nat_le, find, option_map, option_and_then}
+use Rattle.std.specs.List.{list_all}
 use Rattle.std.specs.Ordering.{int_eq}
 use Rattle.std.proofs.lemmas.List.Elements.{All-head, All-tail}
 use Rattle.std.proofs.lemmas.Option.{none-some, same_Some}
@@ -23,21 +24,21 @@ use Rattle.nv_windows.proofs.SoundLaws.{opening_sound}
 use Rattle.nv_windows.proofs.Soundness.{live_home, at_window_sound, at_tabpage_sound}
 use Rattle.nv_windows.proofs.SoundTabs.{with_tabpage_sound, without_tabpage_sound}
 use Rattle.nv_model.specs.Editors.{ModelEditor}
-use Rattle.nv_model.specs.Seen.{Seen, SeenBuffer, seen_of, sealed_undo}
+use Rattle.nv_model.specs.Seen.{Seen, SeenBuffer, seen_of}
 use Rattle.nv_model.specs.Stage.{Stage, or_current}
 use Rattle.nv_model.specs.Operations.{Operation, buffer_made, tab_made, tab_closed, window_closed, went_to_window, went_to_tab, ui_put, uis_dropped, after_operations}
 use Rattle.nv_model.specs.Answers.{Answer, Fact, quit, refused, replied, unless, or_refused, on_buffer, on_window}
 use Rattle.nv_model.specs.Answering.{fault_or}
 use Rattle.nv_model.specs.Deleting.{no_buffer_left}
+use Rattle.nv_model.specs.Kinds.{Effects, MakesOnly, HasEffects}
 use Rattle.nv_model.specs.Rows.{Row}
 use Rattle.nv_model.specs.declared.parts.Ui.{Ui}
 use Rattle.nv_model.proofs.AnswersTell.{keeps_or_refused, keeps_barred}
 use Rattle.nv_model.proofs.Lookups.{same_int, int_eq-itself}
-use Rattle.nv_undo.specs.Ways.{undo_legs, redo_legs, legs_to}
-use Rattle.nv_undo.specs.Tree.{last}
 use Rattle.nv_editor.specs.Uis.{HasScreenSize, AreSoundUis, IsLeastSize, has_ui, ui_fits}
 use Rattle.nv_editor.proofs.UiSizes.{put_sound}
-use Rattle.nv_api_buf.specs.CommandRows.{no_tab_left, tabs_are_full, legs_answer, command_answer, nvim_command}
+use Rattle.nv_api_buf.specs.CommandRows.{no_tab_left, tabs_are_full, command_answer, nvim_command}
+use Rattle.nv_api_buf.proofs.RowsMake.{undoing, undo_makes, redo_makes, undo_to_makes}
 use Rattle.nv_api_buf.specs.Commands.{Command, undo, redo, undo_to, tabnew, tabclose, quit_all, command_of}
 use Rattle.nv_api_win.specs.Opening.{side_of, wished_width, wished_height}
 use Rattle.nv_api_win.specs.WindowRows.{opening_operations, closing_answer, windows_are_full, nvim_set_current_win, nvim_open_win, nvim_win_close}
@@ -45,7 +46,7 @@ use Rattle.nv_api_win.specs.TabpageRows.{nvim_set_current_tabpage}
 use Rattle.nv_api_ui.specs.UiOptions.{ui_keys, attached_ui, ui_option_fault, with_ui_option}
 use Rattle.nv_api_ui.specs.UiRows.{ui_of, ui_or_new, uis_are_full, sized_ui, attaching_answer, resizing_answer, setting_answer, nvim_ui_attach, nvim_ui_detach, nvim_ui_try_resize, nvim_ui_set_option}
 use Rattle.nv_history.proofs.CalmRows.{option_of, found_session}
-use Rattle.nv_history.proofs.HarmlessRows.{IsHarmlessAnswer, HarmlessRow, harmless_undo, harmless_on_buffer, harmless_unless}
+use Rattle.nv_history.proofs.RowKinds.{is_harmless, all_harmless}
 use Rattle.nv_history.proofs.SafeStages.{IsSafeStage, all_harmless_safe, ui_put_safe, uis_dropped_safe}
 use Rattle.nv_history.proofs.UisStand.{AreStanding, IsLeastOf, put_keeps_size}
 
@@ -66,13 +67,14 @@ safe_done : (m : ModelEditor) (t : Tree) (operations : List Operation) (facts : 
 unfolding IsSafe
 safe_done m t operations facts h = h
 
-answer_safe : (m : ModelEditor) → IsSafeStage m.stage → (a : Answer) → IsHarmlessAnswer a → IsSafe m a
-unfolding IsSafe IsHarmlessAnswer
-answer_safe m safe (refused f) h = tt
-answer_safe m safe (replied t operations facts) h = all_harmless_safe operations h m safe
+-- operations of harmless kinds
+answer_safe : (e : Effects) → list_all is_harmless e.makes ≡ true → (m : ModelEditor) → IsSafeStage m.stage → (a : Answer) → MakesOnly e a → IsSafe m a
+unfolding IsSafe MakesOnly
+answer_safe e all m safe (refused f) h = tt
+answer_safe e all m safe (replied t operations facts) h = all_harmless_safe operations (all_harmless e operations all h.0) m safe
 
-pub by_harmless : (row : Row) → HarmlessRow row → SafeRow row
-by_harmless row h = λ m safe session args. answer_safe m safe (row (seen_of m) session args) (h (seen_of m) session args)
+pub by_harmless : (e : Effects) (row : Row) → list_all is_harmless e.makes ≡ true → HasEffects e row → SafeRow row
+by_harmless e row all h = λ m safe session args. answer_safe e all m safe (row (seen_of m) session args) (h (seen_of m) session args)
 
 -- conditions none of which holds
 abbrev AllFail : List (Bool × ApiFault) → Type 0
@@ -221,16 +223,9 @@ tabclose_safe m safe =
     (λ fail. safe_done m nil (tab_closed m.stage.workspace.tabpage ∷ []) [] (without_tabpage_sound m.stage.workspace m.stage.workspace.tabpage fail.0 safe.0, safe.1))
 
 command_safe : (m : ModelEditor) → IsSafeStage m.stage → (c : Command) → IsSafe m (command_answer (seen_of m) c)
-command_safe m safe undo =
-    answer_safe m safe (command_answer (seen_of m) undo) (harmless_on_buffer (seen_of m) (pos 0) _ (λ n b. harmless_undo (seen_of m) n b (undo_legs (sealed_undo b))))
-command_safe m safe redo =
-    answer_safe m safe (command_answer (seen_of m) redo) (harmless_on_buffer (seen_of m) (pos 0) _ (λ n b. harmless_undo (seen_of m) n b (redo_legs (sealed_undo b))))
-command_safe m safe (undo_to k) =
-    answer_safe m safe (command_answer (seen_of m) (undo_to k))
-    (harmless_on_buffer (seen_of m) (pos 0)
-    (λ n b. unless ((nat_lt (last (sealed_undo b)) k, out_of_bounds) ∷ []) (legs_answer (seen_of m) n b (legs_to k (sealed_undo b))))
-    (λ n b. harmless_unless ((nat_lt (last (sealed_undo b)) k, out_of_bounds) ∷ []) (legs_answer (seen_of m) n b (legs_to k (sealed_undo b)))
-    (harmless_undo (seen_of m) n b (legs_to k (sealed_undo b)))))
+command_safe m safe undo = answer_safe undoing refl m safe (command_answer (seen_of m) undo) (undo_makes (seen_of m))
+command_safe m safe redo = answer_safe undoing refl m safe (command_answer (seen_of m) redo) (redo_makes (seen_of m))
+command_safe m safe (undo_to k) = answer_safe undoing refl m safe (command_answer (seen_of m) (undo_to k)) (undo_to_makes (seen_of m) k)
 command_safe m safe tabnew = tabnew_safe m safe
 command_safe m safe tabclose = tabclose_safe m safe
 command_safe m safe quit_all = safe_done m nil [] (quit ∷ []) safe

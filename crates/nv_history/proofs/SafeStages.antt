@@ -1,6 +1,7 @@
 -- Operations that leave tabpages, trees and UIs keep windows sound.
 use Rattle.std.proofs.Common.{◌≡◌, ℕ, ℤ, ◌<◌, ◌^◌, List, [], ◌∷◌, ◌++◌, length, map, refl, sym, ◌∙◌, subst, arith, Bool, true, false, All, Option, Some, None}
 use Rattle.std.specs.Prelude.{if◌then◌else◌}
+use Rattle.std.specs.List.{AllByRecursion}
 use Rattle.std.specs.Ordering.{int_eq}
 use Rattle.std.proofs.lemmas.List.Elements.{All-head}
 use Rattle.nv_windows.specs.Rooms.{all_fit}
@@ -36,8 +37,7 @@ IsHarmless (uis_dropped sessions) = ⊥
 IsHarmless _ = Unit {0}
 
 abbrev pub AllHarmless : List Operation → Type 0
-AllHarmless [] = Unit {0}
-AllHarmless (c ∷ cs) = IsHarmless c × AllHarmless cs
+AllHarmless operations = AllByRecursion IsHarmless operations
 
 pub harmless-append : (cs ds : List Operation) → AllHarmless cs → AllHarmless ds → AllHarmless (cs ++ ds)
 harmless-append [] ds are more = more

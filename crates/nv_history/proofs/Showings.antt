@@ -214,11 +214,6 @@ none_due (m ∷ ms) scene true w s x e f = absurd cc
 none_due ms true false w s x e f = absurd (none-some _ (sym (ap world_made f)))
 none_due (m ∷ ms) false false w s x e f = refl
 
-no_scene : (w : World) (s : ℕ) (x : Session) → session_of w s ≡ Some x → step w (take_of s) ≡ idles nothing → is_scene_due w s x ≡ false
-no_scene w s x there e =
-    none_due x.waiting (is_scene_due w s x) (is_nothing_due x.waiting (is_scene_due w s x)) w s x refl
-    (sym (ap (λ (o : Option Session). take_outcome o w s) there) ∙ e)
-
 same_now : (w : World) (x : Session) (has : Bool) → has ≡ true → (has && not (x.shown == w.stamp)) ≡ false → x.shown ≡ w.stamp
 same_now w x true e f = by_same (x.shown == w.stamp) refl f
   where

@@ -6,7 +6,7 @@ use Rattle.std.proofs.lemmas.Option.{none-some, same_Some}
 use Rattle.std.proofs.lemmas.Bool.Decides.{nat_tests}
 use Rattle.nv_model.specs.Buffers.{Splice, ModelBuffer}
 use Rattle.nv_model.specs.Editors.{ModelEditor, at_handle}
-use Rattle.nv_model.specs.Operations.{Operation, spliced, spliced_back, ui_put, uis_dropped, stage_spliced, after_operation, after_operations}
+use Rattle.nv_model.specs.Operations.{Operation, spliced, spliced_back, ui_put, uis_dropped, stage_spliced, after_operation}
 use Rattle.nv_model.specs.Stage.{Stage, least_of, with_uis, ui_among, other_uis}
 use Rattle.nv_model.specs.declared.parts.Ui.{Ui}
 use Rattle.nv_editor.specs.Uis.{AreOfRisingSessions}
@@ -64,10 +64,6 @@ operation_stands (spliced_back n s) m h = spliced_stand n s (at_handle m.buffers
 operation_stands (ui_put ui) m h = put_stand (ui_among ui m.stage.uis) m.stage (rising_put 0 ui m.stage.uis (omega arith) h.0)
 operation_stands (uis_dropped sessions) m h = put_stand (other_uis sessions m.stage.uis) m.stage (rising_others 0 sessions m.stage.uis h.0)
 operation_stands c m h = h
-
-pub operations_stand : (cs : List Operation) (m : ModelEditor) → AreStanding m.stage → AreStanding (after_operations cs m).stage
-operations_stand [] m h = h
-operations_stand (c ∷ cs) m h = operations_stand cs (after_operation c m) (operation_stands c m h)
 
 -- ---- a UI put with the size that it has
 above_step : (n s : ℕ) (u : Ui) (us : List Ui) (old : Ui) (b : Bool) → (u.session == s) ≡ b → n ≤ u.session → (ui_of s us ≡ Some old → suc u.session ≤ s)

@@ -37,8 +37,7 @@ IsStill (tab_made b) = ⊥
 IsStill _ = Unit {0}
 
 abbrev pub AllStill : List Operation → Type 0
-AllStill [] = Unit {0}
-AllStill (c ∷ cs) = IsStill c × AllStill cs
+AllStill operations = AllByRecursion IsStill operations
 
 pub still-append : (cs ds : List Operation) → AllStill cs → AllStill ds → AllStill (cs ++ ds)
 still-append [] ds are more = more

@@ -27,3 +27,4 @@ pub mod Legs
 pub mod Told
 pub mod Gone
 pub mod AnswersTell
+pub mod Making

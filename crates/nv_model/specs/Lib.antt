@@ -11,3 +11,4 @@ pub mod Keeping
 pub mod Answering
 pub mod Rows
 pub mod Deleting
+pub mod Kinds

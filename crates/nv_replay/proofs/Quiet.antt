@@ -1,26 +1,26 @@
 -- Calls of most methods splice no text, and neither does an entry that is no call.
-use Rattle.std.proofs.Common.{◌≡◌, refl, ap, sym, ◌∙◌, subst, inl, inr, ℕ, ℤ, Bool, true, false, cond, true≢false, List, [], ◌∷◌, ◌++◌, map, find, Option, Some, None, option_map, Result, Ok, Err}
-use Rattle.std.specs.Prelude.{◌⊎◌, ◌||◌, bytes_eq, codes}
-use Rattle.std.specs.List.{AllByRecursion}
-use Rattle.std.specs.Cmp.Lexicographic.{bytes_decides}
+use Rattle.std.proofs.Common.{◌≡◌, refl, ap, sym, ◌∙◌, subst, ℕ, ℤ, Bool, true, false, cond, true≢false, List, [], ◌∷◌, ◌++◌, map, Option, Some, None, Result, Ok, Err}
+use Rattle.std.specs.Prelude.{◌||◌, bytes_eq, codes, IfSome}
+use Rattle.std.specs.List.{list_all}
 use Rattle.nv_value.specs.Content.{Tree}
 use Rattle.nv_value.specs.declared.fault.ApiFault.{ApiFault}
-use Rattle.nv_rpc.specs.Calls.{Call, request, notice}
+use Rattle.nv_rpc.specs.Calls.{request, notice}
 use Rattle.nv_args.specs.Arguments.{tree_list}
-use Rattle.nv_args.specs.Reading.{Arg, read}
-use Rattle.nv_args.specs.Table.{Signature, method_named}
+use Rattle.nv_args.specs.Reading.{Arg}
+use Rattle.nv_args.specs.Table.{Signature, method_named, other_names, table}
+use Rattle.nv_args.proofs.NameLookup.{named_passes, named_same}
 use Rattle.nv_model.specs.Answers.{Answer, refused, replied}
 use Rattle.nv_model.specs.Editors.{ModelEditor, handles_of}
+use Rattle.nv_model.specs.Kinds.{Effects, MakesOnly, HasEffects, kind_of_operation}
 use Rattle.nv_model.specs.Operations.{Operation, sealed_in, spliced, spliced_back}
 use Rattle.nv_model.specs.Rows.{Row}
-use Rattle.nv_model.specs.Seen.{seen_of}
-use Rattle.nv_api_buf.specs.Rows.{buffer_rows}
-use Rattle.nv_api_mark.specs.Rows.{mark_rows}
-use Rattle.nv_api_ui.specs.Rows.{ui_rows}
-use Rattle.nv_api_win.specs.Rows.{window_rows}
-use Rattle.nv_dispatch.specs.Calls.{CallOutcome, all_rows, answer_to_args, atomic_name, editor_after, nvim_call_atomic, outcome_before_seal, outcome_by_row, outcome_of_answer, outcome_of_call, outcome_of_method, outcome_with_seal, row_named}
+use Rattle.nv_model.specs.Seen.{Seen, seen_of}
+use Rattle.nv_model.proofs.Making.{by_kinds}
+use Rattle.nv_dispatch.specs.Calls.{CallOutcome, answer_by_row, answer_to_args, arguments_for, atomic_name, editor_after, nvim_call_atomic, outcome_before_seal, outcome_of_answer, outcome_of_call, outcome_of_found, outcome_of_name, outcome_with_seal, row_of}
+use Rattle.nv_dispatch.specs.Effects.{RowsHaveEffects, effects_of}
 use Rattle.nv_dispatch.proofs.Kept.{AllLeaveTexts, LeavesTexts, all_leave-append}
-use Rattle.nv_dispatch.proofs.QuietRows.{IsQuiet, QuietRow, api_info, changedtick, clear_namespace, client_info, create_namespace, current_buf, del_extmark, get_current_tabpage, get_current_win, get_extmark, get_extmarks, get_hl, get_hl_id, get_lines, get_name, get_namespaces, get_offset, get_option, get_text, is_valid, line_count, list_bufs, list_tabpages, list_uis, list_wins, open_win, set_current_buf, set_current_tabpage, set_current_win, set_extmark, set_hl, set_name, set_option, strwidth, tabpage_get_number, tabpage_get_win, tabpage_is_valid, tabpage_list_wins, ui_attach, ui_detach, ui_set_option, ui_try_resize, win_close, win_get_buf, win_get_cursor, win_get_height, win_get_position, win_get_tabpage, win_get_width, win_is_valid, win_set_buf, win_set_cursor, win_set_height, win_set_width}
+use Rattle.nv_dispatch.proofs.QuietRows.{leave_texts, leaves_texts}
+use Rattle.nv_dispatch.proofs.RowsMake.{rows_make}
 use Rattle.nv_history.specs.Events.{Event, open_session, request_of, take_of, close_of}
 use Rattle.nv_history.specs.Worlds.{World}
 use Rattle.nv_world.specs.Steps.{splice_by, splices_by, splices_of_event}
@@ -37,79 +37,51 @@ no_splices : (cs : List Operation) → AllLeaveTexts cs → splices_by cs ≡ []
 no_splices [] leave = refl
 no_splices (c ∷ cs) leave = ap (λ (l : List Moved). l ++ splices_by cs) (no_splice c leave.0) ∙ no_splices cs leave.1
 
--- ---- each method may splice, or its row leaves all texts
-abbrev IsQuietEntry : List ℕ × Row → Type 0
-IsQuietEntry entry = (may_splice_by entry.0 ≡ true) ⊎ QuietRow entry.1
+-- ---- each method may splice, or is of kinds that leave all texts
+abbrev splices_or_leaves : Signature → Bool
+splices_or_leaves s = may_splice_by s.name || list_all leaves_texts (effects_of s.method).makes
 
-buffer_rows_quiet : AllByRecursion IsQuietEntry buffer_rows
-buffer_rows_quiet =
-    (inr api_info, (inr client_info, (inl refl, (inr get_option, (inr set_option, (inr list_bufs, (inr current_buf, (inr set_current_buf, (inl refl, (inl refl, (inr is_valid, (inr get_name, (inr set_name, (inr line_count, (inr changedtick, (inr get_offset, (inr get_lines, (inl refl, (inr get_text, (inl refl, (inl refl, (inl refl, tt))))))))))))))))))))))
+each_told : list_all splices_or_leaves table ≡ true
+each_told = refl
 
-mark_rows_quiet : AllByRecursion IsQuietEntry mark_rows
-mark_rows_quiet =
-    (inr create_namespace, (inr get_namespaces, (inr set_extmark, (inr del_extmark, (inr get_extmark, (inr get_extmarks, (inr clear_namespace, (inr set_hl, (inr get_hl, (inr get_hl_id, tt))))))))))
+each_other : list_all splices_or_leaves other_names ≡ true
+each_other = refl
 
-window_rows_quiet : AllByRecursion IsQuietEntry window_rows
-window_rows_quiet =
-    (inr list_wins, (inr get_current_win, (inr set_current_win, (inr open_win, (inr win_close, (inr win_is_valid, (inr win_get_buf, (inr win_set_buf, (inr win_get_cursor, (inr win_set_cursor, (inr win_get_height, (inr win_get_width, (inr win_set_height, (inr win_set_width, (inr win_get_position, (inr win_get_tabpage, (inr list_tabpages, (inr get_current_tabpage, (inr set_current_tabpage, (inr tabpage_is_valid, (inr tabpage_list_wins, (inr tabpage_get_win, (inr tabpage_get_number, tt)))))))))))))))))))))))
+right_true : (a b : Bool) → (a || b) ≡ true → a ≡ false → b ≡ true
+right_true true b e apart = absurd (true≢false apart)
+right_true false b e apart = e
 
-ui_rows_quiet : AllByRecursion IsQuietEntry ui_rows
-ui_rows_quiet =
-    (inr strwidth, (inr ui_attach, (inr ui_detach, (inr ui_try_resize, (inr ui_set_option, (inr list_uis, tt))))))
-
-both_quiet : (xs ys : List (List ℕ × Row)) → AllByRecursion IsQuietEntry xs → AllByRecursion IsQuietEntry ys → AllByRecursion IsQuietEntry (xs ++ ys)
-both_quiet [] ys a b = b
-both_quiet (x ∷ xs) ys a b = (a.0, both_quiet xs ys a.1 b)
-
-rows_quiet : AllByRecursion IsQuietEntry all_rows
-rows_quiet =
-    both_quiet buffer_rows (mark_rows ++ (window_rows ++ ui_rows)) buffer_rows_quiet
-    (both_quiet mark_rows (window_rows ++ ui_rows) mark_rows_quiet (both_quiet window_rows ui_rows window_rows_quiet ui_rows_quiet))
-
-abbrev FoundQuiet : List ℕ → Option (List ℕ × Row) → Type 0
-FoundQuiet name None = Unit {0}
-FoundQuiet name (Some entry) = may_splice_by name ≡ false → QuietRow entry.1
-
-quiet_if : (name : List ℕ) (entry : List ℕ × Row) → entry.0 ≡ name → IsQuietEntry entry → may_splice_by name ≡ false → QuietRow entry.1
-quiet_if name entry is (inl loud) quiet = absurd (true≢false (sym loud ∙ ap may_splice_by is ∙ quiet))
-quiet_if name entry is (inr row) quiet = row
-
-first_quiet : (name : List ℕ) (b : Bool) (x : List ℕ × Row) (rest : Option (List ℕ × Row)) → bytes_eq x.0 name ≡ b → IsQuietEntry x → FoundQuiet name rest
-    → FoundQuiet name (cond b (Some x) rest)
-first_quiet name true x rest same one more = quiet_if name x ((bytes_decides x.0 name).0 same) one
-first_quiet name false x rest same one more = more
-
-found_quiet : (name : List ℕ) (rows : List (List ℕ × Row)) → AllByRecursion IsQuietEntry rows
-    → FoundQuiet name (find (λ (entry : List ℕ × Row). bytes_eq entry.0 name) rows)
-found_quiet name [] all = tt
-found_quiet name (x ∷ xs) all =
-    first_quiet name (bytes_eq x.0 name) x (find (λ (entry : List ℕ × Row). bytes_eq entry.0 name) xs) refl all.0 (found_quiet name xs all.1)
+leaves_by : (name : List ℕ) (s : Signature) → method_named name ≡ Some s → may_splice_by name ≡ false
+    → list_all leaves_texts (effects_of s.method).makes ≡ true
+leaves_by name s is quiet =
+    right_true (may_splice_by s.name) (list_all leaves_texts (effects_of s.method).makes) (named_passes splices_or_leaves name s each_told each_other is)
+    (ap may_splice_by (sym (named_same name s is)) ∙ quiet)
 
 -- ---- a call by a row that leaves texts
-answer_leaves : (is_seen : Bool) (a : Answer) → IsQuiet a → AllLeaveTexts (outcome_of_answer is_seen a).operations
-unfolding IsQuiet
-answer_leaves is_seen (refused fault) quiet = tt
-answer_leaves is_seen (replied t operations facts) quiet = quiet.0
+answer_leaves : (e : Effects) (is_seen : Bool) (a : Answer) → list_all leaves_texts e.makes ≡ true → MakesOnly e a
+    → AllLeaveTexts (outcome_of_answer is_seen a).operations
+unfolding MakesOnly
+answer_leaves e is_seen (refused fault) leave h = tt
+answer_leaves e is_seen (replied t operations facts) leave h =
+    by_kinds kind_of_operation leaves_texts LeavesTexts leave_texts e.makes leave operations h.0
 
-args_quiet : (m : ModelEditor) (session : ℕ) (row : Row) (args : Result (List Arg) ApiFault) → QuietRow row → IsQuiet (answer_to_args m session row args)
-unfolding IsQuiet
-args_quiet m session row (Ok args) quiet = quiet (seen_of m) session args
-args_quiet m session row (Err fault) quiet = tt
+args_leave : (e : Effects) (s : Seen) (session : ℕ) (row : Row) (is_seen : Bool) (args : Result (List Arg) ApiFault) → list_all leaves_texts e.makes ≡ true
+    → HasEffects e row → AllLeaveTexts (outcome_of_answer is_seen (answer_to_args s session row args)).operations
+args_leave e s session row is_seen (Ok args) leave h = answer_leaves e is_seen (row s session args) leave (h s session args)
+args_leave e s session row is_seen (Err fault) leave h = tt
 
-named_leaves : (m : ModelEditor) (session : ℕ) (name : List ℕ) (given : List Tree) (method : Option Signature) (entry : Option (List ℕ × Row))
-    → may_splice_by name ≡ false → FoundQuiet name entry
-    → AllLeaveTexts (outcome_by_row m session name given method (option_map (λ (e : List ℕ × Row). e.1) entry)).operations
-named_leaves m session name given (Some method) (Some entry) quiet found =
-    answer_leaves method.is_seen (answer_to_args m session entry.1 (read method given)) (args_quiet m session entry.1 (read method given) (found quiet))
-named_leaves m session name given (Some method) None quiet found = tt
-named_leaves m session name given None entry quiet found = tt
+row_leaves : (e : Effects) (s : Seen) (session : ℕ) (signature : Signature) (given : List Tree) (row : Option Row) → list_all leaves_texts e.makes ≡ true
+    → IfSome row (HasEffects e) → AllLeaveTexts (outcome_of_answer signature.is_seen (answer_by_row s session signature given row)).operations
+row_leaves e s session signature given (Some row) leave h =
+    args_leave e s session row signature.is_seen (arguments_for signature.method signature given) leave h
+row_leaves e s session signature given None leave h = tt
 
-method_leaves : (m : ModelEditor) (session : ℕ) (name : List ℕ) (given : List Tree) → may_splice_by name ≡ false
-    → AllLeaveTexts (outcome_of_method m session name given).operations
-unfolding row_named
-method_leaves m session name given quiet =
-    named_leaves m session name given (method_named name) (find (λ (entry : List ℕ × Row). bytes_eq entry.0 name) all_rows) quiet
-    (found_quiet name all_rows rows_quiet)
+found_leaves : (m : ModelEditor) (session : ℕ) (name : List ℕ) (given : List Tree) (found : Option Signature) → method_named name ≡ found
+    → may_splice_by name ≡ false → AllLeaveTexts (outcome_of_found m session name found given).operations
+unfolding RowsHaveEffects
+found_leaves m session name given (Some s) is quiet =
+    row_leaves (effects_of s.method) (seen_of m) session s given (row_of s.method) (leaves_by name s is quiet) (rows_make s.method)
+found_leaves m session name given None is quiet = tt
 
 seals_leave : (handles : List ℤ) → AllLeaveTexts (map sealed_in handles)
 seals_leave [] = tt
@@ -140,11 +112,11 @@ one_alone name quiet =
 call_leaves : (m : ModelEditor) (session : ℕ) (name : List ℕ) (given : List Tree) → may_splice_by name ≡ false
     → AllLeaveTexts (outcome_of_call m session name given).operations
 call_leaves m session name given quiet =
-    let one : CallOutcome = outcome_of_method m session name given in
+    let one : CallOutcome = outcome_of_name m session name given in
     let is : outcome_before_seal m session name given ≡ one =
     ap (λ (b : Bool). cond b (nvim_call_atomic m session given (method_named name)) one) (one_alone name quiet) in
     subst (λ (o : CallOutcome). AllLeaveTexts (outcome_with_seal m o o.result).operations) (sym is)
-    (whole_leaves m one one.result (method_leaves m session name given quiet))
+    (whole_leaves m one one.result (found_leaves m session name given (method_named name) refl quiet))
 
 -- ---- an event that doesn't splice
 pub quiet_event : (w : World) (event : Event) → may_splice event ≡ false → splices_of_event w event ≡ []

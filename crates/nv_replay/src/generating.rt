@@ -4,7 +4,7 @@ ghost use Rattle.nv_io.specs.Faults.{Rose};
 ghost use Rattle.nv_history.specs.Runs.{run};
 ghost use Rattle.nv_history.specs.Worlds.{fresh_world};
 ghost use Rattle.nv_world.specs.Contents.{plain_entries, plain_entry, plain_event};
-ghost use Rattle.nv_world.specs.Worlds.{IsLightEvent};
+ghost use Rattle.nv_world.specs.Worlds.{IsLightEvent, IsOutboxSize};
 ghost use Rattle.nv_gen.specs.Story.{script_of};
 ghost use Rattle.nv_replay.specs.Ends.{WriteEnds, start_within};
 ghost use Rattle.nv_replay.specs.Entering.{entered};
@@ -28,7 +28,7 @@ pub fn keep_book<R: Net<Listener = TcpListener, Stream = TcpStream>, S: Sink>(
     history: &History,
     sink: &mut S,
 ) -> WriteEnd
-    requires outbox { (16 ≤ start.outbox) × (start.outbox ≤ 1048576) }
+    requires outbox { IsOutboxSize start.outbox }
     requires limits { 1 ≤ start.limits.entries }
     requires runs { IsSome (run start.outbox start.limits (plain_entries history.now.entries)) }
     ensures ends { WriteEnds start result (plain_entries history.now.entries) (S.taken sink.old)
@@ -73,7 +73,7 @@ fn history_of_script(
     number: u64,
 ) -> Result<History, AllocError>
     requires limits { 1 ≤ limits.entries }
-    requires outbox { (16 ≤ outbox) × (outbox ≤ 1048576) }
+    requires outbox { IsOutboxSize outbox }
     ensures entered { IfOk result (λ history. plain_entries history.entries
         ≡ entered (fresh_world outbox limits) (script_of number)) }
     ensures runs { IfOk result (λ history.
@@ -97,7 +97,7 @@ pub fn generate<R: Net<Listener = TcpListener, Stream = TcpStream>, S: Sink>(
     output: &mut S,
 ) -> WriteEnd
     requires limits { 1 ≤ limits.entries }
-    requires outbox { (16 ≤ outbox) × (outbox ≤ 1048576) }
+    requires outbox { IsOutboxSize outbox }
     ensures ends { WriteEnds (start_within outbox limits) result
         (entered (fresh_world outbox limits) (script_of number)) (S.taken output.old)
         (S.taken output.new) }

@@ -8,6 +8,7 @@ ghost use Rattle.nv_world.specs.Contents.{plain_entries};
 ghost use Rattle.nv_book.specs.Reading.{AreWritable};
 ghost use Rattle.nv_replay.specs.Ends.{ReplayEnds};
 ghost use Rattle.nv_replay.specs.inside.Endings.{WritesOutputs};
+ghost use Rattle.nv_world.specs.Worlds.{IsOutboxSize};
 
 use crate::ending::{ReplayEnd, end_of_unread};
 use nv_book::{Book, BookFault, read_book, write_replay};
@@ -25,7 +26,7 @@ fn write_outputs<R: Net<Listener = TcpListener, Stream = TcpStream>, S: Sink>(
     output: &mut S,
     kept: &mut History,
 ) -> ReplayEnd
-    requires outbox { (16 ≤ book.start.outbox) × (book.start.outbox ≤ 1048576) }
+    requires outbox { IsOutboxSize book.start.outbox }
     requires limits { 1 ≤ book.start.limits.entries }
     requires runs { IsSome (run book.start.outbox book.start.limits
         (plain_entries book.history.entries)) }

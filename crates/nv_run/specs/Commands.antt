@@ -5,6 +5,7 @@ use Rattle.nv_history.specs.Events.{Entry}
 use Rattle.nv_world.specs.declared.story.Start.{Start}
 use Rattle.nv_session.specs.Sending.{world_after}
 use Rattle.nv_words.specs.Commands.{PlainCommand, embeds, serves, replays, generates}
+use Rattle.nv_run.specs.declared.command.TheConstants.{USUAL_OUTBOX}
 
 -- a world of the usual limits, whose outboxes hold so many messages
 abbrev pub usual_start : ℕ → Start
@@ -44,13 +45,13 @@ IfGenerate (Some (generates number)) P = P number
 -- the history that a command left runs in the world that it makes; that of a book begins as the
 -- book says
 abbrev pub RunsAs : Option PlainCommand → List Entry → Type 0
-RunsAs None kept = IsSome (world_after (usual_start 4096) kept)
+RunsAs None kept = IsSome (world_after (usual_start USUAL_OUTBOX) kept)
 RunsAs (Some (embeds outbox)) kept = IsSome (world_after (usual_start outbox) kept)
 RunsAs (Some (serves address sessions outbox book)) kept =
     IsSome (world_after (usual_start outbox) kept)
 RunsAs (Some (replays name check)) kept =
     (outbox : ℕ) × IsSome (world_after (usual_start outbox) kept)
-RunsAs (Some (generates number)) kept = IsSome (world_after (usual_start 4096) kept)
+RunsAs (Some (generates number)) kept = IsSome (world_after (usual_start USUAL_OUTBOX) kept)
 
 -- a port may be asked to listen on the address of a command, where it has one
 abbrev pub MayListen : (List ℕ → Type 0) → Option PlainCommand → Type 0

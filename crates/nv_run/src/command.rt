@@ -1,5 +1,5 @@
 //! The command line: what the program does for its words.
-ghost use Rattle.std.specs.Prelude.{◌≡◌, ◌≤◌, ◌⊎◌, ◌++◌, ℕ, List, [], IsSome, None, Some, length, map, slice_get};
+ghost use Rattle.std.specs.Prelude.{◌≡◌, ◌⊎◌, ◌++◌, ℕ, List, [], IsSome, None, Some, length, map, slice_get};
 ghost use Rattle.nv_io.specs.Faults.{Rose};
 ghost use Rattle.nv_io.specs.Streams.{Gave, Tells};
 ghost use Rattle.nv_io.specs.declared.ending.Ended.{Ended};
@@ -20,6 +20,7 @@ ghost use Rattle.nv_run.specs.Replaying.{LeavesFile, PlaysBook};
 ghost use Rattle.nv_run.specs.Serving.{IfBook, LeavesBook, ServerEnds};
 ghost use Rattle.nv_run.specs.Statuses.{line_of, line_of_refusal, line_of_replay, line_of_script, line_of_server, status_of, status_of_replay, status_of_script, status_of_server};
 ghost use Rattle.nv_run.specs.declared.serving.ServerEnd.{ServerEnd};
+ghost use Rattle.nv_world.specs.Worlds.{IsOutboxSize};
 
 use crate::replaying::replay;
 use crate::serving::serve;
@@ -41,6 +42,9 @@ use std::net::{Net, TcpListener, TcpStream};
 use std::rt::Files as SystemFiles;
 use std::sync::Wait;
 use std::thread::Threads;
+
+/// The messages that an outbox has room for, where nothing else is asked for.
+pub const USUAL_OUTBOX: u32 = 4_096;
 
 // Tells that the words are refused, and answers the status.
 fn refuse<R: Net<Listener = TcpListener, Stream = TcpStream>, E: Sink>(
@@ -74,7 +78,7 @@ fn embed<R: Net<Listener = TcpListener, Stream = TcpStream>, I: Source, S: Sink>
     output: &mut S,
     kept: &mut History,
 ) -> Ended
-    requires outbox { (16 ≤ outbox) × (outbox ≤ 1048576) }
+    requires outbox { IsOutboxSize outbox }
     requires empty { kept.old.entries ≡ [] }
     ensures ends { (bytes : List ℕ)
         × Gave (I.taken input.old) (I.taken input.new) (I.left input.old) (I.left input.new) bytes
@@ -179,8 +183,8 @@ fn perform<
         (E.faults errors.old) (E.faults errors.new)) }
     ensures generate { IfGenerate (Some (plain_command command.entry)) (λ number.
         (ended : WriteEnd) × (result ≡ status_of_script ended)
-        × WriteEnds (usual_start 4096) ended
-        (entered (fresh_world 4096 usual_limits) (script_of number)) (S.taken output.old)
+        × WriteEnds (usual_start USUAL_OUTBOX) ended
+        (entered (fresh_world USUAL_OUTBOX usual_limits) (script_of number)) (S.taken output.old)
         (S.taken output.new)
         × (ended ≡ WriteEnd.WriteFault → Rose (S.faults output.old) (S.faults output.new))
         × (kept.new ≡ kept.old)
@@ -215,7 +219,7 @@ fn perform<
             status_of_replay(ended)
         }
         Command::Generate { number } => {
-            let ended = generate(rt, alloc, usual_limits(), 4_096, number, output);
+            let ended = generate(rt, alloc, usual_limits(), USUAL_OUTBOX, number, output);
             tell_script(rt, errors, ended);
             status_of_script(ended)
         }
@@ -346,8 +350,8 @@ pub fn run<
     ensures generate { AreWords (map (λ word. word.now) words.now)
         → IfGenerate (command_asked (map (λ word. word.now) words.now)) (λ number.
         (ended : WriteEnd) × (result ≡ status_of_script ended)
-        × WriteEnds (usual_start 4096) ended
-        (entered (fresh_world 4096 usual_limits) (script_of number)) (S.taken output.old)
+        × WriteEnds (usual_start USUAL_OUTBOX) ended
+        (entered (fresh_world USUAL_OUTBOX usual_limits) (script_of number)) (S.taken output.old)
         (S.taken output.new)
         × (ended ≡ WriteEnd.WriteFault → Rose (S.faults output.old) (S.faults output.new))
         × (kept.new ≡ kept.old)

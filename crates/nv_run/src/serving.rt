@@ -9,6 +9,7 @@ ghost use Rattle.nv_run.specs.Commands.{usual_start};
 ghost use Rattle.nv_session.specs.Sending.{world_after};
 ghost use Rattle.nv_run.specs.Serving.{IfBook, LeavesBook, LeavesLanes, ServerEnds, WritesBook};
 ghost use Rattle.nv_run.specs.inside.Ends.{IsEndOfBook, IsLater};
+ghost use Rattle.nv_world.specs.Worlds.{IsOutboxSize};
 
 use crate::lanes::{give_back, take_lanes};
 use nv_dispatch::usual_limits;
@@ -58,7 +59,7 @@ fn serve_lanes<
     L: Lane + Send,
 >(rt: &R, alloc: Global, outbox: u32, jobs: &mut [Job<L>], kept: &mut History) -> ServerEnd
     requires lanes { (0 < length jobs.old) × (length jobs.old ≤ 256) }
-    requires outbox { (16 ≤ outbox) × (outbox ≤ 1048576) }
+    requires outbox { IsOutboxSize outbox }
     requires empty { kept.old.entries ≡ [] }
     ensures left { LeavesLanes (record {
       ends = record {
@@ -129,7 +130,7 @@ fn serve_port<
 ) -> ServerEnd
     requires may { P.may address.now }
     requires sessions { (1 ≤ sessions) × (sessions ≤ 256) }
-    requires outbox { (16 ≤ outbox) × (outbox ≤ 1048576) }
+    requires outbox { IsOutboxSize outbox }
     requires empty { kept.old.entries ≡ [] }
     ensures ends { ServerEnds (record {
       ends = record {
@@ -187,7 +188,7 @@ fn leave_book<R: Net<Listener = TcpListener, Stream = TcpStream>, S: Sink>(
     sink: &mut S,
     ended: ServerEnd,
 ) -> ServerEnd
-    requires outbox { (16 ≤ outbox) × (outbox ≤ 1048576) }
+    requires outbox { IsOutboxSize outbox }
     requires runs { IsSome (world_after (usual_start outbox) (plain_entries kept.now.entries)) }
     requires other { ended ≡ ServerEnd.WriteFault → ⊥ }
     ensures later { IsLater ended result }
@@ -227,7 +228,7 @@ pub fn serve<
     requires may { P.may address.now }
     requires open { IfSome book (λ name. F.may name.now) }
     requires sessions { (1 ≤ sessions) × (sessions ≤ 256) }
-    requires outbox { (16 ≤ outbox) × (outbox ≤ 1048576) }
+    requires outbox { IsOutboxSize outbox }
     requires empty { kept.old.entries ≡ [] }
     ensures ends { ServerEnds (record {
       ends = record {

@@ -6,6 +6,7 @@ ghost use Rattle.nv_history.specs.Events.{quit_at};
 ghost use Rattle.nv_world.specs.Contents.{plain_entries};
 ghost use Rattle.nv_session.specs.Ends.{AnswersAll, AnswersUpTo};
 ghost use Rattle.nv_run.specs.Commands.{usual_start};
+ghost use Rattle.nv_run.specs.declared.command.TheConstants.{USUAL_OUTBOX};
 
 use crate::command::run;
 use nv_io::{MemFiles, MemPort, MemSink, SureSink, SureSource};
@@ -33,14 +34,17 @@ pub fn answer_all<
     ensures command { result.0 ≢ 2 }
     ensures sure { result.0 ≢ 3 }
     ensures whole { result.0 ≡ 0
-        → AnswersAll (usual_start 4096) None bytes.items (plain_entries result.2.entries) (Some [])
+        → AnswersAll (usual_start USUAL_OUTBOX) None bytes.items
+        (plain_entries result.2.entries) (Some [])
         (Some result.1.taken)
         ⊎ ((entry : ℕ) × (read rest : List ℕ) × (bytes.items ≡ read ++ rest)
-        × AnswersUpTo (usual_start 4096) (quit_at entry) read (plain_entries result.2.entries)
+        × AnswersUpTo (usual_start USUAL_OUTBOX) (quit_at entry) read
+        (plain_entries result.2.entries)
         (Some []) (Some result.1.taken)) }
     ensures malformed { result.0 ≡ 6
         → (flaw : Flaw) × (read rest : List ℕ) × (bytes.items ≡ read ++ rest)
-        × AnswersAll (usual_start 4096) (Some flaw) read (plain_entries result.2.entries) (Some [])
+        × AnswersAll (usual_start USUAL_OUTBOX) (Some flaw) read
+        (plain_entries result.2.entries) (Some [])
         (Some result.1.taken) }
 {
     let mut input = SureSource::new(bytes, cuts);

@@ -7,6 +7,7 @@ ghost use Rattle.nv_world.specs.Contents.{plain_entries};
 ghost use Rattle.nv_serve.specs.Jobs.{lanes_of};
 ghost use Rattle.nv_serve.specs.Headline.{ServerLeaves};
 ghost use Rattle.nv_serve.specs.inside.Jobs.{AreReady, HasNoneEnded, HasOneEnded, IsReadyJob, ServesJob, ServesJobs, is_failed, saw_spent};
+ghost use Rattle.nv_world.specs.Worlds.{IsOutboxSize};
 
 use crate::dealing::{deal, join_all};
 use crate::job::{Job, LaneEnd};
@@ -245,7 +246,7 @@ pub fn serve<
     jobs: &mut [Job<L>],
 ) -> Result<Kept, AllocError>
     requires lanes { (0 < length jobs.old) × (length jobs.old ≤ 256) }
-    requires outbox { (16 ≤ outbox) × (outbox ≤ 1048576) }
+    requires outbox { IsOutboxSize outbox }
     requires entries { 1 ≤ limits.entries }
     ensures served { IfOk result (λ kept. ServerLeaves (record {
       ends = record {

@@ -10,6 +10,7 @@ use Rattle.nv_history.specs.Asking.{calls_of}
 use Rattle.nv_world.specs.declared.story.Start.{Start}
 use Rattle.nv_halves.specs.Reading.{Calls, Reads, WasRead, IsUnfinished, IfInside}
 use Rattle.nv_session.specs.Sending.{AreBytesTaken, history_of, cause_after}
+use Rattle.nv_session.specs.declared.session.TheConstants.{PIECE}
 
 -- The bytes read hold calls and then this flaw or none; the history is that of a session that makes
 -- all of these calls, each has its request in it, and its own close ends it. What went out grew by
@@ -49,7 +50,7 @@ pub record HasEarlier (calls : List Call) (bytes : List ℕ) : Type 0 where
   pub earlier : List ℕ
   pub last : List ℕ
   pub parts : bytes ≡ earlier ++ last
-  pub short : length last ≤ 65536
+  pub short : length last ≤ PIECE
   pub first : List Call
   pub later : List Call
   pub flaw : Option Flaw

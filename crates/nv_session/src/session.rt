@@ -28,7 +28,7 @@ use std::alloc::{AllocError, Global};
 use std::net::{Net, TcpListener, TcpStream};
 
 /// The bytes that are read at once.
-const PIECE: usize = 65_536;
+pub const PIECE: usize = 65_536;
 
 /// A source from which so many bytes were taken counts as ended.
 const MOST_TAKEN: u64 = 1 << 62;
@@ -208,7 +208,7 @@ impl Session {
     ) -> Result<(), Ended>
         requires waits { NeedsMore self.old.stream }
         requires fits { self.old.stream.start + length self.old.stream.held < 2 ^ 62 }
-        requires room { length buffer.old ≡ 65536 }
+        requires room { length buffer.old ≡ PIECE }
         ensures takes { (piece : List ℕ)
             × Gave (I.taken input.old) (I.taken input.new) (I.left input.old)
             (I.left input.new) piece
@@ -244,7 +244,7 @@ impl Session {
         requires ready { IsReady (state_of self.old world.old) }
         requires waits { NeedsMore self.old.stream }
         requires fits { self.old.stream.start + length self.old.stream.held < 2 ^ 62 }
-        requires room { length buffer.old ≡ 65536 }
+        requires room { length buffer.old ≡ PIECE }
         requires nothing_waits { bytes_waiting self.old ≡ [] }
         ensures turns { (piece : List ℕ)
             × Gave (I.taken input.old) (I.taken input.new) (I.left input.old)
@@ -275,7 +275,7 @@ impl Session {
     ) -> Ended
         requires new { IsNew (state_of self.old world.old) }
         requires ready { IsReady (state_of self.old world.old) }
-        requires room { length buffer.old ≡ 65536 }
+        requires room { length buffer.old ≡ PIECE }
         requires nothing_waits { bytes_waiting self.old ≡ [] }
         ensures leaves { (bytes : List ℕ)
             × Gave (I.taken input.old) (I.taken input.new) (I.left input.old)
@@ -310,7 +310,7 @@ impl Session {
         requires unused { IsUnusedSession self.old }
         requires fresh { world.old.history ≡ [] }
         requires capacity { 0 < world.old.capacity }
-        requires room { length buffer.old ≡ 65536 }
+        requires room { length buffer.old ≡ PIECE }
         ensures ends { (bytes : List ℕ)
             × Gave (I.taken input.old) (I.taken input.new) (I.left input.old)
             (I.left input.new) bytes

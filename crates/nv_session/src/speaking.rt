@@ -69,7 +69,7 @@ impl Outgoing {
 
     /// Whether so much waits that it is to be written before more is added.
     pub fn is_full(&self) -> bool
-        ensures { result ≡ nat_le 65536 (length self.now.waiting.items) }
+        ensures { result ≡ nat_le FULL (length self.now.waiting.items) }
     {
         self.waiting.len() >= FULL
     }

@@ -1,7 +1,7 @@
 //! One session whose devices fail, call by call, or whose input is cut.
 ghost use Rattle.std.specs.Prelude.{◌<◌};
 
-use crate::in_memory::{is_left, session_left};
+use crate::in_memory::{Wanted, is_left, session_left};
 use crate::replays::{are_cuts_told, are_objections_told, is_fault_told};
 use std::alloc::{AllocError, Global};
 use std::fs::File;
@@ -151,7 +151,12 @@ fn is_case<
     let fails = [case.reads, case.writes, case.lines];
     let left = session_left(rt, alloc, &["embed"], case.input, case.piece, 4_096, fails)?;
     let is_kept = left.kept.as_slice() == case.kept;
-    Ok(is_kept && is_left(&left, case.output, case.status, case.line))
+    let wanted = Wanted {
+        output: case.output,
+        status: case.status,
+        line: case.line,
+    };
+    Ok(is_kept && is_left(&left, &wanted))
 }
 
 // The first session that goes another way.
@@ -176,35 +181,28 @@ fn is_ended<
     input: &[u8],
     sizes: (usize, usize),
     fails: [&[u64]; 3],
-    output: &[u8],
-    status: u8,
-    line: &[u8],
+    wanted: &Wanted,
 ) -> Result<bool, AllocError>
     requires cut { 0 < sizes.0 }
     requires most { 0 < sizes.1 }
 {
     let left = session_left(rt, alloc, &["embed"], input, sizes.0, sizes.1, fails)?;
-    Ok(is_left(&left, output, status, line))
+    Ok(is_left(&left, wanted))
 }
 
 // The least length below its own by which the request is cut and isn't told as cut.
 fn first_wrong_cut<
     R: Files<File = File> + Net<Listener = TcpListener, Stream = TcpStream> + Threads + Wait + Sync,
 >(rt: &R, alloc: Global) -> Result<Option<usize>, AllocError> {
-    let line = b"nvimd: malformed input: cut at 0\n";
     let request = count();
     for came in 1..request.len() {
         let front = &request[..came];
-        if !is_ended(
-            rt,
-            alloc,
-            front,
-            (4_096, 4_096),
-            [&[], &[], &[]],
-            b"",
-            6,
-            line,
-        )? {
+        let wanted = Wanted {
+            output: b"",
+            status: 6,
+            line: b"nvimd: malformed input: cut at 0\n",
+        };
+        if !is_ended(rt, alloc, front, (4_096, 4_096), [&[], &[], &[]], &wanted)? {
             return Ok(Some(came));
         }
     }
@@ -252,8 +250,12 @@ fn first_wrong_read<
     let requests = set_get();
     for came in 0..=requests.len() {
         let fails: [&[u64]; 3] = [&[came as u64], &[], &[]];
-        let line = b"nvimd: read fault\n";
-        if !is_ended(rt, alloc, requests, (1, 4_096), fails, due(came), 3, line)? {
+        let wanted = Wanted {
+            output: due(came),
+            status: 3,
+            line: b"nvimd: read fault\n",
+        };
+        if !is_ended(rt, alloc, requests, (1, 4_096), fails, &wanted)? {
             return Ok(Some(came));
         }
     }
@@ -273,9 +275,12 @@ fn first_wrong_write<
     let output = replies();
     for went in 0..output.len() {
         let fails: [&[u64]; 3] = [&[], &[went as u64], &[]];
-        let line = b"nvimd: write fault\n";
-        let front = &output[..went];
-        if !is_ended(rt, alloc, set_get(), (4_096, 1), fails, front, 4, line)? {
+        let wanted = Wanted {
+            output: &output[..went],
+            status: 4,
+            line: b"nvimd: write fault\n",
+        };
+        if !is_ended(rt, alloc, set_get(), (4_096, 1), fails, &wanted)? {
             return Ok(Some(went));
         }
     }

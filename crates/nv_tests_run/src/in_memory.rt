@@ -23,6 +23,14 @@ pub(crate) struct Left {
     pub kept: Vec<u8>,
 }
 
+/// What a run is to leave: what went out, its status, and the line that tells it.
+#[derive(Clone, Copy)]
+pub(crate) struct Wanted<'a> {
+    pub output: &'a [u8],
+    pub status: u8,
+    pub line: &'a [u8],
+}
+
 /// A source that gives these bytes in pieces of one size, and of which such reads fail.
 fn source(alloc: Global, bytes: &[u8], cut: usize, fails: &[u64]) -> Result<MemSource, AllocError>
     requires { 0 < cut }
@@ -275,6 +283,8 @@ pub(crate) fn session_left<
 }
 
 /// Whether a run left this.
-pub(crate) fn is_left(left: &Left, output: &[u8], status: u8, line: &[u8]) -> bool {
-    left.status == status && left.output.as_slice() == output && left.line.as_slice() == line
+pub(crate) fn is_left(left: &Left, wanted: &Wanted) -> bool {
+    left.status == wanted.status
+        && left.output.as_slice() == wanted.output
+        && left.line.as_slice() == wanted.line
 }

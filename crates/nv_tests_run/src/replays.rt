@@ -1,6 +1,6 @@
 //! Books over files in memory: replays and checks, books that are cut, and watchers that say no or
 //! want memory.
-use crate::in_memory::{Left, file_of, is_left, left_of_files};
+use crate::in_memory::{Left, Wanted, file_of, is_left, left_of_files};
 use nv_watch::{Verdict, Watcher};
 use nv_world::{Step, World};
 use std::alloc::{AllocError, Global};
@@ -232,12 +232,10 @@ fn is_played<
     book: &[u8],
     fails: &[u64],
     testers: Vec<Tester>,
-    output: &[u8],
-    status: u8,
-    line: &[u8],
+    wanted: &Wanted,
 ) -> Result<bool, AllocError> {
     let left = replay_left(rt, alloc, words, book, fails, testers)?;
-    Ok(is_left(&left, output, status, line))
+    Ok(is_left(&left, wanted))
 }
 
 /// Whether the book of a server is checked without a fault.
@@ -245,7 +243,12 @@ pub(crate) fn is_right<
     R: Files<File = File> + Net<Listener = TcpListener, Stream = TcpStream> + Threads + Wait + Sync,
 >(rt: &R, alloc: Global, book: &[u8]) -> Result<bool, AllocError> {
     let none = Vec::new(alloc);
-    is_played(rt, alloc, CHECK, book, &[], none, CHECKED, 0, b"")
+    let wanted = Wanted {
+        output: CHECKED,
+        status: 0,
+        line: b"",
+    };
+    is_played(rt, alloc, CHECK, book, &[], none, &wanted)
 }
 
 // Where the value begins that a book lacks of which so many bytes came.
@@ -266,17 +269,12 @@ fn is_cut_told<
     let place = place_of_fault(front.len());
     let line = format!(in alloc; "nvimd: malformed book at {place}\n")?;
     let none = Vec::new(alloc);
-    is_played(
-        rt,
-        alloc,
-        &["replay", "book"],
-        front,
-        &[],
-        none,
-        b"",
-        6,
-        line.as_bytes(),
-    )
+    let wanted = Wanted {
+        output: b"",
+        status: 6,
+        line: line.as_bytes(),
+    };
+    is_played(rt, alloc, &["replay", "book"], front, &[], none, &wanted)
 }
 
 /// Whether each beginning of the book is.
@@ -297,18 +295,12 @@ pub(crate) fn is_fault_told<
     R: Files<File = File> + Net<Listener = TcpListener, Stream = TcpStream> + Threads + Wait + Sync,
 >(rt: &R, alloc: Global) -> Result<bool, AllocError> {
     let none = Vec::new(alloc);
-    let line = b"nvimd: read fault\n";
-    is_played(
-        rt,
-        alloc,
-        &["replay", "book"],
-        whole(),
-        &[0],
-        none,
-        b"",
-        3,
-        line,
-    )
+    let wanted = Wanted {
+        output: b"",
+        status: 3,
+        line: b"nvimd: read fault\n",
+    };
+    is_played(rt, alloc, &["replay", "book"], whole(), &[0], none, &wanted)
 }
 
 // One more watcher of such a manner, and the cell in which it counts its steps.
@@ -358,17 +350,12 @@ fn is_checked<
 >(rt: &R, alloc: Global, check: &Check) -> Result<bool, AllocError> {
     let drops = Rc::new(alloc, Cell::new(0u64))?;
     let (testers, steps) = testers_of(alloc, check.manners, &drops)?;
-    let is_played = is_played(
-        rt,
-        alloc,
-        check.words,
-        check.book,
-        &[],
-        testers,
-        check.output,
-        check.status,
-        check.line,
-    )?;
+    let wanted = Wanted {
+        output: check.output,
+        status: check.status,
+        line: check.line,
+    };
+    let is_played = is_played(rt, alloc, check.words, check.book, &[], testers, &wanted)?;
     Ok(is_played && drops.get() == check.manners.len() as u64 && are_shown(&steps, check.steps))
 }
 

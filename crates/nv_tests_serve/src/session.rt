@@ -222,8 +222,7 @@ fn end_first<
     turn: &Turn<World>,
     bells: &[Bell],
     passes: (Pass<World>, Pass<World>),
-    input: I,
-    output: S,
+    streams: (I, S),
     voice: V,
 ) -> (Pass<World>, (ReaderEnd, WriterEnd))
     requires turn { (passes.0.turn ≡ turn.now.turn) × (passes.1.turn ≡ turn.now.turn) }
@@ -233,6 +232,7 @@ fn end_first<
     ensures numbers { result.0.numbers ≡ passes.0.numbers ++ passes.1.numbers }
 {
     let (first, second) = passes;
+    let (input, output) = streams;
     let first = open_first(rt, turn, bells, first);
     let (reader, writer) = run_halves(
         rt, alloc, turn, bells, 0, first, second, 1, input, output, voice,
@@ -272,8 +272,7 @@ fn halves_in_turn<
         &turn,
         &bells,
         (first, second),
-        input,
-        output,
+        (input, output),
         voice,
     );
     let _world = turn.close(last);
@@ -292,8 +291,7 @@ fn ends_of_both<
     turn: Turn<World>,
     one: (Pass<World>, Pass<World>),
     other: (Pass<World>, Pass<World>),
-    inputs: (I, I),
-    outputs: (S, S),
+    streams: ((I, S), (I, S)),
     voice: V,
 ) -> ((ReaderEnd, WriterEnd), Ended)
     requires four { turn.passes ≡ 4 }
@@ -307,8 +305,7 @@ fn ends_of_both<
     let bells = [Bell::new(), Bell::new()];
     let shared = &turn;
     let all = &bells[..];
-    let (input, other_input) = inputs;
-    let (output, other_output) = outputs;
+    let ((input, output), (other_input, other_output)) = streams;
     let ((cd, how), (ab, ends)) = join(
         rt,
         || -> (Pass<World>, Ended)
@@ -324,7 +321,7 @@ fn ends_of_both<
                 × (0 < length all.now) × (V.told voice ≡ nothing_told) }
             ensures turn { result.0.turn ≡ shared.entry.now.turn }
             ensures numbers { result.0.numbers ≡ one.0.numbers ++ one.1.numbers }
-        { end_first(rt, alloc, shared, all, one, input, output, voice) },
+        { end_first(rt, alloc, shared, all, one, (input, output), voice) },
     );
     let last = turn.join(ab, cd);
     let _world = turn.close(last);
@@ -342,8 +339,7 @@ fn ends_of_four<
     alloc: Global,
     turn: Turn<World>,
     mut passes: Vec<Pass<World>>,
-    inputs: (I, I),
-    outputs: (S, S),
+    streams: ((I, S), (I, S)),
     voice: V,
 ) -> ((ReaderEnd, WriterEnd), Ended)
     requires four { turn.passes ≡ 4 }
@@ -355,7 +351,7 @@ fn ends_of_four<
     let c = take_pass(&mut passes);
     let b = take_pass(&mut passes);
     let a = take_pass(&mut passes);
-    ends_of_both(rt, alloc, turn, (a, b), (c, d), inputs, outputs, voice)
+    ends_of_both(rt, alloc, turn, (a, b), (c, d), streams, voice)
 }
 
 // How the only connection of a world ends whose second request comes only once a reply went out,
@@ -389,15 +385,15 @@ fn ends_of_slow<R: Net<Listener = TcpListener, Stream = TcpStream> + Threads + W
     let replies = AtomicU64::new(0);
     let others = AtomicU64::new(0);
     let begun = AtomicU64::new(0);
-    let inputs = (ask_so_often(1, 2, &begun), ask_so_often(1, 0, &begun));
-    let outputs = (Counter { word: &replies }, Counter { word: &others });
+    let first = (ask_so_often(1, 2, &begun), Counter { word: &replies });
+    let other = (ask_so_often(1, 0, &begun), Counter { word: &others });
     let voice = Slow {
         painter,
         spoke: false,
         begun: &begun,
         word: &others,
     };
-    Ok(ends_of_four(rt, alloc, turn, passes, inputs, outputs, voice))
+    Ok(ends_of_four(rt, alloc, turn, passes, (first, other), voice))
 }
 
 #[test]

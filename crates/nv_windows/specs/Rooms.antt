@@ -47,7 +47,7 @@ rect_in ws w t = rect_among w (rects t.tree (windows_area ws))
 abbrev pub window_rect : Workspace → ℤ → Option Rect
 window_rect ws w = option_and_then (rect_in ws w) (tabpage_of ws w)
 
--- its text cells (help: nvim_win_get_position(), nvim_win_get_width(), nvim_win_get_height())
+-- its text cells (help: api-window)
 abbrev pub without_status : Rect → Rect
 without_status area = record area { height = area.height - 1 }
 

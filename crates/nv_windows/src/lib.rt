@@ -10,5 +10,5 @@ mod window;
 mod windows;
 
 pub use laws::{handle_laws, soundness_laws, view_laws};
-pub use window::{Opened, Tabpage, Window};
+pub use window::{Opened, Tabpage, Window, Wishes};
 pub use windows::Windows;

@@ -16,7 +16,7 @@ use crate::tabs::{
     all_fit, close_in, current_after, drop_tabpage, drop_windows_of, fits, home_handle, home_of,
     place_among, put_behind, put_current, put_wish,
 };
-use crate::window::{Opened, Tabpage, Window};
+use crate::window::{Opened, Tabpage, Window, Wishes};
 use nv_layout::{Axis, Leaf, Rect, Side, Tree, leaves, rect_of};
 use nv_places::{Extent, Pos};
 use std::alloc::{AllocError, Global};
@@ -154,14 +154,14 @@ impl Parts {
         beside: i64,
         side: Side,
         buffer: i64,
-        width: u32,
-        height: u32,
+        wishes: Wishes,
         enter: bool,
     ) -> Result<Opened, AllocError>
         requires sound { IsSoundWorkspace (workspace_of self.old) }
         ensures told { IfOk result (λ told. told ≡ opening (workspace_of self.old) beside side) }
         ensures after { OnOk result (workspace_of self.new
-            ≡ after_opening beside side buffer width height enter (workspace_of self.old)) }
+            ≡ after_opening beside side buffer wishes.width wishes.height enter
+            (workspace_of self.old)) }
         ensures err { OnErr result (workspace_of self.new ≡ workspace_of self.old) }
     {
         if !self.window_left() {
@@ -175,7 +175,7 @@ impl Parts {
             return Ok(Opened::NoRoom);
         }
         let window = self.next_window;
-        let tree = wishing(tree, window, width, height);
+        let tree = wishing(tree, window, wishes.width, wishes.height);
         self.put_opened(home, tree, buffer)?;
         self.enter_where(enter, window);
         Ok(Opened::Window(window))

@@ -23,6 +23,13 @@ pub struct Tabpage {
     pub current: i64,
 }
 
+/// The width and the height in cells that a window wishes, its status line counted; 0 is no wish.
+#[derive(Clone, Copy)]
+pub struct Wishes {
+    pub width: u32,
+    pub height: u32,
+}
+
 /// What opening a window comes to.
 #[derive(Clone, Copy, Debug, PartialEq, Eq)]
 pub enum Opened {

@@ -12,7 +12,7 @@ use crate::parts::{Parts, without_status};
 use crate::seats::Seats;
 use crate::slots::{showing, window_at};
 use crate::tabs::{all_windows, tabpage_at};
-use crate::window::{Opened, Tabpage, Window};
+use crate::window::{Opened, Tabpage, Window, Wishes};
 use nv_layout::{Axis, Rect, Side};
 use nv_places::{Extent, Pos};
 use std::alloc::{AllocError, Global};
@@ -174,8 +174,7 @@ impl Windows {
         self.parts.fits(alloc, beside, side)
     }
 
-    /// Opens the next window on a side of a live one. It shows a buffer at row 0, and wishes a
-    /// width and a height in cells, which counts the status line; 0 is no wish. With `enter` it
+    /// Opens the next window on a side of a live one. It shows a buffer at row 0. With `enter` it
     /// becomes current, and its tabpage too (help: nvim_open_win()).
     ///
     /// `NoId` comes exactly where no handle is left, else `NoRoom` exactly where its tabpage's tree
@@ -187,21 +186,18 @@ impl Windows {
         beside: i64,
         side: Side,
         buffer: i64,
-        width: u32,
-        height: u32,
+        wishes: Wishes,
         enter: bool,
     ) -> Result<Opened, AllocError>
         requires live { is_live_window self.old beside ≡ true }
-        requires width { width < 2 ^ 16 }
-        requires height { height < 2 ^ 16 }
+        requires width { wishes.width < 2 ^ 16 }
+        requires height { wishes.height < 2 ^ 16 }
         ensures told { IfOk result (λ told. told ≡ opening self.old beside side) }
-        ensures after { OnOk result
-            (self.new ≡ after_opening beside side buffer width height enter self.old) }
+        ensures after { OnOk result (self.new
+            ≡ after_opening beside side buffer wishes.width wishes.height enter self.old) }
         ensures err { OnErr result (self.new ≡ self.old) }
     {
-        let told = self
-            .parts
-            .open(alloc, beside, side, buffer, width, height, enter);
+        let told = self.parts.open(alloc, beside, side, buffer, wishes, enter);
         self.seats.renew(&self.parts);
         told
     }

@@ -17,6 +17,11 @@ use Rattle.nv_world.specs.declared.effect.Effect.{Effect}
 use Rattle.nv_world.specs.declared.effect.Effect.TheVariants as effect
 use Rattle.nv_world.specs.declared.effect.Stop.{Stop}
 use Rattle.nv_world.specs.declared.effect.Stop.TheVariants.{NoMemory, Stranger, Gone, Held}
+use Rattle.nv_world.specs.declared.world.TheConstants.{LEAST_OUTBOX, MOST_OUTBOX}
+
+-- an outbox has room for so many messages (own rule)
+abbrev pub IsOutboxSize : ℕ → Type 0
+IsOutboxSize n = (LEAST_OUTBOX ≤ n) × (n ≤ MOST_OUTBOX)
 
 -- a world: how many messages an outbox holds, its limits, its history, and whether want of memory
 -- has spent it. All else is what `run` makes of these.

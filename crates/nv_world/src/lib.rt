@@ -26,4 +26,4 @@ pub use measuring::{SizedLines, size_of_messages};
 pub use shared::{LinesEvent, SharedMessage, put_messages, put_shared_front};
 pub use step::{Moved, Step};
 pub use story::Start;
-pub use world::World;
+pub use world::{LEAST_OUTBOX, MOST_OUTBOX, World};

@@ -6,7 +6,7 @@ ghost use Rattle.nv_history.specs.Worlds.{World as ModelWorld, session_of};
 ghost use Rattle.nv_world.specs.Contents.{plain_cause, plain_effect, plain_event, plain_stop};
 ghost use Rattle.nv_world.specs.Sizes.{bytes_due};
 ghost use Rattle.nv_world.specs.Steps.{AreLastSplices};
-ghost use Rattle.nv_world.specs.Worlds.{AppliesErr, AppliesOk, GivesFewCells, GivesSendable, IsLightEvent, cause_of, is_any_due, model_of, outcome_of_event};
+ghost use Rattle.nv_world.specs.Worlds.{AppliesErr, AppliesOk, GivesFewCells, GivesSendable, IsLightEvent, IsOutboxSize, cause_of, is_any_due, model_of, outcome_of_event};
 ghost use Rattle.nv_world.specs.inside.Entering.{is_entry};
 
 use crate::effect::{Cause, Effect, Stop};
@@ -21,6 +21,11 @@ use nv_editor::Editor;
 use nv_model::Limits;
 use std::alloc::{AllocError, Global};
 use std::marker::Model;
+
+/// The fewest messages that an outbox may have room for, and the most.
+pub const LEAST_OUTBOX: u64 = 16;
+
+pub const MOST_OUTBOX: u64 = 1_048_576;
 
 /// One editor, the sessions that call it, and the history of all events. What contracts see of it
 /// is how many messages an outbox holds, the limits, the history, and whether it is spent; the
@@ -78,7 +83,7 @@ impl World {
     /// A world with a fresh editor, without sessions and without entries. An outbox holds so many
     /// messages.
     pub fn new(alloc: Global, limits: Limits, outbox: u32) -> Result<World, AllocError>
-        requires outbox { (16 ≤ outbox) × (outbox ≤ 1048576) }
+        requires outbox { IsOutboxSize outbox }
         requires entries { 1 ≤ limits.entries }
         ensures { IfOk result (λ world. world ≡ record {
           capacity = outbox;

@@ -1,50 +1,25 @@
--- inside: functions and events as the tables of the code have them.
+-- inside: events as the table of the code has them.
 use Prim.Native.String.{String}
-use Rattle.std.specs.Prelude.{ℕ, List, [], ◌∷◌, ◌++◌, map, take, drop, codes}
-use Rattle.nv_value.specs.Content.{Tree, truth, text}
-use Rattle.nv_args.specs.Table.{Signature, type_name, result_name, table}
+use Rattle.std.specs.Prelude.{ℕ, List, [], ◌∷◌, ◌++◌, map, codes}
+use Rattle.nv_value.specs.Content.{Tree, text}
 use Rattle.nv_model.specs.Answering.{array_of, natural, key_value, dict_of}
-use Rattle.nv_api_buf.specs.Metadata.{is_method}
 use Rattle.nv_api_buf.specs.declared.told.Told.{Told}
 
--- a name, the type and the name of each parameter, and the type of the result
+-- an event: its name, and the type and the name of each parameter
 pub record ToldForm : Type 0 where
   pub name : List ℕ
   pub parameters : List (List ℕ × List ℕ)
-  pub result : List ℕ
 
--- a row of the code's tables, and that of a method
+-- a row of the code's table
 abbrev pub form_of_row : Told → ToldForm
 form_of_row t = record {
   name = t.name.now;
   parameters = map (λ p. (p.0.now, p.1.now)) t.parameters.now;
-  result = t.result.now;
 }
 
-abbrev pub form_of_method : Signature → ToldForm
-form_of_method f = record {
-  name = f.name;
-  parameters = map (λ p. (type_name p.kind, p.name)) f.parameters;
-  result = result_name f.result;
-}
-
--- so many functions from one of this number, counted from 0
-abbrev pub forms_from : ℕ → ℕ → List ToldForm
-forms_from from count = map form_of_method (take count (drop from table))
-
--- a parameter, a function and an event of such a shape
+-- a parameter and an event of such a shape
 abbrev pub parameter_shaped : List ℕ × List ℕ → Tree
 parameter_shaped p = array_of (text p.0 ∷ text p.1 ∷ [])
-
-abbrev pub function_shaped : ToldForm → Tree
-function_shaped f =
-    dict_of (
-    key_value "name" (text f.name)
-    ∷ key_value "since" (natural 1)
-    ∷ key_value "method" (truth (is_method f.name))
-    ∷ key_value "parameters" (array_of (map parameter_shaped f.parameters))
-    ∷ key_value "return_type" (text f.result)
-    ∷ [])
 
 abbrev pub event_shaped : ToldForm → Tree
 event_shaped e =
@@ -54,7 +29,7 @@ event_shaped e =
 -- the shapes of the events
 abbrev shape : String → List (List ℕ × List ℕ) → ToldForm
 shape name parameters =
-    record { name = codes name; parameters = parameters; result = codes "void" }
+    record { name = codes name; parameters = parameters }
 
 abbrev of_type : String → List String → List (List ℕ × List ℕ)
 of_type kind names = map (λ name. (codes kind, codes name)) names

@@ -15,6 +15,7 @@ use Rattle.nv_halves.specs.declared.insisting.Asked.TheVariants as asked
 use Rattle.nv_halves.specs.declared.steps.Intake.{Intake}
 use Rattle.nv_halves.specs.declared.steps.Stepped.{Stepped}
 use Rattle.nv_halves.specs.declared.steps.Stepped.TheVariants as stepped
+use Rattle.nv_halves.specs.declared.reader.TheConstants.{PIECE}
 
 -- the state of an intake that can go on
 pub record IsReadable (s : Intake) : Type 0 where
@@ -104,7 +105,7 @@ abbrev pub HoldsPiece : {A : Type 0} → Type 0 → Result A ReaderEnd → List 
     → Type 0
 HoldsPiece over (Ok done) piece old new =
     (new.stream ≡ with_piece old.stream piece) × (new.number ≡ old.number) × (0 < length piece)
-    × (length piece ≤ 65536)
+    × (length piece ≤ PIECE)
 HoldsPiece over (Err end) piece old new =
     (p : WorldPass) (s : ℕ) → StopsIn over end (old.stream.held ++ piece) old p p s
 
@@ -114,7 +115,7 @@ abbrev pub MakesPiece : {A : Type 0} → Type 0 → Result A ReaderEnd → List 
     → WorldPass → WorldPass → ℕ → Type 0
 MakesPiece over (Ok done) piece old new p q s =
     MakesCalls (old.stream.held ++ piece) old new p q s × IsReadable new × NeedsMore new.stream
-    × (0 < length piece) × (length piece ≤ 65536)
+    × (0 < length piece) × (length piece ≤ PIECE)
 MakesPiece over (Err end) piece old new p q s =
     StopsIn over end (old.stream.held ++ piece) old p q s
 

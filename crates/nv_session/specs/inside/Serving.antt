@@ -19,6 +19,7 @@ use Rattle.nv_session.specs.Ends.{IsFront}
 use Rattle.nv_session.specs.inside.Worlds.{entries_in}
 use Rattle.nv_session.specs.inside.Alone.{IsAlone, IsClosing, WentOn, WentPart, WentUpTo}
 use Rattle.nv_session.specs.declared.session.Session.{Session}
+use Rattle.nv_session.specs.declared.session.TheConstants.{PIECE}
 
 -- the bytes of a session that wait to be written
 abbrev pub bytes_waiting : Session → List ℕ
@@ -206,9 +207,9 @@ abbrev pub TakesPiece : {A : Type 0} → Type 0 → Result A Ended → List ℕ 
 TakesPiece over (Ok done) piece old new =
     (new.stream ≡ with_piece old.stream piece) × (new.number ≡ old.number)
     × (new.world ≡ old.world) × (new.painter ≡ old.painter) × (0 < length piece)
-    × (length piece ≤ 65536)
+    × (length piece ≤ PIECE)
 TakesPiece over (Err ended) piece old new =
-    (length piece ≤ 65536)
+    (length piece ≤ PIECE)
     × ((out : Option (List ℕ)) → EndsIn over ended (old.stream.held ++ piece) old new out out)
 
 -- what a session did with a piece: it answered the calls that are whole by it and needs more bytes,
@@ -217,6 +218,6 @@ abbrev pub Turns : {A : Type 0} → Type 0 → Result A Ended → List ℕ → S
     → Option (List ℕ) → Option (List ℕ) → Type 0
 Turns over (Ok done) piece old new before after =
     ServesCalls (old.stream.held ++ piece) old new before after × IsReady new × NeedsMore new.stream
-    × (0 < length piece) × (length piece ≤ 65536)
+    × (0 < length piece) × (length piece ≤ PIECE)
 Turns over (Err ended) piece old new before after =
-    (length piece ≤ 65536) × EndsIn over ended (old.stream.held ++ piece) old new before after
+    (length piece ≤ PIECE) × EndsIn over ended (old.stream.held ++ piece) old new before after

@@ -5,7 +5,7 @@ use Rattle.nv_value.specs.View.{content}
 use Rattle.nv_msgpack.specs.Shortest.{HaveSpellings}
 use Rattle.nv_rpc.specs.Messages.{buffer_handle}
 use Rattle.nv_api_buf.proofs.Others.{one_more}
-use Rattle.nv_api_buf.proofs.Spelled.{spelled-more}
+use Rattle.nv_args.proofs.Spelled.{spelled-more}
 use Rattle.nv_api_buf.proofs.buffers.handle_values.Goals as goal
 
 pub loop-handle-preserved : goal.loop-handle-preserved

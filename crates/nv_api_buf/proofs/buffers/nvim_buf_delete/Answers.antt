@@ -12,7 +12,8 @@ use Rattle.nv_model.specs.Seen.{Seen, SeenBuffer}
 use Rattle.nv_model.specs.Standing.{seen_now, seen_buffer_now}
 use Rattle.nv_editor.specs.Sound.{content_at}
 use Rattle.nv_api_buf.specs.inside.Deciding.{delete_answer, unless_kept}
-use Rattle.nv_api_buf.proofs.Deciding.{gives_refused, gives_on, finds_none, finds_fault}
+use Rattle.nv_editor.proofs.Giving.{gives_on}
+use Rattle.nv_api_buf.proofs.Deciding.{gives_refused, finds_none, finds_fault}
 use Rattle.std.proofs.Common.{codes}
 use Rattle.nv_api_buf.proofs.buffers.nvim_buf_delete.Goals as goal
 

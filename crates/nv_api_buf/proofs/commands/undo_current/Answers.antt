@@ -3,7 +3,8 @@ use Rattle.std.proofs.lemmas.Result.{err_from_is_err_and}
 use Rattle.nv_model.specs.Answers.{Answer}
 use Rattle.nv_model.specs.Seen.{Seen, SeenBuffer}
 use Rattle.nv_model.specs.Standing.{seen_now}
-use Rattle.nv_api_buf.proofs.Deciding.{gives_refused, gives_on}
+use Rattle.nv_editor.proofs.Giving.{gives_on}
+use Rattle.nv_api_buf.proofs.Deciding.{gives_refused}
 use Rattle.nv_undo.specs.Ways.{undo_legs}
 use Rattle.nv_model.specs.Seen.{sealed_undo}
 use Rattle.nv_api_buf.specs.CommandRows.{legs_answer}

@@ -5,7 +5,8 @@ use Rattle.nv_model.specs.Answers.{Answer}
 use Rattle.nv_model.specs.Seen.{Seen, SeenBuffer}
 use Rattle.nv_model.specs.Standing.{seen_now, seen_buffer_now}
 use Rattle.nv_editor.specs.Sound.{content_at}
-use Rattle.nv_api_buf.proofs.Deciding.{refused_by, gives_refused, gives_on}
+use Rattle.nv_editor.proofs.Giving.{gives_on}
+use Rattle.nv_api_buf.proofs.Deciding.{refused_by, gives_refused}
 use Rattle.std.specs.Prelude.{nat_lt}
 use Rattle.std.proofs.lemmas.Bool.Decides.{nat_tests}
 use Rattle.nv_undo.specs.Tree.{last}

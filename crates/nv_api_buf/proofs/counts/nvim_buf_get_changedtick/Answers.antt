@@ -8,15 +8,15 @@ use Rattle.nv_model.specs.Standing.{seen_buffer_now}
 use Rattle.nv_api_buf.proofs.Deciding.{reads_refused}
 use Rattle.nv_api_buf.proofs.counts.nvim_buf_get_changedtick.Goals as goal
 
-pub returns-in_err-live-clause-row : goal.returns-in_err-live-clause-row
-returns-in_err-live-clause-row c session =
+pub returns-in_err-found-clause-row : goal.returns-in_err-found-clause-row
+returns-in_err-found-clause-row c session =
     let next : ℤ → SeenBuffer → Answer = λ n b. reply_of (integer (pos b.tick)) in
     let p = err_from_is_err_and c.from_residual.result c.from_residual.ensures.1 in
-    rw (p.1, p.2) (reads_refused _ _ c.in_err-live.field-0.0 refl (c.in_err-live.ensures.row next))
+    rw (p.1, p.2) (reads_refused _ _ c.in_err-found.field-0.0 refl (c.in_err-found.ensures.row next))
 
 pub returns-clause-row : goal.returns-clause-row
 returns-clause-row c session =
     let next : ℤ → SeenBuffer → Answer = λ n b. reply_of (integer (pos b.tick)) in
-    c.in_ok-live.ensures.row next
-    ∙ ap (λ b. reply_of (integer (pos (seen_buffer_now b).tick))) (sym c.buffer_at.ensures)
+    c.in_ok-found.ensures.row next
+    ∙ ap (λ b. reply_of (integer (pos (seen_buffer_now b).tick))) (sym c.in_ok-found.ensures.buffer)
     ∙ ap reply_of (sym c.tick_value.ensures.value)

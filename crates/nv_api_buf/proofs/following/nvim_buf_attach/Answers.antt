@@ -27,35 +27,35 @@ attach args n b = replied (truth true) [] (attached n b.tick (if flag_at args 1 
 abbrev next : List Arg → ℤ → SeenBuffer → Answer
 next args n b = fault_or (map_fault [] (last_pairs (pairs_at args 2))) (attach args n b)
 
-pub returns-in_err-live-clause-row : goal.returns-in_err-live-clause-row
-returns-in_err-live-clause-row c session =
+pub returns-in_err-found-clause-row : goal.returns-in_err-found-clause-row
+returns-in_err-found-clause-row c session =
     let p = err_from_is_err_and c.from_residual.result c.from_residual.ensures.1 in
-    rw (p.1, p.2) (gives_refused _ _ c.in_err-live.field-0.0 c.args.editor.now c.args.happened.now refl (c.in_err-live.ensures.row (next (typed_arguments c.args.args.now))))
+    rw (p.1, p.2) (gives_refused _ _ c.in_err-found.field-0.0 c.args.editor.now c.args.happened.now refl (c.in_err-found.ensures.row (next (typed_arguments c.args.args.now))))
 
 pub returns-in_err-map_fault-clause-row : goal.returns-in_err-map_fault-clause-row
 returns-in_err-map_fault-clause-row c session =
     let e = c.args.editor.now in
     let args = typed_arguments c.args.args.now in
-    let n = c.in_ok-live.live.handle in
+    let n = c.in_ok-found.found.live.handle in
     let rest = attach args n (seen_buffer_now (content_at e n)) in
     let p = err_from_is_err_and c.from_residual-in_err-map_fault.result c.from_residual-in_err-map_fault.ensures.1 in
     rw (p.1, p.2) (gives_refused _ _ c.in_err-map_fault.field-0.0 e c.args.happened.now
-    (c.in_ok-live.ensures.row (next args) ∙ ap (λ (ps : List (Tree × Tree)). fault_or (map_fault [] (last_pairs ps)) rest) (sym c.pairs.ensures))
+    (c.in_ok-found.ensures.row (next args) ∙ ap (λ (ps : List (Tree × Tree)). fault_or (map_fault [] (last_pairs ps)) rest) (sym c.pairs.ensures))
     (finds_fault (Unit {0}) _ rest c.in_err-map_fault.field-0.0 c.in_err-map_fault.ensures))
 
 pub returns-clause-row : goal.returns-clause-row
 returns-clause-row c session =
     let e = c.args.editor.now in
     let args = typed_arguments c.args.args.now in
-    let n = c.in_ok-live.live.handle in
+    let n = c.in_ok-found.found.live.handle in
     let rest = attach args n (seen_buffer_now (content_at e n)) in
-    let b = c.buffer_at-buffer.ensures in
+    let b = c.in_ok-found.ensures.buffer in
     let fits : FitsSigned w64 c.tick.result = search rules in
     let whole : c.in_ok-whole.whole ≡ (if flag_at args 1 then Some (content_at e n).text else None) =
     c.in_ok-whole.ensures ∙ (λ i. if c.flag.ensures i then Some (b i).text else None) in
     let tick : c.tick.result ≡ (content_at e n).tick = c.tick.ensures ∙ ap (λ (x : Content). x.tick) b in
     replies_on _ _ (content (Truth true)) e e c.args.happened.now c.push.new.self
-    (c.in_ok-live.ensures.row (next args) ∙ ap (λ (ps : List (Tree × Tree)). fault_or (map_fault [] (last_pairs ps)) rest) (sym c.pairs.ensures)
+    (c.in_ok-found.ensures.row (next args) ∙ ap (λ (ps : List (Tree × Tree)). fault_or (map_fault [] (last_pairs ps)) rest) (sym c.pairs.ensures)
     ∙ finds_none _ rest c.in_ok-map_fault.ensures
     ∙ (λ i. replied (truth true) [] (attached n (nat_abs (sym tick i)) (sym whole i) ∷ [])))
     (content-Truth true, (λ m stands. stands), search rules)

@@ -12,7 +12,8 @@ use Rattle.nv_model.specs.Standing.{seen_now, seen_buffer_now}
 use Rattle.nv_editor.specs.Sound.{content_at}
 use Rattle.nv_api_buf.specs.TextRows.{put_answer}
 use Rattle.nv_api_buf.specs.inside.Deciding.{unless_barred, unless_newline}
-use Rattle.nv_api_buf.proofs.Deciding.{gives_refused, gives_on}
+use Rattle.nv_editor.proofs.Giving.{gives_on}
+use Rattle.nv_api_buf.proofs.Deciding.{gives_refused}
 use Rattle.nv_api_buf.proofs.Strings.{texts-are}
 use Rattle.nv_api_buf.specs.declared.lines.Rows.{Rows}
 use Rattle.nv_api_buf.proofs.lines.nvim_buf_set_lines.Goals as goal
@@ -28,27 +29,27 @@ rows_put e args n b rows = put_answer (seen_now e) n b (lines_at args 4)
 abbrev rows_next : PresentEditor → List Arg → ℤ → SeenBuffer → Answer
 rows_next e args n b = ordered_rows args (length b.lines) (rows_put e args n b)
 
-pub returns-in_err-live-clause-row : goal.returns-in_err-live-clause-row
-returns-in_err-live-clause-row c session =
+pub returns-in_err-found-clause-row : goal.returns-in_err-found-clause-row
+returns-in_err-found-clause-row c session =
     let p = err_from_is_err_and c.from_residual.result c.from_residual.ensures.1 in
-    rw (p.1, p.2) (gives_refused _ _ c.in_err-live.field-0.0 c.args.editor.now c.args.happened.now refl
-    (c.in_err-live.ensures.row (rows_next c.args.editor.now (typed_arguments c.args.args.now))))
+    rw (p.1, p.2) (gives_refused _ _ c.in_err-found.field-0.0 c.args.editor.now c.args.happened.now refl
+    (c.in_err-found.ensures.row (rows_next c.args.editor.now (typed_arguments c.args.args.now))))
 
 pub returns-in_err-rows-clause-row : goal.returns-in_err-rows-clause-row
 returns-in_err-rows-clause-row c session =
     let e = c.args.editor.now in
     let args = typed_arguments c.args.args.now in
-    let n = c.in_ok-live.live.handle in
+    let n = c.in_ok-found.found.live.handle in
     let p = err_from_is_err_and c.from_residual-in_err-rows.result c.from_residual-in_err-rows.ensures.1 in
     rw (p.1, p.2) (gives_refused _ _ c.in_err-rows.field-0.0 e c.args.happened.now
-    (c.in_ok-live.ensures.row (rows_next e args) ∙ ap (λ (b : Content). ordered_rows args (length b.text) (rows_put e args n (seen_buffer_now (content_at e n)))) (sym c.buffer_at.ensures))
+    (c.in_ok-found.ensures.row (rows_next e args) ∙ ap (λ (b : Content). ordered_rows args (length b.text) (rows_put e args n (seen_buffer_now (content_at e n)))) (sym c.in_ok-found.ensures.buffer))
     (c.in_err-rows.ensures.row (rows_put e args n (seen_buffer_now (content_at e n)))))
 
 pub returns-in_err-new-clause-row : goal.returns-in_err-new-clause-row
 returns-in_err-new-clause-row c session =
     let e = c.args.editor.now in
     let args = typed_arguments c.args.args.now in
-    let n = c.in_ok-live.live.handle in
+    let n = c.in_ok-found.found.live.handle in
     let b = seen_buffer_now (content_at e n) in
     let rows = c.in_ok-rows.rows in
     let new = texts-are c.lines-strings.result.now _ c.lines-strings.ensures in
@@ -56,7 +57,7 @@ returns-in_err-new-clause-row c session =
     let rest : Answer = unless_barred e.stage.limits b splice (splice_answer n b splice) in
     let p = err_from_is_err_and c.from_residual-in_err-new.result c.from_residual-in_err-new.ensures.1 in
     rw (p.1, p.2) (gives_refused _ _ c.in_err-new.field-0.0 e c.args.happened.now
-    (c.in_ok-live.ensures.row (rows_next e args) ∙ ap (λ (x : Content). ordered_rows args (length x.text) (rows_put e args n b)) (sym c.buffer_at.ensures)
+    (c.in_ok-found.ensures.row (rows_next e args) ∙ ap (λ (x : Content). ordered_rows args (length x.text) (rows_put e args n b)) (sym c.in_ok-found.ensures.buffer)
     ∙ c.in_ok-rows.ensures.row (rows_put e args n b)
     ∙ ap (λ (t : List (List ℕ)). unless_newline t rest) (sym new))
     (c.in_err-new.ensures.row rest))
@@ -65,7 +66,7 @@ pub returns-clause-row : goal.returns-clause-row
 returns-clause-row c session =
     let e = c.args.editor.now in
     let args = typed_arguments c.args.args.now in
-    let n = c.in_ok-live.live.handle in
+    let n = c.in_ok-found.found.live.handle in
     let b = seen_buffer_now (content_at e n) in
     let rows = c.in_ok-rows.rows in
     let new = texts-are c.lines-strings.result.now _ c.lines-strings.ensures in
@@ -73,7 +74,7 @@ returns-clause-row c session =
     let splice = rows_splice b.next b.lines rows.from rows.to (lines_put rows.from rows.to (lines_at args 4) b.lines) in
     let rest : Answer = unless_barred e.stage.limits b splice (splice_answer n b splice) in
     gives_on _ _ c.put_rows.result e c.put_rows.new.editor c.args.happened.now c.put_rows.new.happened
-    (c.in_ok-live.ensures.row (rows_next e args) ∙ ap (λ (x : Content). ordered_rows args (length x.text) (rows_put e args n b)) (sym c.buffer_at.ensures)
+    (c.in_ok-found.ensures.row (rows_next e args) ∙ ap (λ (x : Content). ordered_rows args (length x.text) (rows_put e args n b)) (sym c.in_ok-found.ensures.buffer)
     ∙ c.in_ok-rows.ensures.row (rows_put e args n b)
     ∙ ap (λ (t : List (List ℕ)). unless_newline t rest) (sym new)
     ∙ c.in_ok-new.ensures.row rest

@@ -3,7 +3,7 @@ use Rattle.nv_args.specs.Args.{typed_arguments}
 use Rattle.nv_args.specs.Arguments.{last_pairs}
 use Rattle.nv_args.specs.Reading.{number_at}
 use Rattle.nv_api_mark.specs.GroupRows.{group_answer}
-use Rattle.nv_api_mark.proofs.Steps.{gives_on}
+use Rattle.nv_editor.proofs.Giving.{gives_on}
 use Rattle.nv_api_mark.proofs.grouping.nvim_set_hl.Goals as goal
 
 pub returns-clause-row : goal.returns-clause-row

@@ -9,7 +9,7 @@ use Rattle.nv_args.specs.Faults.{out_of_bounds}
 use Rattle.nv_model.specs.Answers.{refused}
 use Rattle.nv_model.specs.Answering.{fault_or, reply_of}
 use Rattle.nv_api_mark.specs.GroupRows.{group_put_answer, highlight_fault, stays}
-use Rattle.nv_api_mark.proofs.Steps.{gives_on}
+use Rattle.nv_editor.proofs.Giving.{gives_on}
 use Rattle.nv_api_mark.proofs.grouping.put_unless_stays.Goals as goal
 
 pub returns-clause-row : goal.returns-clause-row

@@ -11,7 +11,7 @@ use Rattle.nv_api_mark.specs.GroupRows.{group_in, groups_operations, link_in}
 use Rattle.nv_api_mark.specs.Groups.{id_among}
 use Rattle.nv_api_mark.specs.inside.Grouping.{putting_answer}
 use Rattle.nv_api_mark.proofs.GroupsNamed.{put_is}
-use Rattle.nv_api_mark.proofs.Steps.{gives_on}
+use Rattle.nv_editor.proofs.Giving.{gives_on}
 use Rattle.nv_api_mark.proofs.grouping.put_within_limit.Goals as goal
 
 pub returns-clause-row : goal.returns-clause-row

@@ -6,7 +6,7 @@ use Rattle.nv_value.proofs.Contents.{content-List}
 use Rattle.nv_msgpack.specs.Shortest.{HasSpelling, HaveSpellings}
 use Rattle.nv_model.specs.Answering.{array_of}
 use Rattle.nv_api_mark.specs.Listing.{listed_mark}
-use Rattle.nv_api_mark.proofs.Spelled.{list-spelled, made-all, made-more, spelled-more}
+use Rattle.nv_args.proofs.Spelled.{list-spelled, made-all, made-more, spelled-more}
 use Rattle.nv_api_mark.proofs.listing.detailed_marks.Goals as goal
 
 pub loop-mark-preserved : goal.loop-mark-preserved

@@ -12,7 +12,8 @@ use Rattle.nv_model.specs.Stage.{or_current}
 use Rattle.nv_model.specs.Standing.{seen_now, seen_buffer_now}
 use Rattle.nv_editor.specs.Doing.{GivesAnswer}
 use Rattle.nv_api_mark.specs.inside.Marking.{draft_answer, keyed_answer}
-use Rattle.nv_api_mark.proofs.Steps.{gives_on, gives_stop, on_found}
+use Rattle.nv_editor.proofs.Giving.{gives_on}
+use Rattle.nv_api_mark.proofs.Steps.{gives_stop, on_found}
 use Rattle.nv_api_mark.proofs.marks.nvim_buf_set_extmark.Goals as goal
 
 pub returns-in_err-draft-clause-row : goal.returns-in_err-draft-clause-row

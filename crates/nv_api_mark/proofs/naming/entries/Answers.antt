@@ -5,7 +5,8 @@ use Rattle.nv_value.specs.View.{pair_content}
 use Rattle.nv_value.proofs.Contents.{content-Pairs}
 use Rattle.nv_msgpack.specs.Shortest.{HasSpelling, HaveSpellings}
 use Rattle.nv_model.specs.Answering.{dict_of, natural}
-use Rattle.nv_api_mark.proofs.Spelled.{dict-spelled, made-all, made-more, turns-more}
+use Rattle.nv_args.proofs.Spelled.{made-all, made-more}
+use Rattle.nv_api_mark.proofs.Spelled.{dict-spelled, turns-more}
 use Rattle.nv_api_mark.proofs.naming.entries.Goals as goal
 
 abbrev told : Bor (List ℕ) × ℕ → Tree × Tree

@@ -6,7 +6,7 @@ use Rattle.nv_value.proofs.Contents.{content-List}
 use Rattle.nv_msgpack.specs.Shortest.{HasSpelling, HaveSpellings}
 use Rattle.nv_model.specs.Answering.{array_of}
 use Rattle.nv_api_ui.specs.UiRows.{ui_dict}
-use Rattle.nv_api_ui.proofs.Spelling.{list-spelled, made-all, made-more, spelled-more}
+use Rattle.nv_args.proofs.Spelled.{list-spelled, made-all, made-more, spelled-more}
 use Rattle.nv_api_ui.proofs.values.ui_list.Goals as goal
 
 pub loop-ui-preserved : goal.loop-ui-preserved

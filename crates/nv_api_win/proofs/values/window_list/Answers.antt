@@ -6,7 +6,7 @@ use Rattle.nv_value.proofs.Contents.{content-List}
 use Rattle.nv_msgpack.specs.Shortest.{HasSpelling, HaveSpellings}
 use Rattle.nv_model.specs.Answering.{array_of}
 use Rattle.nv_api_win.specs.Windows.{window_handle}
-use Rattle.nv_api_win.proofs.Spelling.{handles-all, handles-more, handles-spelled, spelled-more}
+use Rattle.nv_args.proofs.Spelled.{list-spelled, made-all, made-more, spelled-more}
 use Rattle.nv_api_win.proofs.values.window_list.Goals as goal
 
 pub loop-number-preserved : goal.loop-number-preserved
@@ -17,7 +17,7 @@ loop-number-preserved c =
     ap (map content) c.in_ok-push.ensures.items ∙ map-append content c.loop-number.items.items (c.in_ok-window_value.field-0 ∷ []) in
     let is : t ≡ window_handle (get_or c.args.numbers.now c.loop-number.number-index (pos 0)) = search rules in
     record {
-      all = handles-more window_handle before (map content c.push.new.self.items) t c.args.numbers.now c.loop-number.number-index (pos 0) c.loop-number-test.true c.loop-number.invariant.all more is;
+      all = made-more window_handle before (map content c.push.new.self.items) t c.args.numbers.now c.loop-number.number-index (pos 0) c.loop-number-test.true c.loop-number.invariant.all more is;
       spelled = subst (λ (ts : List Tree). HaveSpellings (trees_of ts)) (sym more) (spelled-more before t c.loop-number.invariant.spelled c.in_ok-window_value.ensures.spelled);
     }
 
@@ -25,11 +25,11 @@ pub returns-clause-value : goal.returns-clause-value
 returns-clause-value c =
     let made : List Tree = map content c.loop-number.items.items in
     content-List c.loop-number.items
-    ∙ ap array_of (handles-all window_handle made c.args.numbers.now c.loop-number.number-index c.loop-number-test.false c.loop-number.invariant.all)
+    ∙ ap array_of (made-all window_handle made c.args.numbers.now c.loop-number.number-index c.loop-number-test.false c.loop-number.invariant.all)
 
 pub returns-clause-spelled : goal.returns-clause-spelled
 returns-clause-spelled c =
     let made : List Tree = map content c.loop-number.items.items in
     subst HasSpelling (sym (content-List c.loop-number.items))
-    (handles-spelled window_handle made c.args.numbers.now (handles-all window_handle made c.args.numbers.now c.loop-number.number-index c.loop-number-test.false c.loop-number.invariant.all)
+    (list-spelled window_handle made c.args.numbers.now (made-all window_handle made c.args.numbers.now c.loop-number.number-index c.loop-number-test.false c.loop-number.invariant.all)
     (omega arith) c.loop-number.invariant.spelled)

@@ -5,7 +5,7 @@ use Rattle.nv_args.proofs.args.first_wrong.Goals as goal
 pub returns-then-not-takes : goal.returns-then-not-takes
 returns-then-not-takes c = record {
   place =
-      wrong-here c.args.kinds.now c.args.values.now c.loop-place.place _ c.index-values-place.result _ _
+      wrong-here c.args.parameters.now c.args.values.now c.loop-place.place _ c.index-values-place.result _ _
       (omega arith) (omega arith) c.index-values-place.is c.takes.ensures c.if-not-takes.true c.loop-place.invariant;
   within = omega arith;
 }
@@ -13,5 +13,5 @@ returns-then-not-takes c = record {
 pub loop-place-preserved : goal.loop-place-preserved
 loop-place-preserved c =
     let next : c.loop-place.place + 1 ≡ suc c.loop-place.place = omega arith in
-    wrong-behind c.args.kinds.now c.args.values.now c.loop-place.place (c.loop-place.place + 1) _ c.index-values-place.result _ _
+    wrong-behind c.args.parameters.now c.args.values.now c.loop-place.place (c.loop-place.place + 1) _ c.index-values-place.result _ _
     (omega arith) (omega arith) c.index-values-place.is c.takes.ensures c.if-not-takes.false next c.loop-place.invariant

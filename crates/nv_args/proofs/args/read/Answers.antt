@@ -8,17 +8,12 @@ use Rattle.nv_args.proofs.args.read.Goals as goal
 
 pub returns-in-Some : goal.returns-in-Some
 returns-in-Some c =
-    let kinds = c.kinds-kinds.result.now in
-    let many : length (map content c.args.params.now) ≡ length kinds = omega (arith, length-map c.args.params.now content) in
+    let many : length (map content c.args.params.now) ≡ length c.args.signature.now.parameters.now = omega (arith, length-map c.args.params.now content) in
     meets_refused typed_arguments c.wrong_type.result _ _ c.wrong_type.ensures
-    (read-refused c.args.method kinds (map content c.args.params.now) c.in-Some.place (c.in-Some.place + 1) _ c.name.result.now c.type_name.result.now
-    c.kinds-kinds.ensures.kinds many
-    c.in-Some.ensures.place
-    c.in-Some.ensures.within refl c.name.ensures.name c.type_name.ensures)
+    (read-refused c.args.signature.now (map content c.args.params.now) c.in-Some.place (c.in-Some.place + 1) _ c.type_name.result.now
+    many c.in-Some.ensures.place c.in-Some.ensures.within refl c.type_name.ensures)
 
 pub returns-in-None : goal.returns-in-None
 returns-in-None c =
-    let kinds = c.kinds-kinds.result.now in
-    let many : length (map content c.args.params.now) ≡ length kinds = omega (arith, length-map c.args.params.now content) in
-    read-accepted c.args.method (record { kinds = c.kinds-kinds.result; values = c.args.params }) c.kinds-kinds.ensures.kinds many
-    c.in-None.ensures.place
+    let many : length (map content c.args.params.now) ≡ length c.args.signature.now.parameters.now = omega (arith, length-map c.args.params.now content) in
+    read-accepted c.args.signature.now c.args.params many c.in-None.ensures.place

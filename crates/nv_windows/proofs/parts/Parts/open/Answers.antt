@@ -16,7 +16,7 @@ pub returns-in_default-clause-told : goal.returns-in_default-clause-told
 returns-in_default-clause-told c = no_room (workspace_of c.args.self.now) c.args.beside c.args.side true (sym c.window_left.ensures ∙ c.if-not-window_left.false) (ap (room_of (workspace_of c.args.self.now) c.args.beside c.args.side) (home_missing (workspace_of c.args.self.now) c.args.beside (home_is c.deref.result.now c.args.self.now.tabpages.items c.args.beside (to_z w64 (of_z w64 c.args.beside)) None c.deref.ensures.value (to_z-of_z w64 c.args.beside c.ranges.beside) (sym c.in_default.is ∙ c.home_of.ensures.place))))
 
 pub returns-in_default-clause-after : goal.returns-in_default-clause-after
-returns-in_default-clause-after c = not_opened (workspace_of c.args.self.now) c.args.beside c.args.side c.args.buffer c.args.width c.args.height c.args.enter (ap (room_of (workspace_of c.args.self.now) c.args.beside c.args.side) (home_missing (workspace_of c.args.self.now) c.args.beside (home_is c.deref.result.now c.args.self.now.tabpages.items c.args.beside (to_z w64 (of_z w64 c.args.beside)) None c.deref.ensures.value (to_z-of_z w64 c.args.beside c.ranges.beside) (sym c.in_default.is ∙ c.home_of.ensures.place))))
+returns-in_default-clause-after c = not_opened (workspace_of c.args.self.now) c.args.beside c.args.side c.args.buffer c.args.wishes.width c.args.wishes.height c.args.enter (ap (room_of (workspace_of c.args.self.now) c.args.beside c.args.side) (home_missing (workspace_of c.args.self.now) c.args.beside (home_is c.deref.result.now c.args.self.now.tabpages.items c.args.beside (to_z w64 (of_z w64 c.args.beside)) None c.deref.ensures.value (to_z-of_z w64 c.args.beside c.ranges.beside) (sym c.in_default.is ∙ c.home_of.ensures.place))))
 
 pub tree_opened-requires-clause-held : goal.tree_opened-requires-clause-held
 tree_opened-requires-clause-held c =
@@ -29,7 +29,7 @@ returns-then-not-fits-clause-told c = no_room (workspace_of c.args.self.now) c.a
     ∙ ap (has_room (workspace_of c.args.self.now)) (sym (c.in_ok-tree.ensures.tree ∙ ap (λ w. split c.args.side w (next_leaf (workspace_of c.args.self.now)) (page_at (workspace_of c.args.self.now) c.in-Some.home).tree) (to_z-of_z w64 c.args.beside c.ranges.beside))) ∙ sym c.fits.ensures ∙ c.if-not-fits.true)
 
 pub returns-then-not-fits-clause-after : goal.returns-then-not-fits-clause-after
-returns-then-not-fits-clause-after c = not_opened (workspace_of c.args.self.now) c.args.beside c.args.side c.args.buffer c.args.width c.args.height c.args.enter
+returns-then-not-fits-clause-after c = not_opened (workspace_of c.args.self.now) c.args.beside c.args.side c.args.buffer c.args.wishes.width c.args.wishes.height c.args.enter
     (ap (room_of (workspace_of c.args.self.now) c.args.beside c.args.side) (home_found (workspace_of c.args.self.now) c.args.beside c.in-Some.home (home_is c.deref.result.now c.args.self.now.tabpages.items c.args.beside (to_z w64 (of_z w64 c.args.beside)) (Some c.in-Some.home) c.deref.ensures.value (to_z-of_z w64 c.args.beside c.ranges.beside) (sym c.in-Some.is ∙ c.home_of.ensures.place)))
     ∙ ap (has_room (workspace_of c.args.self.now)) (sym (c.in_ok-tree.ensures.tree ∙ ap (λ w. split c.args.side w (next_leaf (workspace_of c.args.self.now)) (page_at (workspace_of c.args.self.now) c.in-Some.home).tree) (to_z-of_z w64 c.args.beside c.ranges.beside))) ∙ sym c.fits.ensures ∙ c.if-not-fits.true)
 
@@ -46,9 +46,9 @@ returns-clause-after c =
     c.enter_where.ensures
     ∙ ap (entered_where c.args.enter (to_z w64 (of_z w64 c.args.self.now.next_window))) (c.in_ok-put_opened.ensures.ok
     ∙ ap (λ b. with_next_window b (with_tree_at (workspace_of c.args.self.now) c.in-Some.home (shape_of c.wishing-tree.result))) (to_z-of_z w64 c.args.buffer c.ranges.buffer)
-    ∙ opened_whole (workspace_of c.args.self.now) c.args.beside c.args.side c.args.buffer c.args.width c.args.height c.in-Some.home (shape_of c.wishing-tree.result) c.requires.sound (home_is c.deref.result.now c.args.self.now.tabpages.items c.args.beside (to_z w64 (of_z w64 c.args.beside)) (Some c.in-Some.home) c.deref.ensures.value (to_z-of_z w64 c.args.beside c.ranges.beside) (sym c.in-Some.is ∙ c.home_of.ensures.place))
-    (c.wishing-tree.ensures ∙ (λ i. with_wishes (to_z-of_z w64 c.args.self.now.next_window fits i) c.args.width c.args.height ((c.in_ok-tree.ensures.tree ∙ ap (λ w. split c.args.side w (next_leaf (workspace_of c.args.self.now)) (page_at (workspace_of c.args.self.now) c.in-Some.home).tree) (to_z-of_z w64 c.args.beside c.ranges.beside)) i))))
-    ∙ ap (λ w. entered_where c.args.enter w (with_window c.args.beside c.args.side c.args.buffer c.args.width c.args.height (workspace_of c.args.self.now))) (to_z-of_z w64 c.args.self.now.next_window fits)
-    ∙ is_opened (workspace_of c.args.self.now) c.args.beside c.args.side c.args.buffer c.args.width c.args.height c.args.enter (sym c.window_left.ensures ∙ c.if-not-window_left.false)
+    ∙ opened_whole (workspace_of c.args.self.now) c.args.beside c.args.side c.args.buffer c.args.wishes.width c.args.wishes.height c.in-Some.home (shape_of c.wishing-tree.result) c.requires.sound (home_is c.deref.result.now c.args.self.now.tabpages.items c.args.beside (to_z w64 (of_z w64 c.args.beside)) (Some c.in-Some.home) c.deref.ensures.value (to_z-of_z w64 c.args.beside c.ranges.beside) (sym c.in-Some.is ∙ c.home_of.ensures.place))
+    (c.wishing-tree.ensures ∙ (λ i. with_wishes (to_z-of_z w64 c.args.self.now.next_window fits i) c.args.wishes.width c.args.wishes.height ((c.in_ok-tree.ensures.tree ∙ ap (λ w. split c.args.side w (next_leaf (workspace_of c.args.self.now)) (page_at (workspace_of c.args.self.now) c.in-Some.home).tree) (to_z-of_z w64 c.args.beside c.ranges.beside)) i))))
+    ∙ ap (λ w. entered_where c.args.enter w (with_window c.args.beside c.args.side c.args.buffer c.args.wishes.width c.args.wishes.height (workspace_of c.args.self.now))) (to_z-of_z w64 c.args.self.now.next_window fits)
+    ∙ is_opened (workspace_of c.args.self.now) c.args.beside c.args.side c.args.buffer c.args.wishes.width c.args.wishes.height c.args.enter (sym c.window_left.ensures ∙ c.if-not-window_left.false)
     (ap (room_of (workspace_of c.args.self.now) c.args.beside c.args.side) (home_found (workspace_of c.args.self.now) c.args.beside c.in-Some.home (home_is c.deref.result.now c.args.self.now.tabpages.items c.args.beside (to_z w64 (of_z w64 c.args.beside)) (Some c.in-Some.home) c.deref.ensures.value (to_z-of_z w64 c.args.beside c.ranges.beside) (sym c.in-Some.is ∙ c.home_of.ensures.place)))
     ∙ ap (has_room (workspace_of c.args.self.now)) (sym (c.in_ok-tree.ensures.tree ∙ ap (λ w. split c.args.side w (next_leaf (workspace_of c.args.self.now)) (page_at (workspace_of c.args.self.now) c.in-Some.home).tree) (to_z-of_z w64 c.args.beside c.ranges.beside))) ∙ sym c.fits.ensures ∙ c.if-not-fits.false)

@@ -1,0 +1,12 @@
+use Rattle.std.proofs.Common.{List, ap, sym, ◌∙◌}
+use Rattle.nv_value.specs.Content.{Tree, list, trees_of}
+use Rattle.nv_value.proofs.Contents.{content-List}
+use Rattle.nv_args.specs.Methods.{parameter_of}
+use Rattle.nv_api_buf.specs.Metadata.{parameter}
+use Rattle.nv_api_buf.proofs.Tables.{map_twice}
+use Rattle.nv_api_buf.proofs.metadata.parameters_of.Goals as goal
+
+pub returns : goal.returns
+returns c =
+    content-List c.in_ok-items.items
+    ∙ ap (λ (ts : List Tree). list (trees_of ts)) (c.in_ok-items.ensures ∙ sym (map_twice parameter parameter_of c.args.signature.now.parameters.now))
