@@ -1,5 +1,5 @@
 #!/usr/bin/python3
-"""Measures drawing (crates/draw_bench), and prints microseconds of processor time a screen.
+"""Measures drawing (crates/bench), and prints microseconds of processor time a screen.
 """
 
 import os
@@ -11,15 +11,15 @@ from session import processor_time
 
 
 HERE = os.path.dirname(os.path.abspath(__file__))
-CRATE = os.path.join(os.path.dirname(HERE), "crates", "draw_bench")
-PROGRAM = os.path.join(CRATE, "out", "draw_bench")
+CRATE = os.path.join(os.path.dirname(HERE), "crates", "bench")
+PROGRAM = os.path.join(CRATE, "out", "bench")
 TIMES = 2000
 
 
 def spent(what, times):
     """The processor time of so many screens, in seconds."""
     with processor_time() as taken:
-        subprocess.run([PROGRAM, what, str(times)], stdout=subprocess.DEVNULL, check=True)
+        subprocess.run([PROGRAM, "draw", what, str(times)], stdout=subprocess.DEVNULL, check=True)
     return taken()
 
 
@@ -29,7 +29,7 @@ def main():
     words.add_argument("rounds", metavar="ROUNDS", nargs="?", type=int, default=7, help=told)
     rounds = words.parse_args().rounds
     if not os.path.exists(PROGRAM):
-        raise Error("build it first: (cd crates/draw_bench && rt run -- screen 1)")
+        raise Error("build it first: (cd crates/bench && rt run)")
     for what, told in (
         ("screen", "120 by 40 in two windows"),
         ("long", "a line of 1 MB in 38 rows"),

@@ -1,4 +1,4 @@
--- What crates/mark_bench does, by Neovim's own calls. bench/marks.py runs it; the numbers that look
+-- What `bench marks` does, by Neovim's own calls. bench/marks.py runs it; the numbers that look
 -- random are the same ones, so both come to the same sums, and the lines printed are alike.
 local count, ends = tonumber(vim.env.MARKS), vim.env.ENDS == 'ends'
 local edits, line, line_end = 500, 'let column = 0; // x', 20

@@ -1,5 +1,5 @@
 #!/usr/bin/python3
-"""Measures the marks of a buffer (crates/mark_bench), and Neovim's beside them where `nvim` is on
+"""Measures the marks of a buffer (crates/bench), and Neovim's beside them where `nvim` is on
 the path.
 
 Both run pinned to one processor, and do the same in the same order: with 1,000, 10,000 and 100,000
@@ -19,7 +19,7 @@ from nvimd.command import Words, run
 
 
 HERE = os.path.dirname(os.path.abspath(__file__))
-PROGRAM = os.path.join(os.path.dirname(HERE), "crates", "mark_bench", "out", "mark_bench")
+PROGRAM = os.path.join(os.path.dirname(HERE), "crates", "bench", "out", "bench")
 SCRIPT = os.path.join(HERE, "marks.lua")
 NVIM = ["nvim", "--headless", "-u", "NONE", "-i", "NONE", "-n"]
 NVIM += ["-c", f"luafile {SCRIPT}", "-c", "qa!"]
@@ -69,7 +69,7 @@ def main():
     words.add_argument("rounds", metavar="ROUNDS", nargs="?", type=int, default=5, help=told)
     rounds = words.parse_args().rounds
     if not os.path.exists(PROGRAM):
-        raise Error("build it first: (cd crates/mark_bench && rt run)")
+        raise Error("build it first: (cd crates/bench && rt run)")
     nvim = shutil.which("nvim")
     print(f"load {os.getloadavg()[0]:.1f}, best of {rounds}")
     heads = f"{'Neovim':>9} {'Buffer':>9} {'ratio':>6}" if nvim else f"{'Buffer':>19}"
@@ -77,7 +77,7 @@ def main():
     calls = []
     for kind in ("points", "ends"):
         for marks in COUNTS:
-            sums, times = best([PROGRAM, str(marks), kind, "time"], marks, kind, rounds)
+            sums, times = best([PROGRAM, "marks", str(marks), kind, "time"], marks, kind, rounds)
             ours, theirs = figures(times, marks), {}
             if nvim:
                 other, times = best(NVIM, marks, kind, rounds)

@@ -1,5 +1,5 @@
 // Decodes and encodes the MessagePack values on standard input with msgpack-c, a number of times,
-// as crates/codec_bench does: msgpack_c decode|encode TIMES. It prints how many values there were,
+// as `bench codec` does: msgpack_c decode|encode TIMES. It prints how many values there were,
 // and how many bytes they are encoded to.
 #include <msgpack.h>
 #include <stdio.h>

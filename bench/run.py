@@ -1,5 +1,5 @@
 #!/usr/bin/python3
-"""Measures the codec (crates/codec_bench) beside msgpack-c, on the same bytes, and prints a table
+"""Measures the codec (crates/bench) beside msgpack-c, on the same bytes, and prints a table
 in MB/s of processor time.
 """
 
@@ -15,9 +15,11 @@ from spell import integer, items, text
 HERE = os.path.dirname(os.path.abspath(__file__))
 TOP = os.path.dirname(HERE)
 OUT = os.path.join(HERE, "out")
-CRATE = os.path.join(TOP, "crates", "codec_bench")
-OURS = os.path.join(CRATE, "out", "codec_bench")
-THEIRS = os.path.join(OUT, "msgpack_c")
+CRATE = os.path.join(TOP, "crates", "bench")
+PROGRAM = os.path.join(CRATE, "out", "bench")
+OURS = [PROGRAM, "codec"]
+MSGPACK_C = os.path.join(OUT, "msgpack_c")
+THEIRS = [MSGPACK_C]
 
 
 def inputs():
@@ -45,7 +47,7 @@ def inputs():
 
 def run_of(program, mode, times, path):
     """The processor's seconds that a run takes, and what it prints."""
-    words = [program, mode, str(times)]
+    words = [*program, mode, str(times)]
     with open(path, "rb") as data, processor_time() as taken:
         done = subprocess.run(words, stdin=data, capture_output=True, check=True)
     return taken(), done.stdout
@@ -76,9 +78,9 @@ def main():
         with open(path, "wb") as file:
             file.write(data)
         files.append((name, path, len(data)))
-    if not os.path.exists(OURS):
+    if not os.path.exists(PROGRAM):
         subprocess.run(["rt", "run"], cwd=CRATE, stdin=subprocess.DEVNULL, check=True)
-    compiler = ["cc", "-O2", "-o", THEIRS, os.path.join(HERE, "msgpack_c.c"), "-lmsgpackc"]
+    compiler = ["cc", "-O2", "-o", MSGPACK_C, os.path.join(HERE, "msgpack_c.c"), "-lmsgpackc"]
     there = subprocess.run(compiler).returncode == 0
     if not there:
         print("msgpack-c is missing (Debian: libmsgpack-dev): only the codec is measured")

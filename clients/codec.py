@@ -2,7 +2,7 @@
 """Compares the codec with Debian's python3-msgpack on 1,000 seeded values, both ways.
 
 Each value is packed by Python in its shortest form, and once more by hand in longer forms;
-`codec_bench copy` reads both streams and writes each value in its shortest spelling, which must be
+`bench codec copy` reads both streams and writes each value in its shortest spelling, which must be
 Python's bytes again, and Python must read the same values back.
 """
 
@@ -17,8 +17,8 @@ from check import TOP, Check, run, seeded
 from nvimd.values import unpacker
 
 
-CRATE = os.path.join(TOP, "crates", "codec_bench")
-PROGRAM = os.path.join(CRATE, "out", "codec_bench")
+CRATE = os.path.join(TOP, "crates", "bench")
+PROGRAM = os.path.join(CRATE, "out", "bench")
 SMALL = [0, 1, 31, 32, 127, 128, 255, 256, 32767, 32768, 65535, 65536]
 EDGES = [*SMALL, 2**31 - 1, 2**31, 2**32 - 1, 2**32, 2**63 - 1]
 LETTERS = [97, 0xE9, 0x4E16, 0x1F600]
@@ -70,7 +70,7 @@ def longer(v):
 
 def copied(stream):
     given = {"input": stream, "stdout": subprocess.PIPE}
-    return subprocess.run([PROGRAM, "copy"], check=True, **given).stdout
+    return subprocess.run([PROGRAM, "codec", "copy"], check=True, **given).stdout
 
 
 def clamped(v):

@@ -1,10 +1,11 @@
 #!/usr/bin/python3
-"""Compares docs/rows/codec.rows with msgpack for Python, with the input of codec_bench, and with
-what `nvimd embed` says.
+"""Compares docs/rows/codec.rows with msgpack for Python, with the input of the program `bench`, and
+with what `nvimd embed` says.
 
 1. Each row beside msgpack for Python, which reads the value and packs it in its shortest form.
-2. crates/codec_bench is run (by `rt ci`) on the bytes of each row, and has to write what the row
-   says: its files stdin and stdout are the ones that the rows make.
+2. crates/bench is run (by `rt ci`) on the bytes of each row, and has to write what the row says,
+   and then what it drew and what it did with marks: its files stdin and stdout are the ones that
+   the rows make.
 3. The program ends as the row says for the bytes of each flaw, in one piece and, where they are
    few, byte by byte.
 
@@ -23,7 +24,9 @@ from row_file import Wrong, bytes_in, lines_of
 
 
 ROWS = os.path.join(DOCS, "rows", "codec.rows")
-CRATE = os.path.join(TOP, "crates", "codec_bench")
+CRATE = os.path.join(TOP, "crates", "bench")
+# what it writes behind what it read: the cells of a screen, and the sums of works on 300 marks
+BEHIND = b"3388 cells\nset: 300\nset again: 300\nedit: 1001\nlist: 103750\nfind: 105505\n"
 WORDS = ("bad", "deep", "long", "cut")
 FEW = 1000
 LONG = 60  # seconds
@@ -45,7 +48,7 @@ class Row:
         self.value = self.value if found else None
 
     def told(self):
-        """What codec_bench writes for it."""
+        """What `bench codec read` writes for it."""
         if self.flaw:
             return f"{self.flaw[0]} {self.flaw[1]}\n".encode()
         return self.shortest + f" in {len(self.data)}\n".encode()
@@ -136,11 +139,11 @@ def is_as_the_program_says(row):
 
 
 def written(found):
-    """The files of codec_bench by their names."""
+    """The files of the program by their names."""
     return {
-        "args": b"read\n",
+        "args": b"all\n",
         "stdin": b"".join(msgpack.packb(row.data + row.after) for row in found),
-        "stdout": b"".join(row.told() for row in found),
+        "stdout": b"".join(row.told() for row in found) + BEHIND,
     }
 
 
@@ -170,7 +173,7 @@ def main():
         return 0
     flaws = [row for row in found if row.flaw]
     wrong = [f"line {row.line}: Python" for row in found if not is_as_python_says(row)]
-    wrong += [f"crates/codec_bench/{name}, or else --write" for name in unlike(files)]
+    wrong += [f"crates/bench/{name}, or else --write" for name in unlike(files)]
     wrong += [f"line {row.line}: the program" for row in flaws if not is_as_the_program_says(row)]
     for line in wrong:
         print(f"another answer: {line}")

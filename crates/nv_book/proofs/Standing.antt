@@ -15,8 +15,8 @@ use Rattle.nv_msgpack.proofs.Complete.{has_byte-in}
 use Rattle.nv_msgpack.proofs.Exact.{reads}
 use Rattle.nv_msgpack.proofs.Flaws.{stays}
 use Rattle.nv_io.specs.Streams.{Gave}
-use Rattle.nv_io.specs.declared.ending.Flaw.{Flaw}
-use Rattle.nv_io.specs.declared.ending.Flaw.TheVariants.{Bad, TooDeep, TooLong, Inside, NoCall}
+use Rattle.nv_io.specs.declared.lanes.Flaw.{Flaw}
+use Rattle.nv_io.specs.declared.lanes.Flaw.TheVariants.{Bad, TooDeep, TooLong, Inside, NoCall}
 use Rattle.nv_stream.specs.State.{State, empty_state, with_piece, behind_value}
 use Rattle.nv_stream.specs.Answers.{IsAnswer, IsFlawAt, NeedsMore}
 use Rattle.nv_stream.specs.declared.stream.Next.TheVariants.{Value as TheValue, Flaw as TheFlaw}

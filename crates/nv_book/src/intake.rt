@@ -17,7 +17,6 @@ use nv_stream::{Next, Stream};
 use nv_value::Value;
 use std::alloc::{AllocError, Global};
 use std::marker::Model;
-use std::net::{Net, TcpListener, TcpStream};
 
 /// What the values of a book may be.
 const BOUNDS: Bounds = Bounds {
@@ -57,7 +56,7 @@ impl Model for Intake {
 
 // Reads once, where so many bytes were taken before, and answers how many bytes came: none where
 // the source is at its end.
-fn read_piece<R: Net<Listener = TcpListener, Stream = TcpStream>, S: Source>(
+fn read_piece<R, S: Source>(
     rt: &R,
     source: &mut S,
     taken: u64,
@@ -102,11 +101,7 @@ impl Intake {
     }
 
     // Reads a piece, which is kept. `false` where the source is at its end.
-    fn fill<R: Net<Listener = TcpListener, Stream = TcpStream>, S: Source>(
-        &mut self,
-        rt: &R,
-        source: &mut S,
-    ) -> Result<bool, Unread>
+    fn fill<R, S: Source>(&mut self, rt: &R, source: &mut S) -> Result<bool, Unread>
         ensures fills { (bytes : List ℕ)
             × Gave (S.taken source.old) (S.taken source.new) (S.left source.old)
             (S.left source.new) bytes
@@ -125,11 +120,7 @@ impl Intake {
     }
 
     // Reads a piece, which isn't kept. `false` where the source is at its end.
-    fn skip<R: Net<Listener = TcpListener, Stream = TcpStream>, S: Source>(
-        &mut self,
-        rt: &R,
-        source: &mut S,
-    ) -> Result<bool, Unread>
+    fn skip<R, S: Source>(&mut self, rt: &R, source: &mut S) -> Result<bool, Unread>
         ensures skips { (bytes : List ℕ)
             × Gave (S.taken source.old) (S.taken source.new) (S.left source.old)
             (S.left source.new) bytes
@@ -144,11 +135,7 @@ impl Intake {
     }
 
     // Reads what is left of the source.
-    fn drain<R: Net<Listener = TcpListener, Stream = TcpStream>, S: Source>(
-        &mut self,
-        rt: &R,
-        source: &mut S,
-    ) -> Result<(), Unread>
+    fn drain<R, S: Source>(&mut self, rt: &R, source: &mut S) -> Result<(), Unread>
         ensures drains { (bytes : List ℕ)
             × Gave (S.taken source.old) (S.taken source.new) (S.left source.old)
             (S.left source.new) bytes
@@ -163,12 +150,7 @@ impl Intake {
     }
 
     /// That the value at a place is wrong, once the source was read to its end.
-    pub fn malformed<R: Net<Listener = TcpListener, Stream = TcpStream>, S: Source>(
-        &mut self,
-        rt: &R,
-        source: &mut S,
-        place: u64,
-    ) -> Unread
+    pub fn malformed<R, S: Source>(&mut self, rt: &R, source: &mut S, place: u64) -> Unread
         ensures tells { (bytes : List ℕ)
             × Gave (S.taken source.old) (S.taken source.new) (S.left source.old)
             (S.left source.new) bytes
@@ -184,11 +166,7 @@ impl Intake {
     }
 
     // Reads a piece more of a value that isn't whole.
-    fn more<R: Net<Listener = TcpListener, Stream = TcpStream>, S: Source>(
-        &mut self,
-        rt: &R,
-        source: &mut S,
-    ) -> Result<(), Unread>
+    fn more<R, S: Source>(&mut self, rt: &R, source: &mut S) -> Result<(), Unread>
         requires { NeedsMore self.old.stream }
         ensures steps { (bytes : List ℕ)
             × Gave (S.taken source.old) (S.taken source.new) (S.left source.old)
@@ -209,11 +187,7 @@ impl Intake {
     }
 
     // Gives the next value of what is held, or reads a piece more.
-    fn step<R: Net<Listener = TcpListener, Stream = TcpStream>, S: Source>(
-        &mut self,
-        rt: &R,
-        source: &mut S,
-    ) -> Result<Option<Value>, Unread>
+    fn step<R, S: Source>(&mut self, rt: &R, source: &mut S) -> Result<Option<Value>, Unread>
         ensures steps { (bytes : List ℕ)
             × Gave (S.taken source.old) (S.taken source.new) (S.left source.old)
             (S.left source.new) bytes
@@ -241,11 +215,7 @@ impl Intake {
     }
 
     /// The next value. Where it is cut or missing, the source was read to its end.
-    pub fn value<R: Net<Listener = TcpListener, Stream = TcpStream>, S: Source>(
-        &mut self,
-        rt: &R,
-        source: &mut S,
-    ) -> Result<Value, Unread>
+    pub fn value<R, S: Source>(&mut self, rt: &R, source: &mut S) -> Result<Value, Unread>
         ensures takes { (bytes : List ℕ)
             × Gave (S.taken source.old) (S.taken source.new) (S.left source.old)
             (S.left source.new) bytes
@@ -265,11 +235,7 @@ impl Intake {
     }
 
     /// Whether nothing is behind the values given so far, neither held nor left.
-    pub fn is_over<R: Net<Listener = TcpListener, Stream = TcpStream>, S: Source>(
-        &mut self,
-        rt: &R,
-        source: &mut S,
-    ) -> Result<bool, Unread>
+    pub fn is_over<R, S: Source>(&mut self, rt: &R, source: &mut S) -> Result<bool, Unread>
         ensures over { (bytes : List ℕ)
             × Gave (S.taken source.old) (S.taken source.new) (S.left source.old)
             (S.left source.new) bytes

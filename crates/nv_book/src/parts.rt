@@ -17,7 +17,6 @@ use crate::intake::Intake;
 use nv_io::Source;
 use nv_value::Value;
 use std::alloc::{AllocError, Global};
-use std::net::{Net, TcpListener, TcpStream};
 
 /// What stands in a book behind its first value.
 #[derive(Drop)]
@@ -51,7 +50,7 @@ fn part_of(alloc: Global, value: Value) -> Result<Option<Part>, AllocError>
 }
 
 /// Reads the next part of a book.
-pub fn read_part<R: Net<Listener = TcpListener, Stream = TcpStream>, S: Source>(
+pub fn read_part<R, S: Source>(
     rt: &R,
     alloc: Global,
     source: &mut S,
@@ -84,11 +83,7 @@ fn outbox_by(value: Value) -> Option<u32>
 }
 
 /// Reads the first value of a book: how many messages an outbox holds.
-pub fn read_first<R: Net<Listener = TcpListener, Stream = TcpStream>, S: Source>(
-    rt: &R,
-    source: &mut S,
-    intake: &mut Intake,
-) -> Result<u32, Unread>
+pub fn read_first<R, S: Source>(rt: &R, source: &mut S, intake: &mut Intake) -> Result<u32, Unread>
     ensures reads { (bytes : List ℕ)
         × Gave (S.taken source.old) (S.taken source.new) (S.left source.old)
         (S.left source.new) bytes
@@ -110,7 +105,7 @@ pub fn read_first<R: Net<Listener = TcpListener, Stream = TcpStream>, S: Source>
 
 /// Reads that nothing follows the end of a book, which stands at a place and tells of so many
 /// entries, where there were so many.
-pub fn read_end<R: Net<Listener = TcpListener, Stream = TcpStream>, S: Source>(
+pub fn read_end<R, S: Source>(
     rt: &R,
     source: &mut S,
     intake: &mut Intake,

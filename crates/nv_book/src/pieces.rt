@@ -12,7 +12,6 @@ use crate::intake::Intake;
 use nv_io::Source;
 use nv_value::Value;
 use std::alloc::AllocError;
-use std::net::{Net, TcpListener, TcpStream};
 
 /// The most bytes of a piece of an output.
 const PIECE: usize = 1_048_576;
@@ -45,7 +44,7 @@ fn put_piece(value: Value, is_last: bool, into: &mut Vec<u8>) -> Result<bool, Al
 }
 
 // Reads the next piece of an output, which is put behind what `into` holds.
-fn read_piece<R: Net<Listener = TcpListener, Stream = TcpStream>, S: Source>(
+fn read_piece<R, S: Source>(
     rt: &R,
     source: &mut S,
     intake: &mut Intake,
@@ -72,7 +71,7 @@ fn read_piece<R: Net<Listener = TcpListener, Stream = TcpStream>, S: Source>(
 }
 
 /// Reads an output of so many pieces, which is put in place of what `into` held.
-pub fn read_output<R: Net<Listener = TcpListener, Stream = TcpStream>, S: Source>(
+pub fn read_output<R, S: Source>(
     rt: &R,
     source: &mut S,
     intake: &mut Intake,

@@ -24,7 +24,6 @@ use nv_value::Bytes;
 use nv_world::{Entry, Event, History, Start, Step, World};
 use std::alloc::{AllocError, Global};
 use std::marker::Model;
-use std::net::{Net, TcpListener, TcpStream};
 
 /// A book that is replayed in a world of its own, entry by entry, as it is read.
 #[derive(Drop)]
@@ -77,7 +76,7 @@ impl Model for Replay {
 }
 
 // Plays an entry, whose value stands at a place. Answers its session.
-fn play_entry<R: Net<Listener = TcpListener, Stream = TcpStream>, S: Source>(
+fn play_entry<R, S: Source>(
     rt: &R,
     source: &mut S,
     intake: &mut Intake,
@@ -124,7 +123,7 @@ fn step_of(player: &Player, at: u64, caller: u32, session: u64) -> Result<Step, 
 }
 
 // An entry, whose value stands at a place, is played, and its output is read.
-fn enter<R: Net<Listener = TcpListener, Stream = TcpStream>, S: Source>(
+fn enter<R, S: Source>(
     rt: &R,
     source: &mut S,
     intake: &mut Intake,
@@ -172,7 +171,7 @@ fn is_there(step: Option<Step>) -> bool
 
 impl Replay {
     /// Begins to replay the book that is left of a source, in a world with these limits.
-    pub fn open<R: Net<Listener = TcpListener, Stream = TcpStream>, S: Source>(
+    pub fn open<R, S: Source>(
         rt: &R,
         alloc: Global,
         limits: Limits,
@@ -200,11 +199,7 @@ impl Replay {
     /// Reads the next entry of the book, which is to be played next. `None` at the end of the book,
     /// where the source was read to its end; so it was where the book is told malformed. Behind an
     /// error or the end nothing more is promised.
-    pub fn read<R: Net<Listener = TcpListener, Stream = TcpStream>, S: Source>(
-        &mut self,
-        rt: &R,
-        source: &mut S,
-    ) -> Result<Option<Upcoming>, Unread>
+    pub fn read<R, S: Source>(&mut self, rt: &R, source: &mut S) -> Result<Option<Upcoming>, Unread>
         ensures goes { (bytes : List ℕ)
             × Gave (S.taken source.old) (S.taken source.new) (S.left source.old)
             (S.left source.new) bytes
@@ -231,7 +226,7 @@ impl Replay {
     }
 
     /// Plays the entry that was read last, and reads its output.
-    pub fn play<R: Net<Listener = TcpListener, Stream = TcpStream>, S: Source>(
+    pub fn play<R, S: Source>(
         &mut self,
         rt: &R,
         source: &mut S,
@@ -269,11 +264,7 @@ impl Replay {
     /// Plays the next entry of the book and reads its output. `None` at the end of the book, where
     /// the source was read to its end; so it was where the book is told malformed. Behind an error
     /// or the end nothing more is promised.
-    pub fn next<R: Net<Listener = TcpListener, Stream = TcpStream>, S: Source>(
-        &mut self,
-        rt: &R,
-        source: &mut S,
-    ) -> Result<Option<Step>, Unread>
+    pub fn next<R, S: Source>(&mut self, rt: &R, source: &mut S) -> Result<Option<Step>, Unread>
         ensures goes { (bytes : List ℕ)
             × Gave (S.taken source.old) (S.taken source.new) (S.left source.old)
             (S.left source.new) bytes
@@ -298,11 +289,7 @@ impl Replay {
     }
 
     // Plays the next entry. `false` at the end of the book.
-    fn advance<R: Net<Listener = TcpListener, Stream = TcpStream>, S: Source>(
-        &mut self,
-        rt: &R,
-        source: &mut S,
-    ) -> Result<bool, Unread>
+    fn advance<R, S: Source>(&mut self, rt: &R, source: &mut S) -> Result<bool, Unread>
         ensures goes { (bytes : List ℕ)
             × Gave (S.taken source.old) (S.taken source.new) (S.left source.old)
             (S.left source.new) bytes
@@ -355,7 +342,7 @@ impl Replay {
 
 /// All of the book that is left of a source, whose history runs in a world with these limits. The
 /// source is read to its end, also where the book is told malformed.
-pub fn read_book<R: Net<Listener = TcpListener, Stream = TcpStream>, S: Source>(
+pub fn read_book<R, S: Source>(
     rt: &R,
     alloc: Global,
     limits: Limits,

@@ -26,7 +26,6 @@ use nv_msgpack::encode;
 use nv_value::Value;
 use nv_world::{Entry, Event, History, Start};
 use std::alloc::{AllocError, Global};
-use std::net::{Net, TcpListener, TcpStream};
 
 /// The most bytes of a piece of an output.
 const PIECE: usize = 1_048_576;
@@ -177,11 +176,7 @@ fn spell_entry(
 }
 
 // Writes all that `room` holds.
-fn put<R: Net<Listener = TcpListener, Stream = TcpStream>, S: Sink>(
-    rt: &R,
-    room: &[u8],
-    sink: &mut S,
-) -> Result<(), BookFault>
+fn put<R, S: Sink>(rt: &R, room: &[u8], sink: &mut S) -> Result<(), BookFault>
     ensures ok { OnOk result (S.taken sink.new ≡ append_known (S.taken sink.old) room.now) }
     ensures err { IfErr result (λ fault. (fault ≡ BookFault.WriteFault) × ((n : ℕ)
         × (S.taken sink.new ≡ append_known (S.taken sink.old) (take n room.now)))) }
@@ -216,7 +211,7 @@ fn play_entry(player: &mut Player, entry: &Entry, event: Event) -> Result<(), Bo
 }
 
 // Plays and writes the entry of this number.
-fn write_entry<R: Net<Listener = TcpListener, Stream = TcpStream>, S: Sink>(
+fn write_entry<R, S: Sink>(
     rt: &R,
     player: &mut Player,
     form: Form,
@@ -246,7 +241,7 @@ fn write_entry<R: Net<Listener = TcpListener, Stream = TcpStream>, S: Sink>(
 }
 
 // Plays and writes all entries of a history, from a fresh world on.
-fn write_entries<R: Net<Listener = TcpListener, Stream = TcpStream>, S: Sink>(
+fn write_entries<R, S: Sink>(
     rt: &R,
     alloc: Global,
     start: Start,
@@ -278,7 +273,7 @@ fn write_entries<R: Net<Listener = TcpListener, Stream = TcpStream>, S: Sink>(
 }
 
 // Writes one value.
-fn put_value<R: Net<Listener = TcpListener, Stream = TcpStream>, S: Sink>(
+fn put_value<R, S: Sink>(
     rt: &R,
     alloc: Global,
     value: &Value,
@@ -305,7 +300,7 @@ fn put_value<R: Net<Listener = TcpListener, Stream = TcpStream>, S: Sink>(
 ///
 /// With an error a prefix of the book was written. `Unfit` comes only of an entry that no book can
 /// have.
-pub fn write_book<R: Net<Listener = TcpListener, Stream = TcpStream>, S: Sink>(
+pub fn write_book<R, S: Sink>(
     rt: &R,
     alloc: Global,
     start: Start,
@@ -334,7 +329,7 @@ pub fn write_book<R: Net<Listener = TcpListener, Stream = TcpStream>, S: Sink>(
 
 /// Writes the outputs of the takes of a history, each piece of them with the number of its entry
 /// and its session. With an error a prefix of them was written.
-pub fn write_replay<R: Net<Listener = TcpListener, Stream = TcpStream>, S: Sink>(
+pub fn write_replay<R, S: Sink>(
     rt: &R,
     alloc: Global,
     start: Start,

@@ -1,9 +1,10 @@
--- What the answers to the events of a session mean.
-use Rattle.std.proofs.Common.{◌≡◌, ℕ, zero, suc, ◌==◌, Bool, true, false, List, [], ◌∷◌, ◌++◌, map, Option, Some, None, refl, ap, sym, ◌∙◌, subst, append-nil, append_assoc, eq-eqb}
+-- What the events of a session come to, for the pass that applies them.
+use Rattle.std.proofs.Common.{◌≡◌, ℕ, zero, suc, ◌==◌, Bool, true, false, List, [], ◌∷◌, ◌++◌, map, Option, Some, None, Result, Ok, Err, refl, ap, sym, ◌∙◌, subst, append-nil, append_assoc, eq-eqb}
 use mathlib.Core.List.{IsPrefix}
 use Rattle.std.proofs.lemmas.Grind.{flat_map-append}
 use Rattle.std.proofs.lemmas.Option.{none-some, same_Some}
 use Rattle.nv_rpc.specs.Calls.{Call}
+use Rattle.nv_rpc.specs.declared.frame.Frame.{Frame}
 use Rattle.nv_rpc.specs.Messages.{Sent}
 use Rattle.nv_model.specs.Editors.{ModelEditor}
 use Rattle.nv_screen.specs.declared.scene.Scene.{Scene}
@@ -16,19 +17,22 @@ use Rattle.nv_history.specs.Worlds.{World, Outcome, refuses, idles, becomes, ses
 use Rattle.nv_history.specs.Asking.{own, call_if, calls_in, calls_of}
 use Rattle.nv_history.specs.Spoken.{ShowsIfGiven}
 use Rattle.nv_world.specs.Contents.{plain_cause, plain_effect, IsEffect}
+use Rattle.nv_world.specs.Outcomes.{effect_of_taken}
 use Rattle.nv_world.specs.Worlds.{GivesSendable}
-use Rattle.nv_world.specs.declared.effect.Cause.{Cause as WorldCause}
+use Rattle.nv_world.specs.declared.calls.Taken.{Taken}
+use Rattle.nv_world.specs.declared.calls.Taken.TheVariants as taken
+use Rattle.nv_world.specs.declared.calls.Untaken.{Untaken}
 use Rattle.nv_world.specs.declared.effect.Effect.{Effect as WorldEffect}
 use Rattle.nv_world.specs.declared.effect.Effect.TheVariants as effect
 use Rattle.nv_world.specs.declared.story.Start.{Start}
 use Rattle.nv_halves.specs.Passes.{WorldPass, world_of_run, OfEach, IsFromReader, EachEvent, GainedEach, IsClosedBy, IsOver}
-use Rattle.nv_halves.specs.Applying.{HasEffect, AppliesOnce}
+use Rattle.nv_halves.specs.Applying.{Visit, visit, AddsEvent, HasEffect, AppliesOnce}
 use Rattle.nv_halves.specs.Halves.{Asks, Goes}
-use Rattle.nv_halves.specs.inside.Insisting.{Stays, AnswersWith, AnswersOnce, what_was_asked, AsksOnce, ClosesOnce, Shuts}
-use Rattle.nv_halves.specs.inside.Taking.{taken_of_effect, what_was_taken, sent_in, IsTaken, TakesBatch, IsOverNow, TakesOnce}
-use Rattle.nv_halves.specs.declared.insisting.Answer.{Answer}
-use Rattle.nv_halves.specs.declared.insisting.Answer.TheVariants as answer
-use Rattle.nv_halves.proofs.Onces.{same_then, stays_once, once_by}
+use Rattle.nv_halves.specs.inside.Insisting.{Stays, CallsWith, AsksOnce, TriesCall, ClosesWith, ClosesOnce, Shuts, TriesClose}
+use Rattle.nv_halves.specs.inside.Taking.{sent_in, TakesWith, IsTaken, TakesBatch, IsOverNow, TakesOnce}
+use Rattle.nv_halves.specs.declared.insisting.Asked.{Asked}
+use Rattle.nv_halves.specs.declared.insisting.Asked.TheVariants as asked
+use Rattle.nv_halves.proofs.Onces.{same_then, stays_once, stays_then, waits_once, once_by, once_after}
 use Rattle.nv_history.proofs.Makings.{Makes, step_makes}
 use Rattle.nv_halves.proofs.Staying.{goes_closed, run_push}
 use Rattle.nv_halves.proofs.Closings.{place_after, own_closes}
@@ -77,7 +81,7 @@ record AddsEntry (p q : WorldPass) (event : Event) : Type 0 where
   own_is : own p.number q.seen ≡ own p.number p.seen ++ record { caller = p.number; event = event } ∷ []
   begins : IsPrefix p.seen q.seen
 
-adds_entry : (p q : WorldPass) (event : Event) (C : List Entry → Type 0) (a : AppliesOnce p q C) → q.seen ≡ a.found ++ record { caller = p.number; event = event } ∷ [] → AddsEntry p q event
+adds_entry : (p q : WorldPass) (event : Event) (C : Visit → Type 0) (a : AppliesOnce p q C) → q.seen ≡ a.found ++ record { caller = p.number; event = event } ∷ [] → AddsEntry p q event
 adds_entry p q event C a e =
     let entry : Entry = record { caller = p.number; event = event } in
     record {
@@ -87,16 +91,16 @@ adds_entry p q event C a e =
 
 -- ---- a call
 
-request_came : (o : Option Session) (w : World) (s : ℕ) (call : Call) (found after : List Entry) (entry : Entry) (given : WorldEffect) → HasEffect found after entry given (request_outcome o w s call)
-    → after ≡ found ++ entry ∷ []
-request_came None w s call found after entry given h = absurd h
-request_came (Some x) w s call found after entry given h = by_cause x.closed h
+-- a call that did something was added
+request_came : (o : Option Session) (w : World) (s : ℕ) (call : Call) (v : Visit) (given : WorldEffect) → HasEffect (request_of s call) given v (request_outcome o w s call) → AddsEvent (request_of s call) v
+request_came None w s call v given h = absurd h
+request_came (Some x) w s call v given h = by_cause x.closed h
   where
-    by_held : (b : Bool) → HasEffect found after entry given (held_outcome b w s x call) → after ≡ found ++ entry ∷ []
+    by_held : (b : Bool) → HasEffect (request_of s call) given v (held_outcome b w s x call) → AddsEvent (request_of s call) v
     by_held true k = absurd k
     by_held false k = k.1
 
-    by_cause : (c : Option Cause) → HasEffect found after entry given (live_request_outcome c w s x call) → after ≡ found ++ entry ∷ []
+    by_cause : (c : Option Cause) → HasEffect (request_of s call) given v (live_request_outcome c w s x call) → AddsEvent (request_of s call) v
     by_cause (Some c) k = absurd k
     by_cause None k = by_held _ k
 
@@ -104,33 +108,41 @@ one_call : (s n : ℕ) (call : Call) → calls_of s (record { caller = n; event 
 one_call s n call = ap (λ (b : Bool). call_if b call ++ []) (eq-eqb s s refl)
 
 -- where it was gone, it stays so
-gone_goes : (p q : WorldPass) (s : ℕ) (cause : Cause) (C : List Entry → Type 0) (a : AppliesOnce p q C) (w : World) → q.seen ≡ a.found → world_of_run p.start a.found ≡ Some w → IsClosedBy w s cause → Goes q s cause
+gone_goes : (p q : WorldPass) (s : ℕ) (cause : Cause) (C : Visit → Type 0) (a : AppliesOnce p q C) (w : World) → q.seen ≡ a.found → world_of_run p.start a.found ≡ Some w → IsClosedBy w s cause → Goes q s cause
 gone_goes p q s cause C a w e runs closed =
     subst (λ (o : Option Start). OfEach o q.seen (λ history world. IsClosedBy world s cause)) (sym a.same.start)
     (subst (λ (l : List Entry). OfEach p.start l (λ history world. IsClosedBy world s cause)) (sym e)
     (goes_closed p.start a.found w s cause runs closed))
 
-pub once_asked : (p q : WorldPass) (s : ℕ) (call : Call) (met : Answer) → AnswersOnce p q (request_of s call) met → AsksOnce (what_was_asked met) p q s call
-once_asked p q s call (answer.Done given) a =
+pub once_called : (p q : WorldPass) (s : ℕ) (call : Call) (tried : Result Asked Frame) → AppliesOnce p q (CallsWith tried s call) → TriesCall tried p q s call
+once_called p q s call (Ok asked.Done) a =
     let entry : Entry = record { caller = p.number; event = request_of s call } in
-    let k = adds_entry p q (request_of s call) _ a (request_came (session_of a.comes.0 s) a.comes.0 s call a.found q.seen entry given a.comes.2) in
+    let d = a.comes in
+    let k = adds_entry p q (request_of s call) _ a (request_came (session_of d.0 s) d.0 s call (visit p q a.found) effect.Done d.2) in
     record {
       same = a.same;
       gained = entry ∷ [];
       gains = record { gains = record { own_is = k.own_is; begins = k.begins }; each = (refl, tt) };
       calls_are = one_call s p.number call;
     }
-once_asked p q s call (answer.Gone cause) a =
-    (asks_stays p q s (stays_once p q _ a a.comes.0), gone_goes p q s (plain_cause cause) _ a a.comes.1 a.comes.0 a.comes.2 a.comes.3)
-once_asked p q s call answer.NoMemory a = asks_stays p q s (stays_once p q _ a a.comes)
+once_called p q s call (Ok (asked.Gone cause)) a =
+    (asks_stays p q s (stays_once p q _ a a.comes.0), gone_goes p q s (plain_cause cause) _ a a.comes.1.0 a.comes.0 a.comes.1.1 a.comes.1.2)
+once_called p q s call (Ok asked.NoMemory) a = asks_stays p q s (stays_once p q _ a a.comes)
+once_called p q s call (Err back) a = (waits_once p q _ a a.comes.0, a.comes.1)
+
+-- a pass that waited, and then made a call
+pub asks_after : (p q r : WorldPass) (s : ℕ) (call : Call) (met : Asked) → Stays p q → AsksOnce met q r s call → AsksOnce met p r s call
+asks_after p q r s call asked.Done h a = asks_then p q r s [] (call ∷ []) (asks_stays p q s h) a
+asks_after p q r s call (asked.Gone cause) h a = (asks_then p q r s [] [] (asks_stays p q s h) a.0, a.1)
+asks_after p q r s call asked.NoMemory h a = asks_then p q r s [] [] (asks_stays p q s h) a
 
 -- ---- a close
 
-close_came : (o : Option Session) (w : World) (s : ℕ) (found after : List Entry) (entry : Entry) (given : WorldEffect) → HasEffect found after entry given (close_outcome o w s) → after ≡ found ++ entry ∷ []
-close_came None w s found after entry given h = absurd h
-close_came (Some x) w s found after entry given h = by_cause x.closed h
+close_came : (o : Option Session) (w : World) (s : ℕ) (v : Visit) (given : WorldEffect) → HasEffect (close_of s) given v (close_outcome o w s) → AddsEvent (close_of s) v
+close_came None w s v given h = absurd h
+close_came (Some x) w s v given h = by_cause x.closed h
   where
-    by_cause : (c : Option Cause) → HasEffect found after entry given (live_close_outcome c w s x) → after ≡ found ++ entry ∷ []
+    by_cause : (c : Option Cause) → HasEffect (close_of s) given v (live_close_outcome c w s x) → AddsEvent (close_of s) v
     by_cause (Some c) k = absurd k
     by_cause None k = k.1
 
@@ -156,9 +168,9 @@ shut_closes w v (suc p) made =
     (k.later, k.there, own_closes w v p made k.later k.there)
 
 -- and stays so
-close_goes : (p q : WorldPass) (s : ℕ) (C : List Entry → Type 0) (a : AppliesOnce p q C) (w : World) → world_of_run p.start a.found ≡ Some w → (given : WorldEffect)
+close_goes : (p q : WorldPass) (s : ℕ) (C : Visit → Type 0) (a : AppliesOnce p q C) (w : World) → world_of_run p.start a.found ≡ Some w → (given : WorldEffect)
     → q.seen ≡ a.found ++ record { caller = p.number; event = close_of s } ∷ [] → (o : Outcome) → step w (close_of s) ≡ o → IsCloseOutcome o
-    → HasEffect a.found q.seen (record { caller = p.number; event = close_of s }) given o → (entry : ℕ) × Goes q s (closed_at entry)
+    → HasEffect (close_of s) given (visit p q a.found) o → (entry : ℕ) × Goes q s (closed_at entry)
 close_goes p q s C a w runs given entered (refuses stop) is h k = absurd k
 close_goes p q s C a w runs given entered (idles wanted) is h k = absurd h
 close_goes p q s C a w runs given entered (becomes v wanted) is h k =
@@ -167,16 +179,23 @@ close_goes p q s C a w runs given entered (becomes v wanted) is h k =
     ap (λ (o : Option Start). world_of_run o q.seen) a.same.start ∙ ap (world_of_run p.start) entered ∙ run_push p.start a.found w v (record { caller = p.number; event = close_of s }) runs made in
     (w.entries, goes_closed q.start q.seen v s (closed_at w.entries) there (shut_closes w v s (step_makes w v (close_of s) made)))
 
-pub once_shut : (p q : WorldPass) (s : ℕ) (met : Answer) → AnswersOnce p q (close_of s) met → Shuts (what_was_asked met) p q s
-once_shut p q s (answer.Done given) a =
-    let entered = close_came (session_of a.comes.0 s) a.comes.0 s a.found q.seen (record { caller = p.number; event = close_of s }) given a.comes.2 in (
-      once_by p q (λ found. AnswersWith p.start p.number (close_of s) found (answer.Done given) q.seen) (λ found. q.seen ≡ found ++ record { caller = p.number; event = close_of s } ∷ [])
-          (λ found h. close_came (session_of h.0 s) h.0 s found q.seen (record { caller = p.number; event = close_of s }) given h.2) a,
-      close_goes p q s _ a a.comes.0 a.comes.1 given entered (step a.comes.0 (close_of s)) refl (closed_outcome (session_of a.comes.0 s) a.comes.0 s) a.comes.2,
+pub once_closed : (p q : WorldPass) (s : ℕ) (tried : Option Asked) → AppliesOnce p q (ClosesWith tried s) → TriesClose tried p q s
+once_closed p q s (Some asked.Done) a =
+    let d = a.comes in
+    let entered = close_came (session_of d.0 s) d.0 s (visit p q a.found) effect.Closed d.2 in (
+      once_by p q (ClosesWith (Some asked.Done) s) (AddsEvent (close_of s)) (λ v h. close_came (session_of h.0 s) h.0 s v effect.Closed h.2) a,
+      close_goes p q s _ a d.0 d.1 effect.Closed entered (step d.0 (close_of s)) refl (closed_outcome (session_of d.0 s) d.0 s) d.2,
     )
-once_shut p q s (answer.Gone cause) a =
-    (stays_once p q _ a a.comes.0, gone_goes p q s (plain_cause cause) _ a a.comes.1 a.comes.0 a.comes.2 a.comes.3)
-once_shut p q s answer.NoMemory a = stays_once p q _ a a.comes
+once_closed p q s (Some (asked.Gone cause)) a =
+    (stays_once p q _ a a.comes.0, gone_goes p q s (plain_cause cause) _ a a.comes.1.0 a.comes.0 a.comes.1.1 a.comes.1.2)
+once_closed p q s (Some asked.NoMemory) a = stays_once p q _ a a.comes
+once_closed p q s None a = waits_once p q _ a a.comes
+
+-- a pass that waited, and then closed its session
+pub shuts_after : (p q r : WorldPass) (s : ℕ) (met : Asked) → Stays p q → Shuts met q r s → Shuts met p r s
+shuts_after p q r s asked.Done h a = (once_after p q r (AddsEvent (close_of s)) h a.0, a.1)
+shuts_after p q r s (asked.Gone cause) h a = (stays_then p q r h a.0, a.1)
+shuts_after p q r s asked.NoMemory h a = stays_then p q r h a
 
 -- a reader that closed its session made no call by that
 pub shut_asks : (p q : WorldPass) (s : ℕ) → ClosesOnce p q s → Asks p q s []
@@ -240,21 +259,18 @@ sound_shown (Some m) None h = absurd h
 sound_shown (Some m) (Some scene) h = h.sound
 
 -- an effect that makes no entry
-idle_taken : (p q : WorldPass) (s : ℕ) (w : World) (given : WorldEffect) (wanted : Effect) → IsIdleTake w s wanted → world_of_run q.start q.seen ≡ Some w → IsEffect given wanted → Stays p q
-    → TakesOnce (taken_of_effect given) p q s
-idle_taken p q s w (effect.Items batch) wanted h runs is stays = absurd (subst (λ (e : Effect). IsIdleTake w s e) (sym is.effect_is) h)
-idle_taken p q s w effect.Nothing wanted h runs is stays = stays
-idle_taken p q s w (effect.Over cause) wanted h runs is stays =
+idle_taken : (p q : WorldPass) (s : ℕ) (w : World) (given : Taken) (wanted : Effect) → IsIdleTake w s wanted → world_of_run q.start q.seen ≡ Some w → IsEffect (effect_of_taken given) wanted → Stays p q
+    → TakesOnce (Ok given) p q s
+idle_taken p q s w (taken.Items batch) wanted h runs is stays = absurd (subst (λ (e : Effect). IsIdleTake w s e) (sym is.effect_is) h)
+idle_taken p q s w taken.Nothing wanted h runs is stays = stays
+idle_taken p q s w (taken.Over cause) wanted h runs is stays =
     (stays, record { world = w; runs = runs; over = subst (λ (e : Effect). IsIdleTake w s e) (sym is.effect_is) h })
-idle_taken p q s w (effect.Opened t) wanted h runs is stays = stays
-idle_taken p q s w effect.Done wanted h runs is stays = stays
-idle_taken p q s w effect.Closed wanted h runs is stays = stays
 
 -- an effect that makes one
-entry_taken : (p q : WorldPass) (s : ℕ) (w later : World) (C : List Entry → Type 0) (a : AppliesOnce p q C) (given : WorldEffect) (wanted : Effect) → IsBatchGiven wanted
-    → world_of_run p.start a.found ≡ Some w → step w (take_of s) ≡ becomes later wanted → IsEffect given wanted → q.seen ≡ a.found ++ record { caller = p.number; event = take_of s } ∷ []
-    → GivesSendable given → TakesOnce (taken_of_effect given) p q s
-entry_taken p q s w later C a (effect.Items batch) wanted h runs gave is entered sendable = record {
+entry_taken : (p q : WorldPass) (s : ℕ) (w later : World) (C : Visit → Type 0) (a : AppliesOnce p q C) (given : Taken) (wanted : Effect) → IsBatchGiven wanted
+    → world_of_run p.start a.found ≡ Some w → step w (take_of s) ≡ becomes later wanted → IsEffect (effect_of_taken given) wanted
+    → q.seen ≡ a.found ++ record { caller = p.number; event = take_of s } ∷ [] → GivesSendable (effect_of_taken given) → TakesOnce (Ok given) p q s
+entry_taken p q s w later C a (taken.Items batch) wanted h runs gave is entered sendable = record {
   once = record {
     same = a.same;
     number = a.number;
@@ -274,15 +290,12 @@ entry_taken p q s w later C a (effect.Items batch) wanted h runs gave is entered
   sendable = sendable;
   sound = sound_shown is.editor batch.scene is.shows;
 }
-entry_taken p q s w later C a effect.Nothing wanted h runs gave is entered sendable = absurd (subst IsBatchGiven (sym is.effect_is) h)
-entry_taken p q s w later C a (effect.Over cause) wanted h runs gave is entered sendable = absurd (subst IsBatchGiven (sym is.effect_is) h)
-entry_taken p q s w later C a (effect.Opened t) wanted h runs gave is entered sendable = absurd (subst IsBatchGiven (sym is.effect_is) h)
-entry_taken p q s w later C a effect.Done wanted h runs gave is entered sendable = absurd (subst IsBatchGiven (sym is.effect_is) h)
-entry_taken p q s w later C a effect.Closed wanted h runs gave is entered sendable = absurd (subst IsBatchGiven (sym is.effect_is) h)
+entry_taken p q s w later C a taken.Nothing wanted h runs gave is entered sendable = absurd (subst IsBatchGiven (sym is.effect_is) h)
+entry_taken p q s w later C a (taken.Over cause) wanted h runs gave is entered sendable = absurd (subst IsBatchGiven (sym is.effect_is) h)
 
-came_taken : (p q : WorldPass) (s : ℕ) (w : World) (C : List Entry → Type 0) (a : AppliesOnce p q C) (given : WorldEffect) → world_of_run p.start a.found ≡ Some w
-    → GivesSendable given → (o : Outcome) → step w (take_of s) ≡ o → IsTakeOutcome w s o
-    → HasEffect a.found q.seen (record { caller = p.number; event = take_of s }) given o → TakesOnce (taken_of_effect given) p q s
+came_taken : (p q : WorldPass) (s : ℕ) (w : World) (C : Visit → Type 0) (a : AppliesOnce p q C) (given : Taken) → world_of_run p.start a.found ≡ Some w
+    → GivesSendable (effect_of_taken given) → (o : Outcome) → step w (take_of s) ≡ o → IsTakeOutcome w s o
+    → HasEffect (take_of s) (effect_of_taken given) (visit p q a.found) o → TakesOnce (Ok given) p q s
 came_taken p q s w C a given runs sendable (refuses stop) is h k = absurd k
 came_taken p q s w C a given runs sendable (idles wanted) is h k =
     let there : world_of_run q.start q.seen ≡ Some w = ap (λ (o : Option Start). world_of_run o q.seen) a.same.start ∙ ap (world_of_run p.start) k.1 ∙ runs in
@@ -290,8 +303,8 @@ came_taken p q s w C a given runs sendable (idles wanted) is h k =
 came_taken p q s w C a given runs sendable (becomes later wanted) is h k =
     entry_taken p q s w later C a given wanted h runs is k.0 k.1 sendable
 
-pub once_took : (p q : WorldPass) (s : ℕ) (met : Answer) → AnswersOnce p q (take_of s) met → TakesOnce (what_was_taken met) p q s
-once_took p q s (answer.Done given) a =
-    came_taken p q s a.comes.0 _ a given a.comes.1 a.comes.3 (step a.comes.0 (take_of s)) refl (take_outcomes a.comes.0 s) a.comes.2
-once_took p q s (answer.Gone cause) a = absurd a.comes.3
-once_took p q s answer.NoMemory a = stays_once p q _ a a.comes
+pub once_took : (p q : WorldPass) (s : ℕ) (met : Result Taken Untaken) → AppliesOnce p q (TakesWith met s) → TakesOnce met p q s
+once_took p q s (Ok given) a =
+    let d = a.comes.0 in
+    came_taken p q s d.0 _ a given d.1 a.comes.1 (step d.0 (take_of s)) refl (take_outcomes d.0 s) d.2
+once_took p q s (Err why) a = stays_once p q _ a a.comes

@@ -1,10 +1,9 @@
 -- How bytes become calls, step by step.
 use Rattle.std.proofs.Common.{Result, Ok, Err, ◌≡◌, ◌⊎◌, ℕ, ◌+◌, ◌<◌, ◌≤◌, List, [], ◌∷◌, ◌++◌, length, Option, Some, None, refl, sym, ap, ◌∙◌, subst, arith, length-append, append_assoc, append-nil, inl, inr, ⊎_elim}
 use Rattle.std.specs.Option.{option_or}
-use Rattle.std.specs.Io.KnownBytes.{append_known, prepend_known}
-use Rattle.nv_io.specs.Streams.{Gave}
-use Rattle.nv_io.specs.declared.ending.Flaw.{Flaw}
-use Rattle.nv_io.specs.declared.ending.Flaw.TheVariants.{Bad, TooDeep, TooLong, Inside, NoCall}
+use Rattle.nv_io.proofs.StreamLemmas.{gave_none}
+use Rattle.nv_io.specs.declared.lanes.Flaw.{Flaw}
+use Rattle.nv_io.specs.declared.lanes.Flaw.TheVariants.{Bad, TooDeep, TooLong, Inside, NoCall}
 use Rattle.nv_value.specs.Content.{Tree}
 use Rattle.nv_msgpack.specs.Within.{SpellsWithin, IsPartial}
 use Rattle.nv_msgpack.proofs.Complete.{has_byte-in}
@@ -19,7 +18,7 @@ use Rattle.nv_halves.specs.Passes.{WorldPass}
 use Rattle.nv_halves.specs.Reading.{most_depth, most_bytes, Calls, EndsAt, ReadsFrom, BeginWithCalls, WasRead, IsUnfinished, IfInside}
 use Rattle.nv_halves.specs.Halves.{Asks, AsksAll, AsksSome, Goes, ReadBy, ReadsHalf}
 use Rattle.nv_halves.specs.inside.Insisting.{AsksOnce, Shuts}
-use Rattle.nv_halves.specs.inside.Intakes.{IsReadable, IsUnread, MakesCalls, MakesAll, StopsIn, reader_end_by_flaw, CountsAsked, StepsAtCall, Steps, MakesHeld, MakesPiece, end_after_close, ClosesAfter}
+use Rattle.nv_halves.specs.inside.Intakes.{IsReadable, IsUnfed, MakesCalls, MakesAll, StopsIn, reader_end_by_flaw, CountsAsked, StepsAtCall, Steps, MakesHeld, MakesPiece, end_after_close, ClosesAfter}
 use Rattle.nv_halves.specs.declared.ends.ReaderEnd.{ReaderEnd}
 use Rattle.nv_halves.specs.declared.ends.ReaderEnd.TheVariants as reader
 use Rattle.nv_halves.specs.declared.insisting.Asked.{Asked}
@@ -28,7 +27,6 @@ use Rattle.nv_halves.specs.declared.steps.Intake.{Intake}
 use Rattle.nv_halves.specs.declared.steps.Stepped.{Stepped}
 use Rattle.nv_halves.specs.declared.steps.Stepped.TheVariants as stepped
 use Rattle.nv_halves.proofs.Answering.{asks_self, asks_stays, asks_then, shut_asks}
-use Rattle.nv_halves.proofs.WritingOn.{known_none, known_then}
 
 -- ---- calls in bytes
 
@@ -61,7 +59,7 @@ reads_then number place (call ∷ calls) more whole bytes flaw p q =
 -- ---- an intake that can go on
 
 -- one to which no byte has come
-pub begun : (s : Intake) → s.stream ≡ stream.empty_state most_depth most_bytes → s.number ≡ 0 → IsUnread s × IsReadable s
+pub begun : (s : Intake) → s.stream ≡ stream.empty_state most_depth most_bytes → s.number ≡ 0 → IsUnfed s × IsReadable s
 begun s e n =
     let place : s.stream.start ≡ 0 = ap (λ (x : State). x.start) e in (
       record { place = place; nothing = ap (λ (x : State). x.held) e; none = n },
@@ -114,7 +112,7 @@ makes_none s p session = record {
   asks = asks_self p session;
 }
 
-pub makes_begun : (s : Intake) (p : WorldPass) (session : ℕ) → IsUnread s → MakesCalls [] s s p p session
+pub makes_begun : (s : Intake) (p : WorldPass) (session : ℕ) → IsUnfed s → MakesCalls [] s s p p session
 makes_begun s p session n = subst (λ (l : List ℕ). MakesCalls l s s p p session) n.nothing (makes_none s p session)
 
 pub makes_held_none : (s : Intake) (p : WorldPass) (session : ℕ) → MakesCalls s.stream.held s s p p session
@@ -155,7 +153,7 @@ held_more piece old new p q session h =
     omega (arith, h.place, ap (length {A = ℕ}) h.parts, length-append h.whole new.stream.held, length-append old.stream.held piece)
 
 -- how many bytes came to one
-pub made_length : (bytes : List ℕ) (old new : Intake) (p q : WorldPass) (session : ℕ) → IsUnread old → MakesCalls bytes old new p q session → length bytes ≡ new.stream.start + length new.stream.held
+pub made_length : (bytes : List ℕ) (old new : Intake) (p q : WorldPass) (session : ℕ) → IsUnfed old → MakesCalls bytes old new p q session → length bytes ≡ new.stream.start + length new.stream.held
 made_length bytes old new p q session n h =
     omega (arith, n.place, h.place, ap (length {A = ℕ}) h.parts, length-append h.whole new.stream.held)
 
@@ -404,27 +402,9 @@ made_piece over (Err end) piece old middle new p q session s n some few h =
     stops_by ⊥ over end (old.stream.held ++ piece) old p q session (λ e. absurd e)
     (stops_on ⊥ end (old.stream.held ++ piece) old middle p p q session (fed piece old middle p session s n) h)
 
--- ---- what a source gave
-
-prepend_then : (a b : List ℕ) (known : Option (List ℕ)) → prepend_known a (prepend_known b known) ≡ prepend_known (a ++ b) known
-prepend_then a b None = refl
-prepend_then a b (Some xs) = ap (λ (l : List ℕ). Some l) (sym (append_assoc a b xs))
-
--- a source gave nothing
-pub gave_none : (taken left : Option (List ℕ)) → Gave taken taken left left []
-gave_none taken None = record { taken = known_none taken; left = refl }
-gave_none taken (Some xs) = record { taken = known_none taken; left = refl }
-
--- a source gave some bytes and then others
-pub gave_then : (t u v l m n : Option (List ℕ)) (a b : List ℕ) → Gave t u l m a → Gave u v m n b → Gave t v l n (a ++ b)
-gave_then t u v l m n a b p q = record {
-  taken = q.taken ∙ ap (λ (o : Option (List ℕ)). append_known o b) p.taken ∙ known_then t a b;
-  left = p.left ∙ ap (λ (o : Option (List ℕ)). prepend_known a o) q.left ∙ prepend_then a b n;
-}
-
 -- ---- the whole of a reader
 
-all_asked : (flaw : Option Flaw) (bytes : List ℕ) (s : Intake) (p q : WorldPass) (session : ℕ) → IsUnread s → MakesAll flaw bytes s p q session → AsksAll p q session bytes flaw
+all_asked : (flaw : Option Flaw) (bytes : List ℕ) (s : Intake) (p q : WorldPass) (session : ℕ) → IsUnfed s → MakesAll flaw bytes s p q session → AsksAll p q session bytes flaw
 all_asked flaw bytes s p q session n h = record {
   calls = h.calls;
   reads = reads_at s.number 0 s.stream.start 0 h.calls bytes flaw n.none n.place h.reads;
@@ -432,7 +412,7 @@ all_asked flaw bytes s p q session n h = record {
 }
 
 -- a reader ended, from its first byte on
-pub read_stops : (over : Type 0) (end : ReaderEnd) (bytes : List ℕ) (left : Option (List ℕ)) (s : Intake) (p q : WorldPass) (session : ℕ) → IsUnread s → (over → WasRead left bytes)
+pub read_stops : (over : Type 0) (end : ReaderEnd) (bytes : List ℕ) (left : Option (List ℕ)) (s : Intake) (p q : WorldPass) (session : ℕ) → IsUnfed s → (over → WasRead left bytes)
     → StopsIn over end bytes s p q session → ReadBy end p q session bytes left
 read_stops over reader.Closed bytes left s p q session n f h = (all_asked None bytes s p q session n h.0, f h.1)
 read_stops over (reader.Malformed flaw) bytes left s p q session n f h = (all_asked (Some flaw) bytes s p q session n h.0, inside_by over (WasRead left bytes) flaw f h.1)

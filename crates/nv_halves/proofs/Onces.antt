@@ -1,92 +1,165 @@
 -- One event of a pass, in plain data.
-use Rattle.std.proofs.Common.{◌≡◌, ℕ, List, [], ◌∷◌, ◌++◌, Option, Some, None, Result, Ok, Err, refl, ap, sym, ◌∙◌, subst, inl, inr}
-use Rattle.std.specs.Prelude.{option_map}
+use Rattle.std.proofs.Common.{◌≡◌, ℕ, false, List, [], ◌∷◌, ◌++◌, Option, Some, None, Result, Ok, Err, refl, ap, sym, ◌∙◌, subst, inl, inr}
+use Rattle.std.specs.Prelude.{IfOk, IfErr, OnOk, option_map}
 use mathlib.Core.List.{IsPrefix}
 use Rattle.nv_turn.specs.Story.{Has, AddsOneAtMost}
 use Rattle.nv_turn.specs.Passes.{PassState, IsSamePass, SeesMore}
 use Rattle.nv_turn.proofs.Prefixes.{prefix_self, prefix_trans}
-use Rattle.nv_history.specs.Events.{Event, Entry}
-use Rattle.nv_history.specs.Worlds.{World, Outcome, refuses, idles, becomes, step}
+use Rattle.nv_rpc.specs.Frames.{call_of_frame}
+use Rattle.nv_rpc.specs.declared.frame.Frame.{Frame}
+use Rattle.nv_history.specs.Events.{Event, open_session, request_of, take_of, close_of, Entry, entry_of}
+use Rattle.nv_history.specs.Worlds.{World, Outcome, refuses, idles, becomes, session_of, step}
 use Rattle.nv_history.specs.Asking.{own}
-use Rattle.nv_world.specs.Contents.{plain_event, plain_entries}
+use Rattle.nv_world.specs.Contents.{plain_cause, plain_event, plain_entries}
 use Rattle.nv_world.specs.Worlds.{WorldRecord, AppliesOk, AppliesErr, GivesSendable, model_of, outcome_of_event}
+use Rattle.nv_world.specs.Outcomes.{effect_of_taken, stop_of_unopened, stop_of_unasked, stop_of_untaken, stop_of_unclosed, IsUnaskedBy, IsUnclosedBy}
+use Rattle.nv_world.specs.declared.calls.Taken.{Taken}
+use Rattle.nv_world.specs.declared.calls.Unopened.{Unopened}
+use Rattle.nv_world.specs.declared.calls.Unopened.TheVariants as unopened
+use Rattle.nv_world.specs.declared.calls.Unasked.{Unasked}
+use Rattle.nv_world.specs.declared.calls.Unasked.TheVariants as unasked
+use Rattle.nv_world.specs.declared.calls.Untaken.{Untaken}
+use Rattle.nv_world.specs.declared.calls.Unclosed.{Unclosed}
+use Rattle.nv_world.specs.declared.calls.Unclosed.TheVariants as unclosed
 use Rattle.nv_world.specs.declared.entry.Entry.{Entry as WorldEntry}
 use Rattle.nv_world.specs.declared.entry.Event.{Event as WorldEvent}
+use Rattle.nv_world.specs.declared.entry.Event.TheVariants as event
 use Rattle.nv_world.specs.declared.effect.Effect.{Effect as WorldEffect}
+use Rattle.nv_world.specs.declared.effect.Effect.TheVariants as effect
 use Rattle.nv_world.specs.declared.effect.Stop.{Stop as WorldStop}
+use Rattle.nv_world.specs.declared.effect.Stop.TheVariants as stop
 use Rattle.nv_world.specs.declared.story.Start.{Start}
 use Rattle.nv_halves.specs.Passes.{WorldPass, plain_pass, start_of}
-use Rattle.nv_halves.specs.Applying.{HasEffect, IsRefusal, ResultsIn, AppliesOnce}
-use Rattle.nv_halves.specs.inside.Applied.{AppliesIn, TriesIn}
-use Rattle.nv_halves.specs.inside.Insisting.{Stays, AnswersOnce, AnswersWith, ComesToTried, TriesOnce, what_was_tried}
-use Rattle.nv_halves.specs.declared.ends.Refusal.{Refusal}
-use Rattle.nv_halves.specs.declared.ends.Refusal.TheVariants as refusal
-use Rattle.nv_halves.specs.declared.ends.Refused.{Refused}
-use Rattle.nv_halves.specs.declared.insisting.Answer.{Answer}
-use Rattle.nv_halves.specs.declared.insisting.Tried.TheVariants as tried
+use Rattle.nv_halves.specs.Applying.{Visit, visit, AddsNothing, HasEffect, DoesEvent, OpensWith, AppliesOnce}
+use Rattle.nv_halves.specs.inside.Applied.{visit_in, GainsIn}
+use Rattle.nv_halves.specs.inside.Insisting.{Stays, MayWait, CallsWith, ClosesWith, asked_unless, what_was_asked, what_was_shut}
+use Rattle.nv_halves.specs.inside.Taking.{TakesWith}
+use Rattle.nv_halves.specs.declared.insisting.Asked.TheVariants as asked
 use Rattle.nv_halves.proofs.Plains.{caller_of, own_plain, plain-append, plain_begins, plain_same}
-use Rattle.nv_halves.proofs.Refusing.{refusing}
+use Rattle.nv_halves.proofs.Refusing.{IsStopIn, refusing, closed_for, open_gone}
 
 -- ---- in the world in hand
 
-pub applied_ok : (old new : WorldRecord) (number : ℕ) (event : WorldEvent) (effect : WorldEffect)
-    → AppliesOk old new (record { caller = number; event = event }) effect (outcome_of_event old (plain_event event)) → GivesSendable effect → AppliesIn old new number event (Ok effect)
-applied_ok old new number event effect h sendable = by_world (model_of old) refl h
+-- an event that did something
+did_in : (old new : WorldRecord) (number : ℕ) (event : WorldEvent) (effect : WorldEffect) (C : Visit → Type 0)
+    → AppliesOk old new (record { caller = number; event = event }) effect (outcome_of_event old (plain_event event))
+    → (DoesEvent (plain_event event) effect (visit_in old new number) → C (visit_in old new number)) → GainsIn old new number C
+did_in old new number event effect C h f = by_world (model_of old) refl h
   where
     by_outcome : (w : World) → model_of old ≡ Some w → (o : Outcome) → step w (plain_event event) ≡ o
-        → AppliesOk old new (record { caller = number; event = event }) effect (Some o) → AppliesIn old new number event (Ok effect)
+        → AppliesOk old new (record { caller = number; event = event }) effect (Some o) → GainsIn old new number C
     by_outcome w runs (becomes v wanted) is k =
         let later : new.history ≡ old.history ++ record { caller = number; event = event } ∷ [] = ap (λ (r : WorldRecord). r.history) k.1 in
-        let entry : Entry = record { caller = number; event = plain_event event } in
         record {
           capacity = ap (λ (r : WorldRecord). r.capacity) k.1;
           limits = ap (λ (r : WorldRecord). r.limits) k.1;
           adds = inr (record { caller = number; event = event }, refl, later);
-          comes = (
+          comes = f (
             w,
             runs,
-            subst (λ (o : Outcome). HasEffect (plain_entries old.history) (plain_entries new.history) entry effect o) (sym is)
+            subst (λ (o : Outcome). HasEffect (plain_event event) effect (visit_in old new number) o) (sym is)
                 (k.0, ap plain_entries later ∙ plain-append old.history (record { caller = number; event = event } ∷ [])),
-            sendable,
           );
         }
     by_outcome w runs (idles wanted) is k =
         let later : new.history ≡ old.history = ap (λ (r : WorldRecord). r.history) k.1 in
-        let entry : Entry = record { caller = number; event = plain_event event } in
         record {
           capacity = ap (λ (r : WorldRecord). r.capacity) k.1;
           limits = ap (λ (r : WorldRecord). r.limits) k.1;
           adds = inl later;
-          comes = (
+          comes = f (
             w,
             runs,
-            subst (λ (o : Outcome). HasEffect (plain_entries old.history) (plain_entries new.history) entry effect o) (sym is) (k.0, ap plain_entries later),
-            sendable,
+            subst (λ (o : Outcome). HasEffect (plain_event event) effect (visit_in old new number) o) (sym is) (k.0, ap plain_entries later),
           );
         }
     by_outcome w runs (refuses why) is k = absurd k
 
     by_world : (o : Option World) → model_of old ≡ o → AppliesOk old new (record { caller = number; event = event }) effect (option_map (λ w. step w (plain_event event)) o)
-        → AppliesIn old new number event (Ok effect)
+        → GainsIn old new number C
     by_world None is k = absurd k
     by_world (Some w) is k = by_outcome w is (step w (plain_event event)) refl k
 
-pub applied_err : (old new : WorldRecord) (number : ℕ) (event back : WorldEvent) (stop : WorldStop) (why : Refusal) → back ≡ event
-    → AppliesErr old new stop (outcome_of_event old (plain_event event)) → IsRefusal (Some (start_of new)) (plain_entries new.history) (plain_event back) why
-    → AppliesIn old new number event (Err (record { event = back; why = why }))
-applied_err old new number event back stop why same h told =
-    let r = refusing old new (plain_event event) stop h in
-    let there : IsRefusal (Some (start_of old)) (plain_entries old.history) (plain_event event) why =
-    subst (λ (e : WorldEvent). IsRefusal (Some (start_of old)) (plain_entries old.history) (plain_event e) why) same
-    (subst (λ (l : List WorldEntry). IsRefusal (Some (start_of old)) (plain_entries l) (plain_event back) why) r.history
-    (subst (λ (c : ℕ). IsRefusal (Some (record { outbox = c; limits = old.limits })) (plain_entries new.history) (plain_event back) why) r.capacity
-    (subst (λ (l : _). IsRefusal (Some (record { outbox = new.capacity; limits = l })) (plain_entries new.history) (plain_event back) why) r.limits told))) in
-    record {
-      capacity = r.capacity;
-      limits = r.limits;
-      adds = inl r.history;
-      comes = (ap plain_entries r.history, same, there);
-    }
+-- nothing was done
+idle_in : (old new : WorldRecord) (number : ℕ) (C : Visit → Type 0) → new.history ≡ old.history → new.capacity ≡ old.capacity → new.limits ≡ old.limits
+    → (AddsNothing (visit_in old new number) → C (visit_in old new number)) → GainsIn old new number C
+idle_in old new number C history capacity limits f = record {
+  capacity = capacity;
+  limits = limits;
+  adds = inl history;
+  comes = f (ap plain_entries history);
+}
+
+-- an event that was refused
+stopped_in : (old new : WorldRecord) (number : ℕ) (event : Event) (why : WorldStop) (C : Visit → Type 0) → AppliesErr old new why (outcome_of_event old event)
+    → (AddsNothing (visit_in old new number) → IsStopIn old event why → C (visit_in old new number)) → GainsIn old new number C
+stopped_in old new number event why C h f =
+    let r = refusing old new event why h in
+    idle_in old new number C r.history r.capacity r.limits (λ n. f n r.told)
+
+-- a world in which nothing was tried
+pub untried_in : (k : WorldRecord) (number : ℕ) (C : Visit → Type 0) → (AddsNothing (visit_in k k number) → C (visit_in k k number)) → GainsIn k k number C
+untried_in k number C f = idle_in k k number C refl refl refl f
+
+pub opens_in : (old new : WorldRecord) (number : ℕ) (met : Result ℕ Unopened)
+    → IfOk met (λ s. (old.spent ≡ false) × AppliesOk old new (record { caller = number; event = event.Open }) (effect.Opened s) (outcome_of_event old open_session))
+    → IfErr met (λ why. AppliesErr old new (stop_of_unopened why) (outcome_of_event old open_session))
+    → GainsIn old new number (OpensWith met)
+opens_in old new number (Ok s) ok err = did_in old new number event.Open (effect.Opened s) (OpensWith (Ok s)) ok.1 (λ d. d)
+opens_in old new number (Err unopened.NoMemory) ok err =
+    stopped_in old new number open_session stop.NoMemory (OpensWith (Err unopened.NoMemory)) err (λ n t. n)
+opens_in old new number (Err (unopened.Ended entry)) ok err =
+    stopped_in old new number open_session (stop.Gone entry) (OpensWith (Err (unopened.Ended entry))) err
+    (λ n t. (n, (t.world, t.runs, open_gone t.world entry t.refused)))
+
+-- a call that wasn't made
+unmade_in : (old new : WorldRecord) (number s : ℕ) (frame back : Frame) (why : Unasked) → back ≡ frame
+    → AppliesErr old new (stop_of_unasked s why) (outcome_of_event old (request_of s (call_of_frame frame)))
+    → ((w : World) → model_of old ≡ Some w → IsUnaskedBy (session_of w s) why)
+    → GainsIn old new number (CallsWith (asked_unless back why) s (call_of_frame frame))
+unmade_in old new number s frame back unasked.NoMemory same h gone =
+    stopped_in old new number (request_of s (call_of_frame frame)) stop.NoMemory (CallsWith (Ok asked.NoMemory) s (call_of_frame frame)) h (λ n t. n)
+unmade_in old new number s frame back (unasked.Gone cause) same h gone =
+    stopped_in old new number (request_of s (call_of_frame frame)) (stop.Gone (entry_of (plain_cause cause))) (CallsWith (Ok (asked.Gone cause)) s (call_of_frame frame)) h
+    (λ n t. (n, (t.world, t.runs, closed_for t.world s (plain_cause cause) (gone t.world t.runs))))
+unmade_in old new number s frame back unasked.Stranger same h gone =
+    stopped_in old new number (request_of s (call_of_frame frame)) (stop.Stranger s) (CallsWith (Err back) s (call_of_frame frame)) h (λ n t. (n, ap call_of_frame same))
+unmade_in old new number s frame back (unasked.Held count) same h gone =
+    stopped_in old new number (request_of s (call_of_frame frame)) (stop.Held count) (CallsWith (Err back) s (call_of_frame frame)) h (λ n t. (n, ap call_of_frame same))
+
+pub calls_in_world : {A : Type 0} (old new : WorldRecord) (number s : ℕ) (frame : Frame) (met : Result A (Frame × Unasked))
+    → OnOk met ((old.spent ≡ false) × AppliesOk old new (record { caller = number; event = event.Request s frame }) effect.Done (outcome_of_event old (request_of s (call_of_frame frame))))
+    → IfErr met (λ refused. (refused.0 ≡ frame) × AppliesErr old new (stop_of_unasked s refused.1) (outcome_of_event old (request_of s (call_of_frame frame))))
+    → IfErr met (λ refused. (w : World) → model_of old ≡ Some w → IsUnaskedBy (session_of w s) refused.1)
+    → GainsIn old new number (CallsWith (what_was_asked met) s (call_of_frame frame))
+calls_in_world old new number s frame (Ok made) ok err gone =
+    did_in old new number (event.Request s frame) effect.Done (CallsWith (Ok asked.Done) s (call_of_frame frame)) ok.1 (λ d. d)
+calls_in_world old new number s frame (Err refused) ok err gone = unmade_in old new number s frame refused.0 refused.1 err.0 err.1 gone
+
+pub takes_in_world : (old new : WorldRecord) (number s : ℕ) (met : Result Taken Untaken)
+    → IfOk met (λ taken. (old.spent ≡ false) × AppliesOk old new (record { caller = number; event = event.Take s }) (effect_of_taken taken) (outcome_of_event old (take_of s)))
+    → IfErr met (λ why. AppliesErr old new (stop_of_untaken s why) (outcome_of_event old (take_of s)))
+    → IfOk met (λ taken. GivesSendable (effect_of_taken taken))
+    → GainsIn old new number (TakesWith met s)
+takes_in_world old new number s (Ok taken) ok err sendable =
+    did_in old new number (event.Take s) (effect_of_taken taken) (TakesWith (Ok taken) s) ok.1 (λ d. (d, sendable))
+takes_in_world old new number s (Err why) ok err sendable =
+    stopped_in old new number (take_of s) (stop_of_untaken s why) (TakesWith (Err why) s) err (λ n t. n)
+
+pub closes_in_world : {A : Type 0} (old new : WorldRecord) (number s : ℕ) (met : Result A Unclosed)
+    → OnOk met ((old.spent ≡ false) × AppliesOk old new (record { caller = number; event = event.Close s }) effect.Closed (outcome_of_event old (close_of s)))
+    → IfErr met (λ why. AppliesErr old new (stop_of_unclosed s why) (outcome_of_event old (close_of s)))
+    → IfErr met (λ why. (w : World) → model_of old ≡ Some w → IsUnclosedBy (session_of w s) why)
+    → GainsIn old new number (ClosesWith (what_was_shut met) s)
+closes_in_world old new number s (Ok made) ok err gone =
+    did_in old new number (event.Close s) effect.Closed (ClosesWith (Some asked.Done) s) ok.1 (λ d. d)
+closes_in_world old new number s (Err unclosed.NoMemory) ok err gone =
+    stopped_in old new number (close_of s) stop.NoMemory (ClosesWith (Some asked.NoMemory) s) err (λ n t. n)
+closes_in_world old new number s (Err (unclosed.Gone cause)) ok err gone =
+    stopped_in old new number (close_of s) (stop.Gone (entry_of (plain_cause cause))) (ClosesWith (Some (asked.Gone cause)) s) err
+    (λ n t. (n, (t.world, t.runs, closed_for t.world s (plain_cause cause) (gone t.world t.runs))))
+closes_in_world old new number s (Err unclosed.Stranger) ok err gone =
+    stopped_in old new number (close_of s) (stop.Stranger s) (ClosesWith None s) err (λ n t. n)
 
 -- ---- under the turn
 
@@ -99,17 +172,18 @@ same_then p q r a b = record {
 }
 
 -- what came in the world that was found came behind what the pass had seen
-pub once_of : (p held q : PassState WorldEntry Start) (old new : WorldRecord) (number : ℕ) (Comes : Option Start → ℕ → List Entry → List Entry → Type 0)
+pub once_of : (p held q : PassState WorldEntry Start) (old new : WorldRecord) (number : ℕ) (C : Visit → Type 0)
     → IsSamePass p held → SeesMore caller_of p held → Has p.number p.numbers → old.history ≡ held.seen → p.start ≡ Some (start_of old) → number ≡ held.number
-    → Comes (Some (start_of old)) number (plain_entries old.history) (plain_entries new.history) → IsSamePass held q → q.seen ≡ new.history
-    → AppliesOnce (plain_pass p) (plain_pass q) (λ found. Comes p.start p.number found (plain_entries q.seen))
-once_of p held q old new number Comes same sees has found start number_is came left later =
+    → GainsIn old new number C → IsSamePass held q → q.seen ≡ new.history → AppliesOnce (plain_pass p) (plain_pass q) C
+once_of p held q old new number C same sees has found start number_is gains left later =
     let by : number ≡ p.number = number_is ∙ same.number in
-    let comes : Comes p.start p.number (plain_entries held.seen) (plain_entries q.seen) =
-    subst (λ (l : List WorldEntry). Comes p.start p.number (plain_entries held.seen) (plain_entries l)) (sym later)
-    (subst (λ (l : List WorldEntry). Comes p.start p.number (plain_entries l) (plain_entries new.history)) found
-    (subst (λ (n : ℕ). Comes p.start n (plain_entries old.history) (plain_entries new.history)) by
-    (subst (λ (s : Option Start). Comes s number (plain_entries old.history) (plain_entries new.history)) (sym start) came))) in
+    let V : Option Start → ℕ → List WorldEntry → List WorldEntry → Type 0 =
+    λ s n f a. C (record { start = s; number = n; found = plain_entries f; after = plain_entries a }) in
+    let comes : V p.start p.number held.seen q.seen =
+    subst (λ (l : List WorldEntry). V p.start p.number held.seen l) (sym later)
+    (subst (λ (l : List WorldEntry). V p.start p.number l new.history) found
+    (subst (λ (n : ℕ). V p.start n old.history new.history) by
+    (subst (λ (s : Option Start). V s number old.history new.history) (sym start) gains.comes))) in
     record {
       same = plain_same p q (same_then p held q same left);
       number = has;
@@ -144,27 +218,34 @@ stays_waiting p q same sees has = record {
 }
 
 -- a pass that came in for nothing
-pub stays_once : (p q : WorldPass) (C : List Entry → Type 0) (a : AppliesOnce p q C) → q.seen ≡ a.found → Stays p q
+pub stays_once : (p q : WorldPass) (C : Visit → Type 0) (a : AppliesOnce p q C) → q.seen ≡ a.found → Stays p q
 stays_once p q C a e = record {
   same = a.same;
   begins = subst (λ (l : List Entry). IsPrefix p.seen l) (sym e) a.begins;
   own_is = ap (own p.number) e ∙ a.own_is;
 }
 
--- another fact of what was found
-pub once_by : (p q : WorldPass) (C D : List Entry → Type 0) → ((found : List Entry) → C found → D found) → AppliesOnce p q C → AppliesOnce p q D
+-- one that came in for nothing, and may wait
+pub waits_once : (p q : WorldPass) (C : Visit → Type 0) (a : AppliesOnce p q C) → q.seen ≡ a.found → MayWait p q
+waits_once p q C a e = record {
+  stays = stays_once p q C a e;
+  number = subst (λ (l : List ℕ). Has q.number l) (sym a.same.numbers) (subst (λ (k : ℕ). Has k p.numbers) (sym a.same.number) a.number);
+}
+
+-- another fact of what came
+pub once_by : (p q : WorldPass) (C D : Visit → Type 0) → ((v : Visit) → C v → D v) → AppliesOnce p q C → AppliesOnce p q D
 once_by p q C D f a = record {
   same = a.same;
   number = a.number;
   found = a.found;
   begins = a.begins;
   own_is = a.own_is;
-  comes = f a.found a.comes;
+  comes = f (visit p q a.found) a.comes;
 }
 
 -- a pass that waited, and then came in
-pub once_after : (p q r : WorldPass) (event : Event) (met : Answer) → Stays p q → AnswersOnce q r event met → AnswersOnce p r event met
-once_after p q r event met s a =
+pub once_after : (p q r : WorldPass) (C : Visit → Type 0) → Stays p q → AppliesOnce q r C → AppliesOnce p r C
+once_after p q r C s a =
     let n : q.number ≡ p.number = s.same.number in
     record {
       same = same_then p q r s.same a.same;
@@ -172,45 +253,9 @@ once_after p q r event met s a =
       found = a.found;
       begins = prefix_trans p.seen q.seen a.found s.begins a.begins;
       own_is = subst (λ (k : ℕ). own k a.found ≡ own k q.seen) n a.own_is ∙ s.own_is;
-      comes = subst (λ (o : Option Start). AnswersWith o p.number event a.found met r.seen) s.same.start
-          (subst (λ (k : ℕ). AnswersWith q.start k event a.found met r.seen) n a.comes);
+      comes = subst (λ (o : Option Start). C (record { start = o; number = p.number; found = a.found; after = r.seen })) s.same.start
+          (subst (λ (k : ℕ). C (record { start = q.start; number = k; found = a.found; after = r.seen })) n a.comes);
     }
-
--- ---- what was tried
-
-gone_answer : (start : Option Start) (number : ℕ) (event back : WorldEvent) (found after : List Entry) (why : Refusal) → after ≡ found → back ≡ event
-    → IsRefusal start found (plain_event event) why → ComesToTried start number event found (what_was_tried (Err (record { event = back; why = why }))) after
-gone_answer start number event back found after refusal.NoMemory e same h = e
-gone_answer start number event back found after (refusal.Stranger s) e same h = (e, same)
-gone_answer start number event back found after (refusal.Held n) e same h = (e, same)
-gone_answer start number event back found after (refusal.Gone cause) e same h = (e, h.0, h.1, h.2)
-gone_answer start number event back found after (refusal.Ended entry) e same h = e
-
-pub comes_tried : (start : Option Start) (number : ℕ) (event : WorldEvent) (found after : List Entry) (met : Result WorldEffect Refused) → ResultsIn start number event found met after
-    → ComesToTried start number event found (what_was_tried met) after
-comes_tried start number event found after (Ok effect) h = h
-comes_tried start number event found after (Err refused) h = gone_answer start number event refused.event found after refused.why h.0 h.1 h.2
-
-pub tries_in : (old new : WorldRecord) (number : ℕ) (event : WorldEvent) (met : Result WorldEffect Refused) → AppliesIn old new number event met → TriesIn old new number event (what_was_tried met)
-tries_in old new number event met a = record {
-  capacity = a.capacity;
-  limits = a.limits;
-  adds = a.adds;
-  comes = comes_tried (Some (start_of old)) number event (plain_entries old.history) (plain_entries new.history) met a.comes;
-}
-
--- it is to be tried again
-pub record IsAgain (p q : WorldPass) (event back : WorldEvent) : Type 0 where
-  pub stays : Stays p q
-  pub same_event : back ≡ event
-  pub number : Has q.number q.numbers
-
-pub tried_again : (p q : WorldPass) (event back : WorldEvent) → TriesOnce p q event (tried.Again back) → IsAgain p q event back
-tried_again p q event back a = record {
-  stays = stays_once p q (λ found. ComesToTried p.start p.number event found (tried.Again back) q.seen) a a.comes.0;
-  same_event = a.comes.1;
-  number = subst (λ (l : List ℕ). Has q.number l) (sym a.same.numbers) (subst (λ (k : ℕ). Has k p.numbers) (sym a.same.number) a.number);
-}
 
 -- what a world has gained, by the pass that holds it
 pub adds_to : (n m : ℕ) (story found later : List WorldEntry) → n ≡ m → found ≡ story → AddsOneAtMost caller_of n found later → AddsOneAtMost caller_of m story later

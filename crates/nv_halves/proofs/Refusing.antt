@@ -1,19 +1,29 @@
 -- Why events are refused.
-use Rattle.std.proofs.Common.{◌≡◌, ℕ, Bool, true, false, List, Option, Some, None, refl, ap, sym, ◌∙◌, subst}
-use Rattle.std.specs.Prelude.{IsSome, is_some, option_map}
+use Rattle.std.proofs.Common.{◌≡◌, ℕ, Option, Some, None, refl, ap, sym, ◌∙◌}
+use Rattle.std.specs.Prelude.{option_map}
 use Rattle.std.proofs.lemmas.Option.{none-some, same_Some}
-use Rattle.nv_rpc.specs.Calls.{Call}
-use Rattle.nv_history.specs.Events.{Event, open_session, request_of, take_of, close_of, Cause, Stop, stranger, gone_by, held_with}
+use Rattle.nv_history.specs.Events.{Event, open_session, Cause, Stop, stranger, gone_by, held_with}
 use Rattle.nv_history.specs.Sessions.{Session}
-use Rattle.nv_history.specs.Worlds.{World, Outcome, refuses, idles, becomes, session_of, step, opening_outcome, held_outcome, live_request_outcome, request_outcome, empty_take_outcome, some_take_outcome, session_take_outcome, take_outcome, live_close_outcome, close_outcome}
-use Rattle.nv_world.specs.Contents.{plain_stop}
-use Rattle.nv_world.specs.Worlds.{WorldRecord, AppliesErr, as_spent, cause_of, model_of, outcome_of_event}
+use Rattle.nv_history.specs.Worlds.{World, Outcome, refuses, idles, becomes, session_of, step, opening_outcome}
+use Rattle.nv_world.specs.Worlds.{WorldRecord, AppliesErr, cause_of, model_of, outcome_of_event}
 use Rattle.nv_world.specs.declared.effect.Stop.{Stop as WorldStop}
 use Rattle.nv_world.specs.declared.effect.Stop.TheVariants as stop
 use Rattle.nv_halves.specs.Passes.{IsClosedBy}
-use Rattle.nv_halves.specs.inside.Applied.{RefusesIn, IsStopIn}
 
 -- ---- a stop of a world that was asked
+
+-- an event is refused so in a world
+pub record RefusesIn (k : WorldRecord) (event : Event) (why : Stop) : Type 0 where
+  pub world : World
+  pub runs : model_of k ≡ Some world
+  pub refused : step world event ≡ refuses why
+
+-- a stop tells why; want of memory may always come in its place
+abbrev pub IsStopIn : WorldRecord → Event → WorldStop → Type 0
+IsStopIn k event stop.NoMemory = Unit {0}
+IsStopIn k event (stop.Stranger s) = RefusesIn k event (stranger s)
+IsStopIn k event (stop.Gone entry) = RefusesIn k event (gone_by entry)
+IsStopIn k event (stop.Held n) = RefusesIn k event (held_with n)
 
 -- an outcome refuses so, and the world stays
 abbrev pub RefusesAs : WorldRecord → WorldRecord → Stop → Option Outcome → Type 0
@@ -42,7 +52,7 @@ held_as old new n None h = absurd h
 
 -- a world that stays as it was refuses so
 record StaysRefusing (old new : WorldRecord) (event : Event) (why : Stop) : Type 0 where
-  refused : RefusesIn new event why
+  refused : RefusesIn old event why
   same : new ≡ old
 
 in_world : (old new : WorldRecord) (event : Event) (why : Stop) → RefusesAs old new why (outcome_of_event old event) → StaysRefusing old new event why
@@ -50,7 +60,7 @@ in_world old new event why h = by_world (model_of old) refl h
   where
     by_outcome : (w : World) → model_of old ≡ Some w → (o : Outcome) → step w event ≡ o → RefusesAs old new why (Some o) → StaysRefusing old new event why
     by_outcome w runs (refuses wanted) is k = record {
-      refused = (w, ap model_of k.1 ∙ runs, is ∙ ap (λ (x : Stop). refuses x) (sym (same_Some why wanted k.0)));
+      refused = record { world = w; runs = runs; refused = is ∙ ap (λ (x : Stop). refuses x) (sym (same_Some why wanted k.0)) };
       same = k.1;
     }
     by_outcome w runs (idles effect) is k = absurd k
@@ -62,12 +72,12 @@ in_world old new event why h = by_world (model_of old) refl h
 
 -- the world once an event was refused
 pub record IsRefusing (old new : WorldRecord) (event : Event) (why : WorldStop) : Type 0 where
-  pub told : IsStopIn new event why
+  pub told : IsStopIn old event why
   pub history : new.history ≡ old.history
   pub capacity : new.capacity ≡ old.capacity
   pub limits : new.limits ≡ old.limits
 
-staying : (old new : WorldRecord) (event : Event) (why : WorldStop) → IsStopIn new event why → new ≡ old → IsRefusing old new event why
+staying : (old new : WorldRecord) (event : Event) (why : WorldStop) → IsStopIn old event why → new ≡ old → IsRefusing old new event why
 staying old new event why told same = record {
   told = told;
   history = ap (λ (k : WorldRecord). k.history) same;
@@ -109,47 +119,3 @@ open_gone w entry h = by_end w.ended refl h
     by_end : (o : Option ℕ) → w.ended ≡ o → opening_outcome o w ≡ refuses (gone_by entry) → w.ended ≡ Some entry
     by_end None is k = cc
     by_end (Some e) is k = let same : e ≡ entry = cc in is ∙ ap (λ (n : ℕ). Some n) same
-
-held_gone : (b : Bool) (w : World) (s : ℕ) (x : Session) (call : Call) (entry : ℕ) → held_outcome b w s x call ≡ refuses (gone_by entry) → ⊥
-held_gone true w s x call entry h = cc
-held_gone false w s x call entry h = cc
-
--- the session of a call that is gone is closed
-pub request_gone : (w : World) (s : ℕ) (call : Call) (entry : ℕ) → step w (request_of s call) ≡ refuses (gone_by entry) → IsSome (cause_of (session_of w s))
-request_gone w s call entry h = by_session (session_of w s) h
-  where
-    by_cause : (c : Option Cause) (x : Session) → live_request_outcome c w s x call ≡ refuses (gone_by entry) → IsSome c
-    by_cause None x k = absurd (held_gone _ w s x call entry k)
-    by_cause (Some c) x k = refl
-
-    by_session : (o : Option Session) → request_outcome o w s call ≡ refuses (gone_by entry) → IsSome (cause_of o)
-    by_session None k = cc
-    by_session (Some x) k = by_cause x.closed x k
-
--- and so is that of a close
-pub close_gone : (w : World) (s entry : ℕ) → step w (close_of s) ≡ refuses (gone_by entry) → IsSome (cause_of (session_of w s))
-close_gone w s entry h = by_session (session_of w s) h
-  where
-    by_cause : (c : Option Cause) (x : Session) → live_close_outcome c w s x ≡ refuses (gone_by entry) → IsSome c
-    by_cause None x k = cc
-    by_cause (Some c) x k = refl
-
-    by_session : (o : Option Session) → close_outcome o w s ≡ refuses (gone_by entry) → IsSome (cause_of o)
-    by_session None k = cc
-    by_session (Some x) k = by_cause x.closed x k
-
--- a take never is
-pub take_not_gone : (w : World) (s entry : ℕ) → step w (take_of s) ≡ refuses (gone_by entry) → ⊥
-take_not_gone w s entry h = by_session (session_of w s) h
-  where
-    by_cause : (c : Option Cause) → empty_take_outcome c ≡ refuses (gone_by entry) → ⊥
-    by_cause None k = cc
-    by_cause (Some c) k = cc
-
-    by_none : (none scene : Bool) (x : Session) → some_take_outcome none scene w s x ≡ refuses (gone_by entry) → ⊥
-    by_none true scene x k = by_cause x.closed k
-    by_none false scene x k = cc
-
-    by_session : (o : Option Session) → take_outcome o w s ≡ refuses (gone_by entry) → ⊥
-    by_session None k = cc
-    by_session (Some x) k = by_none _ _ x k

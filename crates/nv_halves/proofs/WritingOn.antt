@@ -1,5 +1,5 @@
 -- A writer on its way.
-use Rattle.std.proofs.Common.{◌≡◌, ℕ, zero, suc, ◌+◌, List, [], ◌∷◌, ◌++◌, length, take, Option, Some, None, refl, ap, sym, ◌∙◌, subst, arith, append-nil, append_assoc}
+use Rattle.std.proofs.Common.{◌≡◌, ℕ, zero, suc, ◌+◌, List, [], ◌∷◌, ◌++◌, length, take, Option, Some, None, Result, Ok, Err, refl, ap, sym, ◌∙◌, subst, arith, append-nil, append_assoc}
 use Rattle.std.proofs.lemmas.List.{take_all}
 use Rattle.std.specs.Io.KnownBytes.{append_known}
 use mathlib.Core.List.{IsPrefix}
@@ -8,33 +8,29 @@ use Rattle.nv_rpc.specs.Messages.{Sent}
 use Rattle.nv_screen.specs.declared.scene.Scene.{Scene}
 use Rattle.nv_linegrid.specs.declared.event.Redraw.{Redraw}
 use Rattle.nv_linegrid.specs.Told.{Told, nothing_told}
-use Rattle.nv_history.specs.Events.{Event, take_of, close_of, Entry, Cause}
+use Rattle.nv_history.specs.Events.{take_of, close_of, Entry, Cause}
 use Rattle.nv_history.specs.Worlds.{World}
 use Rattle.nv_history.specs.Runs.{TakenBatch}
 use Rattle.nv_history.specs.Asking.{own, takes_by}
 use Rattle.nv_history.specs.Spoken.{ShowsIfGiven, events_of, bytes_of_scene, bytes_of_messages, told_with, IsSpoken, AreSpoken, AreBytesOf}
 use Rattle.nv_history.proofs.SpokenParts.{spoken_none, spoken-push}
-use Rattle.nv_world.specs.Contents.{plain_cause, plain_event}
+use Rattle.nv_world.specs.Contents.{plain_cause}
+use Rattle.nv_world.specs.declared.calls.Taken.{Taken}
+use Rattle.nv_world.specs.declared.calls.Taken.TheVariants as taken
+use Rattle.nv_world.specs.declared.calls.Untaken.{Untaken}
 use Rattle.nv_world.specs.declared.effect.Batch.{Batch}
 use Rattle.nv_world.specs.declared.effect.Cause.{Cause as WorldCause}
-use Rattle.nv_world.specs.declared.entry.Event.{Event as WorldEvent}
 use Rattle.nv_world.specs.declared.story.Start.{Start}
 use Rattle.nv_halves.specs.Passes.{WorldPass, world_of_run, out_of, OfEach, IsFromWriter, GainedEach, IsOver}
-use Rattle.nv_halves.specs.Applying.{AppliesOnce}
 use Rattle.nv_halves.specs.Halves.{WroteAll, WroteFront, WroteBy, WritesHalf}
-use Rattle.nv_halves.specs.inside.Insisting.{Stays, AnswersOnce, TriesOnce, ClosesOnce, Shuts, what_was_asked}
+use Rattle.nv_halves.specs.inside.Insisting.{Stays, ClosesOnce, Shuts, TriesClose}
 use Rattle.nv_halves.specs.inside.Taking.{sent_in, IsTaken, TakesBatch, IsOverNow, IsExact, GainsTakes, WritesSoFar, WritesPart, TakesOnce, bytes_of_taken, IsCutOff, Drops, WritesOnce}
 use Rattle.nv_halves.specs.declared.ends.WriterEnd.{WriterEnd}
 use Rattle.nv_halves.specs.declared.ends.WriterEnd.TheVariants as w
 use Rattle.nv_halves.specs.declared.insisting.Asked.{Asked}
 use Rattle.nv_halves.specs.declared.insisting.Asked.TheVariants as asked
-use Rattle.nv_halves.specs.declared.insisting.Tried.{Tried}
-use Rattle.nv_halves.specs.declared.insisting.Tried.TheVariants as tried
-use Rattle.nv_halves.specs.declared.writer.Took.{Took}
-use Rattle.nv_halves.specs.declared.writer.Took.TheVariants as took
 use Rattle.nv_halves.specs.declared.writer.Written.TheVariants as written
-use Rattle.nv_halves.proofs.Onces.{same_then, stays_self, stays_once}
-use Rattle.nv_halves.proofs.Answering.{once_shut}
+use Rattle.nv_halves.proofs.Onces.{same_then, stays_self}
 use Rattle.nv_halves.proofs.Staying.{goes_over}
 use Rattle.nv_halves.proofs.Exactness.{gains_none, gains_stay, gains_push, exact_begun, exact_on, exact_found, exact_take, exact_close}
 
@@ -267,11 +263,11 @@ drops_batch : (p q : WorldPass) (s : ℕ) (batch : Batch) → TakesBatch p q s b
 drops_batch p q s batch b = record { same = b.once.same; part = λ first before now h. part_more first p q s before now batch b h }
 
 -- a take, whatever it gave
-pub drops_took : (met : Took) (p q : WorldPass) (s : ℕ) → TakesOnce met p q s → Drops p q s
-drops_took (took.Batch batch) p q s t = drops_batch p q s batch t
-drops_took took.Nothing p q s t = drops_stay p q s t
-drops_took (took.Over cause) p q s t = drops_stay p q s t.0
-drops_took took.NoMemory p q s t = drops_stay p q s t
+pub drops_took : (met : Result Taken Untaken) (p q : WorldPass) (s : ℕ) → TakesOnce met p q s → Drops p q s
+drops_took (Ok (taken.Items batch)) p q s t = drops_batch p q s batch t
+drops_took (Ok taken.Nothing) p q s t = drops_stay p q s t
+drops_took (Ok (taken.Over cause)) p q s t = drops_stay p q s t.0
+drops_took (Err why) p q s t = drops_stay p q s t
 
 same_shut : (p q : WorldPass) (s : ℕ) (met : Asked) → Shuts met p q s → IsSamePass p q
 same_shut p q s asked.Done k = k.0.same
@@ -282,10 +278,9 @@ drops_shut : (p q : WorldPass) (s : ℕ) (met : Asked) → Shuts met p q s → D
 drops_shut p q s met k = record { same = same_shut p q s met k; part = λ first before now h. part_shut first p q s before now met h k }
 
 -- a close that was tried once
-pub drops_tried : (p q : WorldPass) (s : ℕ) (event : WorldEvent) (met : Tried) → plain_event event ≡ close_of s → TriesOnce p q event met → Drops p q s
-drops_tried p q s event (tried.Answered done) e a =
-    drops_shut p q s (what_was_asked done) (once_shut p q s done (subst (λ (x : Event). AnswersOnce p q x done) e a))
-drops_tried p q s event (tried.Again back) e a = drops_stay p q s (stays_once p q _ a a.comes.0)
+pub drops_tried : (tried : Option Asked) (p q : WorldPass) (s : ℕ) → TriesClose tried p q s → Drops p q s
+drops_tried (Some met) p q s k = drops_shut p q s met k
+drops_tried None p q s k = drops_stay p q s k.stays
 
 -- ---- how a writer ends
 
@@ -346,7 +341,3 @@ ends_over cause p q s told out k first before h = half_over cause first q s told
 pub ends_wanting : (p q : WorldPass) (s : ℕ) (told : Told) (out : Option (List ℕ)) → Stays p q → WritesOnce (written.Ends w.NoMemory) p q s told told out out
 ends_wanting p q s told out k first before h =
     half_part w.NoMemory first q s before out tt (part_all first q s told before out (writes_stay first p q s told before out h k))
-
--- nobody reads, and then all that was due was dropped
-pub ends_unread : (p r : WorldPass) (s : ℕ) (told : Told) (out : Option (List ℕ)) → Drops p r s → WritesOnce (written.Ends w.NoMemory) p r s told told out out
-ends_unread p r s told out k first before h = half_part w.NoMemory first r s before out tt (k.part first before out (part_all first p s told before out h))

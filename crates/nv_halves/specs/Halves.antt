@@ -3,7 +3,7 @@
 use Rattle.std.specs.Prelude.{◌≡◌, ℕ, List, [], ◌∷◌, ◌++◌, take, Option, Some, None}
 use Rattle.std.specs.Io.KnownBytes.{append_known}
 use Rattle.nv_turn.specs.Passes.{IsSamePass}
-use Rattle.nv_io.specs.declared.ending.Flaw.{Flaw}
+use Rattle.nv_io.specs.declared.lanes.Flaw.{Flaw}
 use Rattle.nv_io.specs.Streams.{Gave}
 use Rattle.nv_rpc.specs.Calls.{Call}
 use Rattle.nv_history.specs.Events.{Entry, Cause, closed_at}

@@ -7,9 +7,6 @@
 //! word of the writer, and a writer that took, or ends, to that of its reader; then they look
 //! whether anybody sleeps on it. So no ring is lost, and where nobody sleeps no call of the system
 //! is made. Nothing is proved of any of this but that it is safe: a pause of a second is the net.
-//!
-//! The half that reads says at its bell that it runs. A writer that has nothing to take and isn't
-//! told so for some seconds runs alone, as where the system gave no thread for the other half.
 
 use nv_world::World;
 use std::sync::Wait;
@@ -18,9 +15,6 @@ use std::time::Duration;
 
 // For how many milliseconds a half sleeps at most.
 const LONGEST_SLEEP: u64 = 1000;
-
-// How often a writer sleeps at most until the half that reads begins.
-const MOST_SLEEPS: u64 = 5;
 
 // How often a word was rung, in the 32 bits on which `sleep_on` sleeps.
 fn heard_on(word: &AtomicU64) -> u32 {
@@ -55,8 +49,6 @@ pub struct Bell {
     waiting: AtomicU64,
     // The session that the lane serves, 0 where it serves none.
     session: AtomicU64,
-    // Whether the half that reads of that session has begun: 1, and else 0.
-    is_read: AtomicU64,
 }
 
 impl Bell {
@@ -68,26 +60,12 @@ impl Bell {
             taken: AtomicU64::new(0),
             waiting: AtomicU64::new(0),
             session: AtomicU64::new(0),
-            is_read: AtomicU64::new(0),
         }
     }
 
     /// From now on it rings where something is due to this session; for 0 it rings for none.
     pub fn serve(&self, session: u64) {
-        self.is_read.store(0, Ordering::SeqCst);
         self.session.store(session, Ordering::SeqCst);
-    }
-
-    // Whether the half that reads has begun. Where it hasn't, waits for it, for some seconds.
-    pub(crate) fn is_read<R: Wait>(&self, rt: &R) -> bool {
-        for _ in 0..MOST_SLEEPS {
-            let heard = self.heard();
-            if self.is_read.load(Ordering::SeqCst) != 0 {
-                return true;
-            }
-            self.sleep(rt, heard);
-        }
-        false
     }
 
     // How often its writer was rung, in the 32 bits on which `sleep` sleeps.
@@ -115,16 +93,6 @@ impl Bell {
     fn is_due(&self, world: &World) -> bool {
         let session = self.session.load(Ordering::SeqCst);
         session != 0 && (world.has_due(session) || world.closed_by(session).is_some())
-    }
-}
-
-/// Says at the bell of this session that the half that reads has begun, and wakes its writer.
-pub(crate) fn begin(bells: &[Bell], session: u64) {
-    for lane in 0..bells.len() {
-        if bells[lane].is_of(session) {
-            bells[lane].is_read.store(1, Ordering::SeqCst);
-            bells[lane].ring();
-        }
     }
 }
 
@@ -198,14 +166,21 @@ fn due_lanes(world: &World, bells: &[Bell]) -> Lanes {
     lanes
 }
 
-/// The lanes that are to be woken after an event, which under the turn can be told: all of them
-/// where the world is spent; and after a call or a close those for whose sessions it has something.
-pub(crate) fn lanes_to_wake(world: &World, bells: &[Bell], is_asked: bool) -> Lanes {
+/// The lanes that are to be woken after a call or a close, which under the turn can be told: those
+/// for whose sessions the world has something, and all of them if it is spent.
+pub(crate) fn lanes_to_wake(world: &World, bells: &[Bell]) -> Lanes {
     if world.spent() {
-        return Lanes::all();
-    }
-    if is_asked {
+        Lanes::all()
+    } else {
         due_lanes(world, bells)
+    }
+}
+
+/// Those that are to be woken after an event that makes nothing due: all of them if it has spent
+/// the world.
+pub(crate) fn lanes_if_spent(world: &World) -> Lanes {
+    if world.spent() {
+        Lanes::all()
     } else {
         Lanes::none()
     }

@@ -1,43 +1,21 @@
-//! Events that are tried until they are taken: where the session is held, or too much waits for it,
-//! or it isn't there yet, the half waits, and the same event is tried again.
+//! The calls of a session and its close, each made again until it is taken: where the session is
+//! held, or too much waits for it, or it isn't there yet, the half waits.
 ghost use Rattle.std.specs.Prelude.{◌≡◌};
 ghost use Rattle.nv_turn.specs.Story.{Has};
 ghost use Rattle.nv_rpc.specs.Frames.{call_of_frame};
-ghost use Rattle.nv_world.specs.Contents.{plain_event};
-ghost use Rattle.nv_world.specs.Worlds.{IsLightCall, IsLightEvent};
+ghost use Rattle.nv_world.specs.Worlds.{IsLightCall};
 ghost use Rattle.nv_halves.specs.Passes.{plain_pass};
-ghost use Rattle.nv_halves.specs.inside.Applied.{TriesIn};
-ghost use Rattle.nv_halves.specs.inside.Insisting.{AnswersOnce, AsksOnce, Shuts, Stays, TriesOnce, what_was_asked, what_was_tried};
+ghost use Rattle.nv_halves.specs.inside.Applied.{GainsIn};
+ghost use Rattle.nv_halves.specs.inside.Insisting.{AsksOnce, CallsWith, ClosesWith, Shuts, Stays, TriesCall, TriesClose, what_was_asked, what_was_shut};
 
-use crate::applying::apply_and_tell;
-use crate::bells::{Bell, Lanes, ring, takes_heard, wait_for_take};
-use crate::ends::{Refusal, Refused};
+use crate::bells::{Bell, Lanes, lanes_to_wake, ring, takes_heard, wait_for_take};
 use nv_rpc::Frame;
 use nv_turn::{Pass, Turn};
-use nv_world::{Cause, Effect, Event, World};
+use nv_world::{Cause, Unasked, Unclosed, World};
 use std::sync::Wait;
 
 /// How many bytes are due at most, about, to a session that makes a call.
 const MOST_DUE: u64 = 8 << 20;
-
-/// What an event came to that isn't tried again.
-#[derive(Drop)]
-pub enum Answer {
-    /// It did this.
-    Done(Effect),
-    /// Its session is closed for this cause.
-    Gone(Cause),
-    /// Memory was wanting.
-    NoMemory,
-}
-
-/// What came of an event that was tried once.
-#[derive(Drop)]
-pub enum Tried {
-    Answered(Answer),
-    /// It is to be tried again.
-    Again(Event),
-}
 
 /// What a half asked of the world.
 #[derive(Clone, Copy, Debug, PartialEq, Eq)]
@@ -45,81 +23,79 @@ pub enum Asked {
     Done,
     /// The session is closed for this cause.
     Gone(Cause),
-    /// Memory was wanting.
     NoMemory,
 }
 
-// What came of an event that was tried once.
-fn tried_by(met: Result<Effect, Refused>) -> Tried
-    ensures { result ≡ what_was_tried met }
+// How many bytes are due to a session. In a spent world none, since each event is refused there.
+fn bytes_due(world: &World, session: u64) -> u64 {
+    if world.spent() {
+        return 0;
+    }
+    world.bytes_due(session)
+}
+
+// What a call came to. It comes back if it is to be made again.
+fn asked_by(met: Result<(), (Frame, Unasked)>) -> Result<Asked, Frame>
+    ensures { result ≡ what_was_asked met }
 {
     match met {
-        Ok(effect) => Tried::Answered(Answer::Done(effect)),
-        Err(Refused { event, why }) => match why {
-            Refusal::NoMemory => Tried::Answered(Answer::NoMemory),
-            Refusal::Stranger(_) => Tried::Again(event),
-            Refusal::Held(_) => Tried::Again(event),
-            Refusal::Gone(cause) => Tried::Answered(Answer::Gone(cause)),
-            Refusal::Ended(_) => Tried::Answered(Answer::NoMemory),
+        Ok(()) => Ok(Asked::Done),
+        Err((call, why)) => match why {
+            Unasked::NoMemory => Ok(Asked::NoMemory),
+            Unasked::Gone(cause) => Ok(Asked::Gone(cause)),
+            Unasked::Stranger => Err(call),
+            Unasked::Held(_) => Err(call),
         },
     }
 }
 
-// The session of an event, 0 where it has none yet.
-fn session_of(event: &Event) -> u64 {
-    match event {
-        Event::Open => 0,
-        Event::Request { session, .. } => *session,
-        Event::Take { session } => *session,
-        Event::Close { session } => *session,
-    }
+// Makes a call in the world in hand.
+fn call_in(world: &mut World, caller: u32, session: u64, call: Frame) -> Result<Asked, Frame>
+    requires { IsLightCall (call_of_frame call) }
+    ensures { GainsIn world.old world.new caller
+        (CallsWith result session (call_of_frame call)) }
+{
+    let met = world.request(caller, session, call);
+    asked_by(met)
 }
 
-// How many bytes are due to the session of an event. In a spent world none, since each event is
-// refused there.
-fn bytes_due(world: &World, event: &Event) -> u64 {
-    if world.spent() {
-        return 0;
-    }
-    world.bytes_due(session_of(event))
-}
-
-// Applies an event to the world in hand, where at most so many bytes are due to its session, and
-// tells whom it wakes. Else it is to be tried again.
-fn try_within(
+// Makes a call in the world in hand if no more than 8 MB is due to its session, and tells whom that
+// wakes.
+fn call_within(
     world: &mut World,
     caller: u32,
-    event: Event,
+    session: u64,
+    call: Frame,
     bells: &[Bell],
-    most: u64,
-) -> (Tried, Lanes)
-    requires { IsLightEvent (plain_event event) }
-    ensures { TriesIn world.old world.new caller event result.0 }
+) -> (Result<Asked, Frame>, Lanes)
+    requires { IsLightCall (call_of_frame call) }
+    ensures { GainsIn world.old world.new caller
+        (CallsWith result.0 session (call_of_frame call)) }
 {
-    if bytes_due(world, &event) > most {
-        return (Tried::Again(event), Lanes::none());
+    if bytes_due(world, session) > MOST_DUE {
+        return (Err(call), Lanes::none());
     }
-    let (met, lanes) = apply_and_tell(world, caller, event, bells);
-    (tried_by(met), lanes)
+    let tried = call_in(world, caller, session, call);
+    (tried, lanes_to_wake(world, bells))
 }
 
-/// Tries an event once. It is to be tried again where more than so many bytes are due to its
-/// session, and where that is held or isn't there yet.
-pub(crate) fn try_once<R: Wait>(
+// Makes a call once. It comes back if it is to be made again.
+fn try_call<R: Wait>(
     rt: &R,
     turn: &Turn<World>,
     bells: &[Bell],
     pass: Pass<World>,
-    event: Event,
-    most: u64,
-) -> (Pass<World>, Tried)
+    session: u64,
+    call: Frame,
+) -> (Pass<World>, Result<Asked, Frame>)
     requires turn { pass.turn ≡ turn.now.turn }
-    requires light { IsLightEvent (plain_event event) }
-    ensures { TriesOnce (plain_pass pass) (plain_pass result.0) event result.1 }
+    requires light { IsLightCall (call_of_frame call) }
+    ensures { TriesCall result.1 (plain_pass pass) (plain_pass result.0) session
+        (call_of_frame call) }
 {
     let mut held = turn.enter(rt, pass);
     let number = held.number();
-    let (tried, lanes) = try_within(held.value(), number, event, bells, most);
+    let (tried, lanes) = call_within(held.value(), number, session, call, bells);
     let pass = held.leave(rt);
     ring(bells, lanes);
     (pass, tried)
@@ -144,48 +120,8 @@ fn pause<R: Wait>(
     turn.wait(rt, pass)
 }
 
-/// Tries an event until it isn't held any more, and at most so many bytes are due to its session:
-/// the writer of that takes them, and rings.
-pub(crate) fn insist<R: Wait>(
-    rt: &R,
-    turn: &Turn<World>,
-    bells: &[Bell],
-    pass: Pass<World>,
-    event: Event,
-    most: u64,
-) -> (Pass<World>, Answer)
-    requires turn { pass.turn ≡ turn.now.turn }
-    requires light { IsLightEvent (plain_event event) }
-    ensures { AnswersOnce (plain_pass pass) (plain_pass result.0) (plain_event event) result.1 }
-{
-    let session = session_of(&event);
-    let mut pass = pass;
-    let mut event = event;
-    'tries: for _ in rt.forever() {
-        let heard = takes_heard(bells, session);
-        let (next, tried) = try_once(rt, turn, bells, pass, event, most);
-        match tried {
-            Tried::Answered(answer) => return (next, answer),
-            Tried::Again(back) => {
-                pass = pause(rt, turn, bells, next, session, heard);
-                event = back;
-            }
-        }
-    }
-    unreachable!()
-}
-
-fn asked_by(answer: Answer) -> Asked
-    ensures { result ≡ what_was_asked answer }
-{
-    match answer {
-        Answer::Done(_) => Asked::Done,
-        Answer::Gone(cause) => Asked::Gone(cause),
-        Answer::NoMemory => Asked::NoMemory,
-    }
-}
-
-/// Makes a call of a session, once no more is due to that than 8 MB.
+/// Makes a call of a session, once that isn't held any more and no more than 8 MB is due to it: its
+/// writer takes that, and rings.
 pub(crate) fn ask<R: Wait>(
     rt: &R,
     turn: &Turn<World>,
@@ -199,12 +135,81 @@ pub(crate) fn ask<R: Wait>(
     ensures { AsksOnce result.1 (plain_pass pass) (plain_pass result.0) session
         (call_of_frame call) }
 {
-    let event = Event::Request {
-        session,
-        frame: call,
-    };
-    let (pass, answer) = insist(rt, turn, bells, pass, event, MOST_DUE);
-    (pass, asked_by(answer))
+    let mut pass = pass;
+    let mut call = call;
+    'tries: for _ in rt.forever() {
+        let heard = takes_heard(bells, session);
+        let (next, tried) = try_call(rt, turn, bells, pass, session, call);
+        match tried {
+            Ok(asked) => return (next, asked),
+            Err(back) => {
+                pass = pause(rt, turn, bells, next, session, heard);
+                call = back;
+            }
+        }
+    }
+    unreachable!()
+}
+
+// What a close came to. `None` says that it is to be tried again.
+fn shut_by(met: Result<(), Unclosed>) -> Option<Asked>
+    ensures { result ≡ what_was_shut met }
+{
+    match met {
+        Ok(()) => Some(Asked::Done),
+        Err(why) => match why {
+            Unclosed::NoMemory => Some(Asked::NoMemory),
+            Unclosed::Gone(cause) => Some(Asked::Gone(cause)),
+            Unclosed::Stranger => None,
+        },
+    }
+}
+
+// Closes a session in the world in hand.
+fn close_in(world: &mut World, caller: u32, session: u64) -> Option<Asked>
+    ensures { GainsIn world.old world.new caller (ClosesWith result session) }
+{
+    let met = world.close(caller, session);
+    shut_by(met)
+}
+
+// Closes a session in the world in hand if no more bytes are due to it than `most`, and tells whom
+// that wakes.
+fn close_within(
+    world: &mut World,
+    caller: u32,
+    session: u64,
+    bells: &[Bell],
+    most: u64,
+) -> (Option<Asked>, Lanes)
+    ensures { GainsIn world.old world.new caller (ClosesWith result.0 session) }
+{
+    if bytes_due(world, session) > most {
+        return (None, Lanes::none());
+    }
+    let tried = close_in(world, caller, session);
+    (tried, lanes_to_wake(world, bells))
+}
+
+/// Closes a session once, if no more bytes are due to it than `most` and nothing else has closed
+/// it. `None` says that this is to be tried again.
+pub(crate) fn try_close<R: Wait>(
+    rt: &R,
+    turn: &Turn<World>,
+    bells: &[Bell],
+    pass: Pass<World>,
+    session: u64,
+    most: u64,
+) -> (Pass<World>, Option<Asked>)
+    requires { pass.turn ≡ turn.now.turn }
+    ensures { TriesClose result.1 (plain_pass pass) (plain_pass result.0) session }
+{
+    let mut held = turn.enter(rt, pass);
+    let number = held.number();
+    let (tried, lanes) = close_within(held.value(), number, session, bells, most);
+    let pass = held.leave(rt);
+    ring(bells, lanes);
+    (pass, tried)
 }
 
 /// Closes a session, where nothing else has.
@@ -215,10 +220,17 @@ pub(crate) fn shut<R: Wait>(
     pass: Pass<World>,
     session: u64,
 ) -> (Pass<World>, Asked)
-    requires turn { pass.turn ≡ turn.now.turn }
+    requires { pass.turn ≡ turn.now.turn }
     ensures { Shuts result.1 (plain_pass pass) (plain_pass result.0) session }
 {
-    let event = Event::Close { session };
-    let (pass, answer) = insist(rt, turn, bells, pass, event, u64::MAX);
-    (pass, asked_by(answer))
+    let mut pass = pass;
+    'tries: for _ in rt.forever() {
+        let heard = takes_heard(bells, session);
+        let (next, tried) = try_close(rt, turn, bells, pass, session, u64::MAX);
+        match tried {
+            Some(asked) => return (next, asked),
+            None => pass = pause(rt, turn, bells, next, session, heard),
+        }
+    }
+    unreachable!()
 }

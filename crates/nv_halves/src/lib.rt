@@ -5,23 +5,23 @@
 //! for one event at a time.
 #![tactic(auto)]
 
-mod applying;
 mod bells;
 mod calls;
 mod ends;
 mod insisting;
 mod laws;
+mod opening;
 mod reader;
 mod sending;
 mod steps;
 mod voice;
 mod writer;
 
-pub use applying::once;
 pub use bells::Bell;
 pub use calls::{CallStream, NextCall};
-pub use ends::{ReaderEnd, Refusal, Refused, WriterEnd};
+pub use ends::{ReaderEnd, WriterEnd};
 pub use laws::{asking_law, quitting_law, reads_once};
-pub use reader::{ReaderHalf, reader_half};
+pub use opening::open;
+pub use reader::{ReaderHalf, reader_half, unread_half};
 pub use voice::Voice;
 pub use writer::{WriterHalf, writer_half};

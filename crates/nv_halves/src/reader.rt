@@ -1,12 +1,12 @@
 //! The half that reads: it decodes calls and makes them, up to the end of its bytes.
-ghost use Rattle.std.specs.Prelude.{◌≡◌, ◌≤◌, length};
+ghost use Rattle.std.specs.Prelude.{◌≡◌, ◌≢◌, ◌≤◌, length};
 ghost use Rattle.nv_io.specs.Faults.{Rose};
 ghost use Rattle.nv_turn.specs.Passes.{IsSamePass};
 ghost use Rattle.nv_halves.specs.Passes.{plain_pass};
 ghost use Rattle.nv_halves.specs.Halves.{LeavesClosed, ReadsHalf};
-ghost use Rattle.nv_halves.specs.inside.Intakes.{ClosesAfter, IsReadable, IsUnread, end_after_close};
+ghost use Rattle.nv_halves.specs.inside.Intakes.{ClosesAfter, IsReadable, IsUnfed, end_after_close};
 
-use crate::bells::{Bell, begin};
+use crate::bells::Bell;
 use crate::ends::ReaderEnd;
 use crate::insisting::{Asked, shut};
 use crate::steps::Intake;
@@ -14,7 +14,6 @@ use nv_io::Source;
 use nv_turn::{Pass, Turn};
 use nv_world::World;
 use std::alloc::Global;
-use std::net::{Net, TcpListener, TcpStream};
 use std::sync::Wait;
 
 // The bytes that are read at once.
@@ -32,7 +31,7 @@ pub struct ReaderHalf<I> {
 }
 
 // Takes bytes from `input` and makes the calls in them, up to its end.
-fn read_all<R: Net<Listener = TcpListener, Stream = TcpStream> + Wait, I: Source>(
+fn read_all<R: Wait, I: Source>(
     rt: &R,
     turn: &Turn<World>,
     bells: &[Bell],
@@ -43,7 +42,7 @@ fn read_all<R: Net<Listener = TcpListener, Stream = TcpStream> + Wait, I: Source
     buffer: &mut [u8],
 ) -> (Pass<World>, ReaderEnd)
     requires turn { pass.turn ≡ turn.now.turn }
-    requires new { IsUnread intake }
+    requires new { IsUnfed intake }
     requires ready { IsReadable intake }
     requires room { length buffer.old ≡ PIECE }
     ensures read { ReadsHalf result.1 (plain_pass pass) (plain_pass result.0) session
@@ -65,7 +64,7 @@ fn read_all<R: Net<Listener = TcpListener, Stream = TcpStream> + Wait, I: Source
 }
 
 // Takes the memory that reading needs, and reads.
-fn read_session<R: Net<Listener = TcpListener, Stream = TcpStream> + Wait, I: Source>(
+fn read_session<R: Wait, I: Source>(
     rt: &R,
     alloc: Global,
     turn: &Turn<World>,
@@ -125,7 +124,7 @@ fn close<R: Wait>(
 /// by one event under the turn; it decodes outside the turn. A call that is held waits, and is made
 /// before the next one. After a flaw, the end of the bytes, a fault of `input` or want of memory
 /// the half closes the session, unless that was closed before.
-pub fn reader_half<R: Net<Listener = TcpListener, Stream = TcpStream> + Wait, I: Source>(
+pub fn reader_half<R: Wait, I: Source>(
     rt: &R,
     alloc: Global,
     turn: &Turn<World>,
@@ -143,8 +142,28 @@ pub fn reader_half<R: Net<Listener = TcpListener, Stream = TcpStream> + Wait, I:
     ensures fault { result.end ≡ ReaderEnd.ReadFault
         → Rose (I.faults input) (I.faults result.input) }
 {
-    begin(bells, session);
     let (pass, end) = read_session(rt, alloc, turn, bells, pass, session, &mut input);
     let (pass, end) = close(rt, turn, bells, pass, session, end);
+    ReaderHalf { pass, input, end }
+}
+
+/// The half that reads where no thread could be had for it: it reads nothing, and closes the
+/// session, unless that was closed before.
+pub fn unread_half<R: Wait, I: Source>(
+    rt: &R,
+    turn: &Turn<World>,
+    bells: &[Bell],
+    pass: Pass<World>,
+    session: u64,
+    input: I,
+) -> ReaderHalf<I>
+    requires { pass.turn ≡ turn.now.turn }
+    ensures pass { IsSamePass (plain_pass pass) (plain_pass result.pass) }
+    ensures read { ReadsHalf result.end (plain_pass pass) (plain_pass result.pass) session
+        (I.taken input) (I.taken result.input) (I.left input) (I.left result.input) }
+    ensures closes { LeavesClosed result.end (plain_pass result.pass) session }
+    ensures nothing { (result.input ≡ input) × (result.end ≢ ReaderEnd.ReadFault) }
+{
+    let (pass, end) = close(rt, turn, bells, pass, session, ReaderEnd::NoMemory);
     ReaderHalf { pass, input, end }
 }

@@ -21,7 +21,6 @@ use nv_rpc::{AtomicResults, CallResult};
 use nv_screen::HeldScene;
 use nv_world::{Batch, SharedMessage, put_shared_front, size_of_messages};
 use std::alloc::{AllocError, Global};
-use std::net::{Net, TcpListener, TcpStream};
 
 /// So many bytes that wait are written before more of a batch is spelled.
 const PIECE: usize = 65_536;
@@ -60,11 +59,7 @@ fn is_full(room: &[u8]) -> bool {
 }
 
 // Writes the bytes that wait in `room`, where they are many.
-fn put_out<R: Net<Listener = TcpListener, Stream = TcpStream>, S: Sink>(
-    rt: &R,
-    room: &mut Vec<u8>,
-    output: &mut S,
-) -> Result<(), WriterEnd>
+fn put_out<R, S: Sink>(rt: &R, room: &mut Vec<u8>, output: &mut S) -> Result<(), WriterEnd>
     ensures ok { OnOk result (FlowsOut (S.taken output.old) (S.taken output.new) room.old.items []
         room.new.items) }
     ensures err { IfErr result (λ end. IsCutOff end
@@ -84,7 +79,7 @@ fn put_out<R: Net<Listener = TcpListener, Stream = TcpStream>, S: Sink>(
 }
 
 // Spells the result of a call behind what waits, and writes what becomes many.
-fn send_result<R: Net<Listener = TcpListener, Stream = TcpStream>, S: Sink>(
+fn send_result<R, S: Sink>(
     rt: &R,
     one: &CallResult,
     room: &mut Vec<u8>,
@@ -107,7 +102,7 @@ fn send_result<R: Net<Listener = TcpListener, Stream = TcpStream>, S: Sink>(
 }
 
 // Spells the results of calls one after another behind what waits, and writes what becomes many.
-fn send_results<R: Net<Listener = TcpListener, Stream = TcpStream>, S: Sink>(
+fn send_results<R, S: Sink>(
     rt: &R,
     results: &[CallResult],
     room: &mut Vec<u8>,
@@ -130,7 +125,7 @@ fn send_results<R: Net<Listener = TcpListener, Stream = TcpStream>, S: Sink>(
 }
 
 // Spells what calls one after another gave, and where they stopped, and writes what becomes many.
-fn send_atomic<R: Net<Listener = TcpListener, Stream = TcpStream>, S: Sink>(
+fn send_atomic<R, S: Sink>(
     rt: &R,
     atomic: AtomicResults,
     room: &mut Vec<u8>,
@@ -155,7 +150,7 @@ fn send_atomic<R: Net<Listener = TcpListener, Stream = TcpStream>, S: Sink>(
 }
 
 // The same of what is left of a message behind its front.
-fn send_left<R: Net<Listener = TcpListener, Stream = TcpStream>, S: Sink>(
+fn send_left<R, S: Sink>(
     rt: &R,
     left: Option<AtomicResults>,
     room: &mut Vec<u8>,
@@ -178,7 +173,7 @@ fn send_left<R: Net<Listener = TcpListener, Stream = TcpStream>, S: Sink>(
 }
 
 // Spells a message behind what waits, and writes what becomes many.
-fn send_message<R: Net<Listener = TcpListener, Stream = TcpStream>, S: Sink>(
+fn send_message<R, S: Sink>(
     rt: &R,
     alloc: Global,
     message: SharedMessage,
@@ -203,7 +198,7 @@ fn send_message<R: Net<Listener = TcpListener, Stream = TcpStream>, S: Sink>(
 }
 
 // Spells messages behind what waits, each in its shortest spelling, and writes what becomes many.
-fn send_messages<R: Net<Listener = TcpListener, Stream = TcpStream>, S: Sink>(
+fn send_messages<R, S: Sink>(
     rt: &R,
     alloc: Global,
     messages: Vec<SharedMessage>,
@@ -253,7 +248,7 @@ fn speak_scene<V: Voice>(
 /// piece where they are few bytes. Where they are many they are spelled and written message by
 /// message, and the reply to calls in one result by result, so that beside one of these no more
 /// than a piece waits in bytes. `room` is memory that is used again from batch to batch.
-pub(crate) fn send<R: Net<Listener = TcpListener, Stream = TcpStream>, S: Sink, V: Voice>(
+pub(crate) fn send<R, S: Sink, V: Voice>(
     rt: &R,
     alloc: Global,
     batch: Batch,

@@ -9,7 +9,7 @@ ghost use Rattle.nv_stream.specs.Answers.{NeedsMore};
 ghost use Rattle.nv_halves.specs.Passes.{plain_pass};
 ghost use Rattle.nv_rpc.specs.Frames.{call_of_frame};
 ghost use Rattle.nv_world.specs.Worlds.{IsLightCall};
-ghost use Rattle.nv_halves.specs.inside.Intakes.{CountsAsked, HoldsPiece, IsReadable, IsUnread, MakesHeld, MakesPiece, Steps, StepsAtCall, reader_end_by_flaw};
+ghost use Rattle.nv_halves.specs.inside.Intakes.{CountsAsked, HoldsPiece, IsReadable, IsUnfed, MakesHeld, MakesPiece, Steps, StepsAtCall, reader_end_by_flaw};
 ghost use Rattle.nv_halves.specs.declared.reader.TheConstants.{PIECE};
 
 use crate::bells::Bell;
@@ -21,7 +21,6 @@ use nv_rpc::Frame;
 use nv_turn::{Pass, Turn};
 use nv_world::World;
 use std::alloc::{AllocError, Global};
-use std::net::{Net, TcpListener, TcpStream};
 use std::sync::Wait;
 
 /// The bytes of a session that came and aren't calls yet, and how many calls were made.
@@ -45,7 +44,7 @@ pub enum Stepped {
 impl Intake {
     /// An intake to which no byte has come.
     pub(crate) fn new(alloc: Global) -> Result<Intake, AllocError>
-        ensures { IfOk result (λ s. IsUnread s × IsReadable s) }
+        ensures { IfOk result (λ s. IsUnfed s × IsReadable s) }
     {
         Ok(Intake {
             alloc,
@@ -166,7 +165,7 @@ impl Intake {
     }
 
     // Takes the next piece of its bytes from `input`, by one read.
-    fn take_piece<R: Net<Listener = TcpListener, Stream = TcpStream>, I: Source>(
+    fn take_piece<R, I: Source>(
         &mut self,
         rt: &R,
         input: &mut I,
@@ -195,7 +194,7 @@ impl Intake {
     }
 
     /// Takes a piece and makes the calls that are whole by it.
-    pub(crate) fn make_piece<R: Net<Listener = TcpListener, Stream = TcpStream> + Wait, I: Source>(
+    pub(crate) fn make_piece<R: Wait, I: Source>(
         &mut self,
         rt: &R,
         turn: &Turn<World>,

@@ -6,18 +6,18 @@ ghost use Rattle.nv_linegrid.specs.Told.{nothing_told};
 ghost use Rattle.nv_turn.specs.Passes.{IsSamePass};
 ghost use Rattle.nv_halves.specs.Passes.{plain_pass};
 ghost use Rattle.nv_halves.specs.Halves.{WritesHalf};
-ghost use Rattle.nv_halves.specs.inside.Taking.{Drops, TakesOnce, WritesOnce, what_was_taken};
+ghost use Rattle.nv_halves.specs.inside.Applied.{GainsIn};
+ghost use Rattle.nv_halves.specs.inside.Taking.{Drops, TakesOnce, TakesWith, WritesOnce};
 
-use crate::bells::{Bell, tell_taken};
+use crate::bells::{Bell, Lanes, lanes_if_spent, ring, tell_taken};
 use crate::ends::WriterEnd;
-use crate::insisting::{Answer, insist, try_once};
+use crate::insisting::try_close;
 use crate::sending::send;
 use crate::voice::Voice;
 use nv_io::Sink;
 use nv_turn::{Pass, Turn};
-use nv_world::{Batch, Cause, Effect, Event, World};
+use nv_world::{Taken, Untaken, World};
 use std::alloc::Global;
-use std::net::{Net, TcpListener, TcpStream};
 use std::sync::Wait;
 
 /// The half that writes, once it ended.
@@ -26,17 +26,6 @@ pub struct WriterHalf<S> {
     pub pass: Pass<World>,
     pub output: S,
     pub end: WriterEnd,
-}
-
-/// What a take gave.
-#[derive(Drop)]
-pub enum Took {
-    Batch(Batch),
-    Nothing,
-    /// Nothing is due any more: the session is closed for this cause.
-    Over(Cause),
-    /// Memory was wanting.
-    NoMemory,
 }
 
 /// What came of one take.
@@ -49,21 +38,12 @@ pub enum Written {
     Ends(WriterEnd),
 }
 
-fn took_by(answer: Answer) -> Took
-    ensures { result ≡ what_was_taken answer }
+// Takes what is due to a session in the world in hand, and tells whom that wakes.
+fn take_in(world: &mut World, caller: u32, session: u64) -> (Result<Taken, Untaken>, Lanes)
+    ensures { GainsIn world.old world.new caller (TakesWith result.0 session) }
 {
-    match answer {
-        Answer::Done(effect) => match effect {
-            Effect::Items(batch) => Took::Batch(batch),
-            Effect::Nothing => Took::Nothing,
-            Effect::Over(cause) => Took::Over(cause),
-            Effect::Opened(_) => Took::NoMemory,
-            Effect::Done => Took::NoMemory,
-            Effect::Closed => Took::NoMemory,
-        },
-        Answer::Gone(_) => Took::NoMemory,
-        Answer::NoMemory => Took::NoMemory,
-    }
+    let taken = world.take(caller, session);
+    (taken, lanes_if_spent(world))
 }
 
 // Takes what is due to a session.
@@ -73,12 +53,16 @@ fn take_due<R: Wait>(
     bells: &[Bell],
     pass: Pass<World>,
     session: u64,
-) -> (Pass<World>, Took)
+) -> (Pass<World>, Result<Taken, Untaken>)
     requires { pass.turn ≡ turn.now.turn }
     ensures { TakesOnce result.1 (plain_pass pass) (plain_pass result.0) session }
 {
-    let (pass, answer) = insist(rt, turn, bells, pass, Event::Take { session }, u64::MAX);
-    (pass, took_by(answer))
+    let mut held = turn.enter(rt, pass);
+    let number = held.number();
+    let (taken, lanes) = take_in(held.value(), number, session);
+    let pass = held.leave(rt);
+    ring(bells, lanes);
+    (pass, taken)
 }
 
 // Closes a session for which no message waits. Where one does the session stays open.
@@ -92,13 +76,13 @@ fn shut_idle<R: Wait>(
     requires { pass.turn ≡ turn.now.turn }
     ensures { Drops (plain_pass pass) (plain_pass result) session }
 {
-    let (pass, _) = try_once(rt, turn, bells, pass, Event::Close { session }, 0);
+    let (pass, _) = try_close(rt, turn, bells, pass, session, 0);
     pass
 }
 
-// Whether a take found its session over, or memory wanting.
-fn is_over(took: Took) -> bool {
-    matches!(took, Took::Over(_) | Took::NoMemory)
+// Whether a take found its session over, or out of memory.
+fn is_over(taken: Result<Taken, Untaken>) -> bool {
+    matches!(taken, Ok(Taken::Over(_)) | Err(Untaken::NoMemory))
 }
 
 // Takes all that is due to a session, which nobody is sent, and closes the session, unless
@@ -115,8 +99,8 @@ fn drop_due<R: Wait>(
 {
     let mut pass = pass;
     'takes: for _ in rt.forever() {
-        let (next, took) = take_due(rt, turn, bells, pass, session);
-        if is_over(took) {
+        let (next, taken) = take_due(rt, turn, bells, pass, session);
+        if is_over(taken) {
             return next;
         }
         pass = shut_idle(rt, turn, bells, next, session);
@@ -126,7 +110,7 @@ fn drop_due<R: Wait>(
 
 // Takes what is due to a session, and writes it. Where that fails all that is due is dropped, and
 // the session is closed.
-fn write_once<R: Net<Listener = TcpListener, Stream = TcpStream> + Wait, S: Sink, V: Voice>(
+fn write_once<R: Wait, S: Sink, V: Voice>(
     rt: &R,
     alloc: Global,
     turn: &Turn<World>,
@@ -145,9 +129,9 @@ fn write_once<R: Net<Listener = TcpListener, Stream = TcpStream> + Wait, S: Sink
     ensures fault { result.1 ≡ Written.Ends WriterEnd.WriteFault
         → Rose (S.faults output.old) (S.faults output.new) }
 {
-    let (pass, took) = take_due(rt, turn, bells, pass, session);
-    match took {
-        Took::Batch(batch) => {
+    let (pass, taken) = take_due(rt, turn, bells, pass, session);
+    match taken {
+        Ok(Taken::Items(batch)) => {
             tell_taken(bells, session);
             match send(rt, alloc, batch, voice, room, output) {
                 Ok(()) => (pass, Written::On),
@@ -157,15 +141,16 @@ fn write_once<R: Net<Listener = TcpListener, Stream = TcpStream> + Wait, S: Sink
                 }
             }
         }
-        Took::Nothing => (pass, Written::Idle),
-        Took::Over(cause) => (pass, Written::Ends(WriterEnd::Over(cause))),
-        Took::NoMemory => (pass, Written::Ends(WriterEnd::NoMemory)),
+        Ok(Taken::Nothing) => (pass, Written::Idle),
+        Ok(Taken::Over(cause)) => (pass, Written::Ends(WriterEnd::Over(cause))),
+        Err(Untaken::Stranger) => (pass, Written::Idle),
+        Err(Untaken::NoMemory) => (pass, Written::Ends(WriterEnd::NoMemory)),
     }
 }
 
 // Takes and writes what is due to a session, and sleeps where nothing is, until the session is over
-// or writing fails, or it shows that nobody reads.
-fn write_all<R: Net<Listener = TcpListener, Stream = TcpStream> + Wait, S: Sink, V: Voice>(
+// or writing fails.
+fn write_all<R: Wait, S: Sink, V: Voice>(
     rt: &R,
     alloc: Global,
     turn: &Turn<World>,
@@ -195,13 +180,7 @@ fn write_all<R: Net<Listener = TcpListener, Stream = TcpStream> + Wait, S: Sink,
         pass = next;
         match written {
             Written::On => {}
-            Written::Idle => {
-                if !bells[lane].is_read(rt) {
-                    let pass = drop_due(rt, turn, bells, pass, session);
-                    return (pass, WriterEnd::NoMemory);
-                }
-                bells[lane].sleep(rt, heard);
-            }
+            Written::Idle => bells[lane].sleep(rt, heard),
             Written::Ends(end) => return (pass, end),
         }
     }
@@ -211,15 +190,10 @@ fn write_all<R: Net<Listener = TcpListener, Stream = TcpStream> + Wait, S: Sink,
 /// Takes what is due to a session, one batch after another, and writes each to `output` as the
 /// voice speaks it, until the session is over. Each batch is taken under the turn; it is spoken and
 /// written outside it. Where nothing is due the half sleeps on the bell of its lane. After a fault
-/// of `output`, or want of memory, it takes what is due without writing it, and closes the session;
-/// so it does where the half that reads hasn't begun after some seconds, since there was no memory
-/// for its thread. On every way out `output` is finished, so that the half that reads from the same
-/// connection finds its end.
-pub fn writer_half<
-    R: Net<Listener = TcpListener, Stream = TcpStream> + Wait,
-    S: Sink,
-    V: Voice + Drop,
->(
+/// of `output`, or want of memory, it takes what is due without writing it, and closes the session.
+/// On every way out `output` is finished, so that the half that reads from the same connection
+/// finds its end.
+pub fn writer_half<R: Wait, S: Sink, V: Voice + Drop>(
     rt: &R,
     alloc: Global,
     turn: &Turn<World>,

@@ -1,3 +1,5 @@
 pub mod KnownLemmas
 pub mod PieceLemmas
 pub mod ShelfLemmas
+pub mod SizeLemmas
+pub mod StreamLemmas

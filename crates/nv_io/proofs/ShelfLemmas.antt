@@ -1,5 +1,5 @@
 -- Lemmas on what is given in order.
-use Rattle.std.proofs.Common.{◌≡◌, List, ◌∷◌, ◌++◌, Some, None, option_to_list, IfSome, subst, sym}
+use Rattle.std.proofs.Common.{◌≡◌, List, ◌++◌, Some, None, option_to_list, IfSome, subst, sym}
 use Rattle.std.specs.declared.option.Option.{Option}
 use Rattle.nv_io.specs.Known.{ForEachItem}
 

@@ -42,3 +42,7 @@ IsNoneOut (Some n) = n ≡ 0
 -- counted
 abbrev pub IsUnused : Option (List ℕ) → ℕ → Type 0
 IsUnused taken faults = IsAtEnd taken × (faults ≡ 0)
+
+-- a source that was just opened: besides, no read of it was made, where that is told
+abbrev pub IsUnread : Option (List ℕ) → Option (List (List ℕ)) → ℕ → Type 0
+IsUnread taken reads faults = IsUnused taken faults × IsNoItem reads

@@ -1,8 +1,10 @@
 -- Devices in memory: the pieces that one gives, the calls of it that fail, and what it took.
-use Rattle.std.specs.Prelude.{ℕ, ◌+◌, ◌-◌, ◌^◌, min, Bool, ◌==◌, nat_lt, if◌then◌else◌, List, ◌++◌, length, take, drop, slice_index, IsTrue}
+use Rattle.std.specs.Prelude.{◌≡◌, ℕ, ◌+◌, ◌-◌, ◌^◌, min, Bool, ◌==◌, nat_lt, if◌then◌else◌, List, [], ◌∷◌, ◌++◌, length, take, drop, slice_index, IsTrue, ⊤}
 use Rattle.std.specs.List.{list_any, list_all}
-use Rattle.nv_io.specs.declared.reading.Got.{Got}
-use Rattle.nv_io.specs.declared.reading.Got.TheVariants.{Bytes, End, Failed}
+use Rattle.std.specs.declared.option.Option.{Option}
+use Rattle.std.specs.declared.option.Option.TheVariants.{Some, None}
+use Rattle.nv_io.specs.declared.streams.Got.{Got}
+use Rattle.nv_io.specs.declared.streams.Got.TheVariants.{Bytes, End, Failed}
 
 -- The calls of a device that fail, by their numbers from 0; how many calls were made, and how many
 -- faults there were.
@@ -62,9 +64,21 @@ after_read c (Bytes n) = after_piece c n
 after_read c End = c
 after_read c Failed = c
 
--- A source in memory: its pieces, and its reads that fail.
+-- the sizes of the reads of a source grew by this one, unless they aren't told any more
+abbrev pub AddsSize : Option (List ℕ) → Option (List ℕ) → ℕ → Type 0
+AddsSize before None size = ⊤
+AddsSize before (Some now) size =
+    (was : List ℕ) × (before ≡ Some was) × (now ≡ was ++ size ∷ [])
+
+-- bytes cut into pieces of these sizes, one after another
+abbrev pub cut_by : List ℕ → List ℕ → List (List ℕ)
+cut_by [] bytes = []
+cut_by (size ∷ sizes) bytes = take size bytes ∷ cut_by sizes (drop size bytes)
+
+-- A source in memory: its pieces, what its reads gave, where that is told, and those that fail.
 pub record MemReading : Type 0 where
   pub pieces : Cutting
+  pub reads : Option (List (List ℕ))
   pub failures : Failing
 
 -- A sink in memory: the bytes that it took, the most that it takes in a write, and its writes that

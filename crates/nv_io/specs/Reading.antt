@@ -1,7 +1,7 @@
 -- What one read gives.
 use Rattle.std.specs.Prelude.{ℕ, List, [], take, ⊤}
-use Rattle.nv_io.specs.declared.reading.Got.{Got}
-use Rattle.nv_io.specs.declared.reading.Got.TheVariants.{Bytes, End, Failed}
+use Rattle.nv_io.specs.declared.streams.Got.{Got}
+use Rattle.nv_io.specs.declared.streams.Got.TheVariants.{Bytes, End, Failed}
 
 -- the bytes that a read put at the front of its buffer
 abbrev pub bytes_got : Got → List ℕ → List ℕ

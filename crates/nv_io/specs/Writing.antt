@@ -1,7 +1,7 @@
 -- What one write takes.
 use Rattle.std.specs.Prelude.{ℕ, List, [], take, ⊤}
-use Rattle.nv_io.specs.declared.writing.Put.{Put}
-use Rattle.nv_io.specs.declared.writing.Put.TheVariants.{Took, Failed}
+use Rattle.nv_io.specs.declared.streams.Put.{Put}
+use Rattle.nv_io.specs.declared.streams.Put.TheVariants.{Took, Failed}
 
 -- the bytes that a write took from the front of its piece
 abbrev pub bytes_put : Put → List ℕ → List ℕ

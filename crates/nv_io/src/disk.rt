@@ -1,14 +1,11 @@
 // Files on the disk.
 ghost use Rattle.std.specs.Prelude.{◌≡◌, None, ⊤};
 
-use crate::counting::count_fault;
-use crate::opening::Files;
-use crate::reading::{Got, Source};
-use crate::streams::{read_from, write_to};
-use crate::writing::{Put, Sink};
+use crate::files::Files;
+use crate::standard::{read_from, write_to};
+use crate::streams::{Got, Put, Sink, Source, count_fault};
 use std::fs;
 use std::fs::File;
-use std::net::{Net, TcpListener, TcpStream};
 use std::rt::Files as SystemFiles;
 
 /// The bytes of a file. What it gives is not told. Each read is a call of the system.
@@ -23,13 +20,11 @@ impl Source for DiskSource {
 
     ghost left = { λ _. None };
 
+    ghost reads = { λ _. None };
+
     ghost faults = { λ s. s.faults };
 
-    fn read<R: Net<Listener = TcpListener, Stream = TcpStream>>(
-        &mut self,
-        _rt: &R,
-        into: &mut [u8],
-    ) -> Got {
+    fn read<R>(&mut self, _rt: &R, into: &mut [u8]) -> Got {
         read_from(&mut self.file, &mut self.faults, into)
     }
 }
@@ -46,15 +41,11 @@ impl Sink for DiskSink {
 
     ghost faults = { λ s. s.faults };
 
-    fn write<R: Net<Listener = TcpListener, Stream = TcpStream>>(
-        &mut self,
-        _rt: &R,
-        piece: &[u8],
-    ) -> Put {
+    fn write<R>(&mut self, _rt: &R, piece: &[u8]) -> Put {
         write_to(&mut self.file, &mut self.faults, piece)
     }
 
-    fn finish<R: Net<Listener = TcpListener, Stream = TcpStream>>(&mut self, _rt: &R) {}
+    fn finish<R>(&mut self, _rt: &R) {}
 }
 
 /// The files of the disk by their paths. What comes back is not told, and it is closed.
@@ -88,11 +79,7 @@ impl Files for DiskFiles {
 
     ghost faults = { λ f. f.faults };
 
-    fn source<R: SystemFiles<File = File> + Net<Listener = TcpListener, Stream = TcpStream>>(
-        &mut self,
-        rt: &R,
-        name: &str,
-    ) -> Option<DiskSource> {
+    fn source<R: SystemFiles<File = File>>(&mut self, rt: &R, name: &str) -> Option<DiskSource> {
         let Ok(file) = fs::open(rt, name) else {
             count_fault(&mut self.faults);
             return None;
@@ -100,11 +87,7 @@ impl Files for DiskFiles {
         Some(DiskSource { file, faults: 0 })
     }
 
-    fn sink<R: SystemFiles<File = File> + Net<Listener = TcpListener, Stream = TcpStream>>(
-        &mut self,
-        rt: &R,
-        name: &str,
-    ) -> Option<DiskSink> {
+    fn sink<R: SystemFiles<File = File>>(&mut self, rt: &R, name: &str) -> Option<DiskSink> {
         let Ok(file) = fs::create(rt, name) else {
             count_fault(&mut self.faults);
             return None;

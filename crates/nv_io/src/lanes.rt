@@ -1,15 +1,50 @@
-// Where connections come from, one after another.
-ghost use Rattle.std.specs.Prelude.{◌≡◌, ℕ, ◌+◌, ◌≤◌, List, [], ◌∷◌, option_map};
+// Where connections come from, one after another, and how they end.
+ghost use Rattle.std.specs.Prelude.{◌≡◌, ℕ, ◌+◌, ◌≤◌, List, [], ◌∷◌, option_map, IfSome, IsNone};
 ghost use Rattle.std.specs.declared.option.Option.{Option};
 ghost use Rattle.nv_io.specs.Faults.{Rose};
-ghost use Rattle.nv_io.specs.Known.{append_items, prepend_items, IsNoItem, IsOut, IsUnused};
-ghost use Rattle.nv_io.specs.Lanes.{connections_of, lent_after, IfConnection};
+ghost use Rattle.nv_io.specs.Known.{append_items, prepend_items, IsNoItem, IsOut, IsUnused, out_after};
+ghost use Rattle.nv_io.specs.Lanes.{connections_of, lent_after, IfConnection, IsFreshLane};
 ghost use Rattle.nv_io.specs.declared.lanes.Over.{Over};
+ghost use Rattle.std.specs.Bool.{OnFalse};
 
-use crate::ending::Ended;
-use crate::reading::Source;
-use crate::writing::Sink;
+use crate::streams::{Sink, Source};
+use std::fs::File;
 use std::net::{Net, TcpListener, TcpStream};
+use std::rt::Files;
+
+/// What is wrong with the bytes of a session. Bytes and values of the stream count from 0.
+#[derive(Debug, Clone, Copy, PartialEq, Eq)]
+pub enum Flaw {
+    /// At this byte the bytes stop being MessagePack.
+    Bad(u64),
+    /// At this byte a list or a map begins that lies too deep.
+    TooDeep(u64),
+    /// At this byte a value begins that is too long.
+    TooLong(u64),
+    /// At this byte a value begins that the end of the stream cuts off.
+    Inside(u64),
+    /// The value of this number is no call.
+    NoCall(u64),
+}
+
+/// How a session ended.
+#[derive(Debug, Clone, Copy, PartialEq, Eq)]
+pub enum Ended {
+    /// Its bytes came to their end.
+    Closed,
+    /// Its bytes were malformed.
+    Malformed(Flaw),
+    /// At this entry of the history more messages were due than its outbox holds.
+    Overflowed(u64),
+    /// A read failed.
+    ReadFault,
+    /// A write failed.
+    WriteFault,
+    /// This entry of the history ended the world.
+    Quit(u64),
+    /// Memory was wanting.
+    NoMemory,
+}
 
 /// What one `accept` gave.
 #[derive(Drop)]
@@ -51,10 +86,7 @@ pub trait Lane {
     ghost faults: { Self → ℕ };
 
     /// Waits for the next connection.
-    fn accept<R: Net<Listener = TcpListener, Stream = TcpStream>>(
-        &mut self,
-        rt: &R,
-    ) -> Accepted<Self::In, Self::Out>
+    fn accept<R>(&mut self, rt: &R) -> Accepted<Self::In, Self::Out>
         ensures coming { coming self.old
             ≡ prepend_items (connections_of result) (coming self.new) }
         ensures over { over self.new ≡ over self.old }
@@ -62,6 +94,8 @@ pub trait Lane {
         ensures fresh { IfConnection result (λ input output.
             IsUnused (Self.In.Source.taken input) (Self.In.Source.faults input)
             × IsUnused (Self.Out.Sink.taken output) (Self.Out.Sink.faults output)) }
+        ensures unread { IfConnection result (λ input output.
+            IsNoItem (Self.In.Source.reads input)) }
         ensures done { result ≡ Accepted.Done → IsNoItem (coming self.new) }
         ensures later { faults self.old ≤ faults self.new }
         ensures failed { result ≡ Accepted.Failed → Rose (faults self.old) (faults self.new) };
@@ -80,5 +114,50 @@ pub trait Lane {
         ensures coming { coming self.new ≡ coming self.old }
         ensures over { over self.new ≡ over self.old }
         ensures lent { lent self.new ≡ lent self.old }
+        ensures later { faults self.old ≤ faults self.new };
+}
+
+/// A place where connections are listened for. Its meaning is the lanes that came back and how many
+/// are out, where these are told, and a count of faults, which never falls.
+pub trait Port {
+    type Line: Lane + Send + Drop;
+
+    // The addresses that it may be asked to listen on.
+    ghost may: { List ℕ → Type 0 };
+
+    // The lanes that came back, in order.
+    ghost returned: { Self → Option (List Self.Line) };
+
+    // How many lanes were given and aren't back.
+    ghost lent: { Self → Option ℕ };
+
+    ghost faults: { Self → ℕ };
+
+    /// Listens on an address. `false` is a fault.
+    fn listen<R: Files<File = File> + Net<Listener = TcpListener, Stream = TcpStream>>(
+        &mut self,
+        rt: &R,
+        address: &str,
+    ) -> bool
+        requires { may address.now }
+        ensures returned { returned self.new ≡ returned self.old }
+        ensures lent { lent self.new ≡ lent self.old }
+        ensures later { faults self.old ≤ faults self.new }
+        ensures failed { OnFalse result (Rose (faults self.old) (faults self.new)) };
+
+    /// One more lane of this address. `None` is a fault.
+    fn lane<R>(&mut self, rt: &R) -> Option<Self::Line>
+        ensures fresh { IfSome result (λ lane. IsFreshLane (Self.Line.Lane.over lane)
+            (Self.Line.Lane.lent lane) (Self.Line.Lane.faults lane)) }
+        ensures returned { returned self.new ≡ returned self.old }
+        ensures lent { lent self.new ≡ out_after result (lent self.old) }
+        ensures later { faults self.old ≤ faults self.new }
+        ensures failed { IsNone result → Rose (faults self.old) (faults self.new) };
+
+    /// Takes back a lane.
+    fn back(&mut self, lane: Self::Line)
+        requires { IsOut (lent self.old) }
+        ensures returned { returned self.new ≡ append_items (returned self.old) (lane ∷ []) }
+        ensures lent { lent self.old ≡ option_map (λ n. n + 1) (lent self.new) }
         ensures later { faults self.old ≤ faults self.new };
 }

@@ -5,43 +5,18 @@
 //! streams, files and sockets, or over devices in memory whose pieces and faults a test chooses.
 #![tactic(auto)]
 
-mod counting;
 mod disk;
-mod ending;
-mod failures;
+mod files;
 mod lanes;
-mod mem_files;
-mod mem_lane;
-mod mem_port;
 mod memory;
-mod opening;
-mod pieces;
-mod ports;
-mod putting;
-mod reading;
-mod shelf;
-mod sock_lane;
-mod sock_port;
 mod sockets;
 mod standard;
 mod streams;
-mod sure;
-mod writing;
 
 pub use disk::{DiskFiles, DiskSink, DiskSource};
-pub use ending::{Ended, Flaw};
-pub use lanes::{Accepted, Lane, Over};
-pub use mem_files::MemFiles;
-pub use mem_lane::MemLane;
-pub use mem_port::MemPort;
-pub use memory::{MemSink, MemSource};
-pub use opening::Files;
-pub use ports::Port;
-pub use putting::put_all;
-pub use reading::{Got, Source};
-pub use sock_lane::SockLane;
-pub use sock_port::SockPort;
-pub use sockets::{SockSink, SockSource};
+pub use files::Files;
+pub use lanes::{Accepted, Ended, Flaw, Lane, Over, Port};
+pub use memory::{MemFiles, MemLane, MemPort, MemSink, MemSource, SureSink, SureSource};
+pub use sockets::{SockLane, SockPort, SockSink, SockSource};
 pub use standard::{StdErr, StdIn, StdOut};
-pub use sure::{SureSink, SureSource};
-pub use writing::{Put, Sink};
+pub use streams::{Got, Put, Sink, Source, put_all};

@@ -25,7 +25,6 @@ use nv_io::{Sink, Source, put_all};
 use nv_watch::{Watcher, catch_up};
 use nv_world::{History, Step};
 use std::alloc::Global;
-use std::net::{Net, TcpListener, TcpStream};
 
 /// A book that was gone over: its history, and what was counted and compared.
 #[derive(Drop)]
@@ -36,7 +35,7 @@ pub struct GoneOver {
 
 // Plays the entry of a book that was read, compares it, and shows its step to the watchers, who may
 // have been shown those before it.
-fn pass_one<R: Net<Listener = TcpListener, Stream = TcpStream>, I: Source, W: Watcher>(
+fn pass_one<R, I: Source, W: Watcher>(
     rt: &R,
     replay: &mut Replay,
     source: &mut I,
@@ -70,7 +69,7 @@ fn pass_one<R: Net<Listener = TcpListener, Stream = TcpStream>, I: Source, W: Wa
 }
 
 // Goes over all entries of a book, from its first on.
-fn go_over<R: Net<Listener = TcpListener, Stream = TcpStream>, I: Source, W: Watcher>(
+fn go_over<R, I: Source, W: Watcher>(
     rt: &R,
     replay: &mut Replay,
     source: &mut I,
@@ -116,7 +115,7 @@ fn go_over<R: Net<Listener = TcpListener, Stream = TcpStream>, I: Source, W: Wat
 }
 
 // Tells what came of it, and keeps the history.
-fn conclude<R: Net<Listener = TcpListener, Stream = TcpStream>, S: Sink>(
+fn conclude<R, S: Sink>(
     rt: &R,
     alloc: Global,
     gone: GoneOver,
@@ -150,7 +149,7 @@ fn conclude<R: Net<Listener = TcpListener, Stream = TcpStream>, S: Sink>(
 }
 
 // Goes over a book from its first entry on, and tells what came of it.
-fn check_replay<R: Net<Listener = TcpListener, Stream = TcpStream>, I: Source, S: Sink, W: Watcher>(
+fn check_replay<R, I: Source, S: Sink, W: Watcher>(
     rt: &R,
     alloc: Global,
     replay: Replay,
@@ -191,7 +190,7 @@ fn check_replay<R: Net<Listener = TcpListener, Stream = TcpStream>, I: Source, S
 /// entry gives, and shows each step to all watchers, in their order. All of the book is read: a
 /// malformed one is told before a difference, and a difference before what a watcher says. Where
 /// all is well a line with what was counted is written. The book's history is left in `kept`.
-pub fn check<R: Net<Listener = TcpListener, Stream = TcpStream>, I: Source, S: Sink, W: Watcher>(
+pub fn check<R, I: Source, S: Sink, W: Watcher>(
     rt: &R,
     alloc: Global,
     source: &mut I,

@@ -17,11 +17,10 @@ use nv_io::Sink;
 use nv_model::Limits;
 use nv_world::{Entry, History, Start, Stop, World};
 use std::alloc::{AllocError, Global};
-use std::net::{Net, TcpListener, TcpStream};
 
 /// Writes the book of a history, with the outputs of its takes. Want of memory is told, too, where
 /// the history has an entry that no book can have; a program can bring such, and no connection.
-pub fn keep_book<R: Net<Listener = TcpListener, Stream = TcpStream>, S: Sink>(
+pub fn keep_book<R, S: Sink>(
     rt: &R,
     alloc: Global,
     start: Start,
@@ -88,7 +87,7 @@ fn history_of_script(
 
 /// Writes the book of the script of a number: of those entries of it that enter a fresh world whose
 /// outboxes hold so many messages.
-pub fn generate<R: Net<Listener = TcpListener, Stream = TcpStream>, S: Sink>(
+pub fn generate<R, S: Sink>(
     rt: &R,
     alloc: Global,
     limits: Limits,

@@ -16,10 +16,9 @@ use nv_dispatch::usual_limits;
 use nv_io::{Sink, Source};
 use nv_world::History;
 use std::alloc::Global;
-use std::net::{Net, TcpListener, TcpStream};
 
 // Writes the outputs of a book's history, which is kept.
-fn write_outputs<R: Net<Listener = TcpListener, Stream = TcpStream>, S: Sink>(
+fn write_outputs<R, S: Sink>(
     rt: &R,
     alloc: Global,
     book: Book,
@@ -51,7 +50,7 @@ fn write_outputs<R: Net<Listener = TcpListener, Stream = TcpStream>, S: Sink>(
 /// Reads a book whole and plays it, and then writes the outputs of its takes, each piece of them
 /// with the number of its entry and its session; the book's history is left in `kept`. Nothing is
 /// written where what was read is no book.
-pub fn replay<R: Net<Listener = TcpListener, Stream = TcpStream>, I: Source, S: Sink>(
+pub fn replay<R, I: Source, S: Sink>(
     rt: &R,
     alloc: Global,
     source: &mut I,

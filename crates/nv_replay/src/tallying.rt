@@ -12,7 +12,6 @@ ghost use Rattle.nv_replay.specs.inside.Tallies.{GoesOver, IsComing, tally_with}
 use nv_book::{Replay, Unread, Upcoming};
 use nv_io::Source;
 use nv_world::Step;
-use std::net::{Net, TcpListener, TcpStream};
 
 /// How many bytes the outputs have, up to the end of 64 bits, and the number of the first entry
 /// whose output in the book isn't the one that it gives.
@@ -35,7 +34,7 @@ impl Tally {
 }
 
 /// Plays the entry of a book that was read, and compares its output with the book's.
-pub fn compare_next<R: Net<Listener = TcpListener, Stream = TcpStream>, I: Source>(
+pub fn compare_next<R, I: Source>(
     rt: &R,
     replay: &mut Replay,
     source: &mut I,

@@ -2,11 +2,12 @@
 use Rattle.std.proofs.Common.{◌≡◌, ◌⊎◌, ℕ, ◌<◌, List, ◌++◌, length, Option, Some, None, refl, sym, ap, ◌∙◌, subst, arith, length-append, inl, inr}
 use Rattle.std.specs.Prelude.{◌^◌}
 use Rattle.std.proofs.lemmas.List.{append-nil}
+use Rattle.std.specs.List.{concat}
 use Rattle.std.specs.Io.KnownBytes.{prepend_known}
 use Rattle.nv_io.specs.Faults.{Rose}
-use Rattle.nv_io.specs.declared.ending.Flaw.{Flaw}
-use Rattle.nv_io.specs.declared.ending.Ended.{Ended}
-use Rattle.nv_io.specs.declared.ending.Ended.TheVariants.{Closed, Malformed, Overflowed, ReadFault, WriteFault, Quit, NoMemory}
+use Rattle.nv_io.specs.declared.lanes.Flaw.{Flaw}
+use Rattle.nv_io.specs.declared.lanes.Ended.{Ended}
+use Rattle.nv_io.specs.declared.lanes.Ended.TheVariants.{Closed, Malformed, Overflowed, ReadFault, WriteFault, Quit, NoMemory}
 use Rattle.nv_history.specs.Events.{Entry, quit_at}
 use Rattle.nv_world.specs.declared.story.Start.{Start}
 use Rattle.nv_halves.specs.Reading.{WasRead}
@@ -29,33 +30,33 @@ front_read all read None e = cc
 front_read all read (Some rest) e = (rest, cc)
 
 -- what status 0 says
-pub ended_well : (start : Start) (ended : Ended) (all read : List ℕ) (left : Option (List ℕ)) (kept : List Entry) (before after : Option (List ℕ)) → Some all ≡ prepend_known read left → length all < 2 ^ 62 → SessionEnds start ended read left kept before after
+pub ended_well : (start : Start) (ended : Ended) (all : List ℕ) (pieces : List (List ℕ)) (left : Option (List ℕ)) (kept : List Entry) (before after : Option (List ℕ)) → Some all ≡ prepend_known (concat pieces) left → length all < 2 ^ 62 → SessionEnds start ended pieces left kept before after
     → status_of ended ≡ 0
     → AnswersAll start None all kept before after ⊎ ((entry : ℕ) × (front rest : List ℕ) × (all ≡ front ++ rest) × AnswersUpTo start (quit_at entry) front kept before after)
-ended_well start Closed all read left kept before after e few h z =
-    inl (subst (λ (l : List ℕ). AnswersAll start None l kept before after) (all_read all read left e h.1 few) h.0)
-ended_well start (Quit entry) all read left kept before after e few h z =
-    let f = front_read all read left e in
-    inr (entry, read, f.0, f.1, h)
-ended_well start (Malformed flaw) all read left kept before after e few h z = cc
-ended_well start (Overflowed entry) all read left kept before after e few h z = cc
-ended_well start ReadFault all read left kept before after e few h z = cc
-ended_well start WriteFault all read left kept before after e few h z = cc
-ended_well start NoMemory all read left kept before after e few h z = cc
+ended_well start Closed all pieces left kept before after e few h z =
+    inl (subst (λ (l : List ℕ). AnswersAll start None l kept before after) (all_read all (concat pieces) left e h.1 few) h.0)
+ended_well start (Quit entry) all pieces left kept before after e few h z =
+    let f = front_read all (concat pieces) left e in
+    inr (entry, concat pieces, f.0, f.1, h)
+ended_well start (Malformed flaw) all pieces left kept before after e few h z = cc
+ended_well start (Overflowed entry) all pieces left kept before after e few h z = cc
+ended_well start ReadFault all pieces left kept before after e few h z = cc
+ended_well start WriteFault all pieces left kept before after e few h z = cc
+ended_well start NoMemory all pieces left kept before after e few h z = cc
 
 -- what status 6 says
-pub ended_badly : (start : Start) (ended : Ended) (all read : List ℕ) (left : Option (List ℕ)) (kept : List Entry) (before after : Option (List ℕ)) → Some all ≡ prepend_known read left → SessionEnds start ended read left kept before after
+pub ended_badly : (start : Start) (ended : Ended) (all : List ℕ) (pieces : List (List ℕ)) (left : Option (List ℕ)) (kept : List Entry) (before after : Option (List ℕ)) → Some all ≡ prepend_known (concat pieces) left → SessionEnds start ended pieces left kept before after
     → status_of ended ≡ 6
     → (flaw : Flaw) × (front rest : List ℕ) × (all ≡ front ++ rest) × AnswersAll start (Some flaw) front kept before after
-ended_badly start (Malformed flaw) all read left kept before after e h z =
-    let f = front_read all read left e in
-    (flaw, read, f.0, f.1, h.0)
-ended_badly start Closed all read left kept before after e h z = cc
-ended_badly start (Quit entry) all read left kept before after e h z = cc
-ended_badly start (Overflowed entry) all read left kept before after e h z = cc
-ended_badly start ReadFault all read left kept before after e h z = cc
-ended_badly start WriteFault all read left kept before after e h z = cc
-ended_badly start NoMemory all read left kept before after e h z = cc
+ended_badly start (Malformed flaw) all pieces left kept before after e h z =
+    let f = front_read all (concat pieces) left e in
+    (flaw, concat pieces, f.0, f.1, h.0)
+ended_badly start Closed all pieces left kept before after e h z = cc
+ended_badly start (Quit entry) all pieces left kept before after e h z = cc
+ended_badly start (Overflowed entry) all pieces left kept before after e h z = cc
+ended_badly start ReadFault all pieces left kept before after e h z = cc
+ended_badly start WriteFault all pieces left kept before after e h z = cc
+ended_badly start NoMemory all pieces left kept before after e h z = cc
 
 -- what status 3 says, over a source that counts no fault
 pub is_read_fault : (ended : Ended) → status_of ended ≡ 3 → ended ≡ ReadFault

@@ -1,8 +1,8 @@
 //! The command line: what the program does for its words.
 ghost use Rattle.std.specs.Prelude.{◌≡◌, ◌⊎◌, ◌++◌, ℕ, List, [], IsSome, None, Some, length, map, slice_get};
 ghost use Rattle.nv_io.specs.Faults.{Rose};
-ghost use Rattle.nv_io.specs.Streams.{Gave, Tells};
-ghost use Rattle.nv_io.specs.declared.ending.Ended.{Ended};
+ghost use Rattle.nv_io.specs.Streams.{GaveEach, Tells, words_of};
+ghost use Rattle.nv_io.specs.declared.lanes.Ended.{Ended};
 ghost use Rattle.nv_dispatch.specs.Runs.{usual_limits};
 ghost use Rattle.nv_history.specs.Worlds.{fresh_world};
 ghost use Rattle.nv_gen.specs.Story.{script_of};
@@ -47,11 +47,7 @@ use std::thread::Threads;
 pub const USUAL_OUTBOX: u32 = 4_096;
 
 // Tells that the words are refused, and answers the status.
-fn refuse<R: Net<Listener = TcpListener, Stream = TcpStream>, E: Sink>(
-    rt: &R,
-    errors: &mut E,
-    refusal: Refusal,
-) -> u8
+fn refuse<R, E: Sink>(rt: &R, errors: &mut E, refusal: Refusal) -> u8
     ensures memory { refusal ≡ Refusal.NoMemory → result ≡ 1 }
     ensures bad { refusal ≡ Refusal.BadWords → result ≡ 2 }
     ensures line { Tells (line_of_refusal result) (E.taken errors.old) (E.taken errors.new)
@@ -70,7 +66,7 @@ fn refuse<R: Net<Listener = TcpListener, Stream = TcpStream>, E: Sink>(
 }
 
 // Serves one session alone, from a fresh editor on, and leaves its history in `kept`.
-fn embed<R: Net<Listener = TcpListener, Stream = TcpStream>, I: Source, S: Sink>(
+fn embed<R, I: Source, S: Sink>(
     rt: &R,
     alloc: Global,
     outbox: u32,
@@ -80,9 +76,10 @@ fn embed<R: Net<Listener = TcpListener, Stream = TcpStream>, I: Source, S: Sink>
 ) -> Ended
     requires outbox { IsOutboxSize outbox }
     requires empty { kept.old.entries ≡ [] }
-    ensures ends { (bytes : List ℕ)
-        × Gave (I.taken input.old) (I.taken input.new) (I.left input.old) (I.left input.new) bytes
-        × SessionEnds (usual_start outbox) result bytes (I.left input.new)
+    ensures ends { (pieces : List (List ℕ))
+        × GaveEach (words_of I.taken I.left I.reads input.old)
+        (words_of I.taken I.left I.reads input.new) pieces
+        × SessionEnds (usual_start outbox) result pieces (I.left input.new)
         (plain_entries kept.new.entries) (S.taken output.old) (S.taken output.new) }
     ensures has { (kept.new.entries ≡ [])
         ⊎ HasSession (usual_start outbox) (plain_entries kept.new.entries) }
@@ -129,9 +126,10 @@ fn perform<
     requires empty { kept.old.entries ≡ [] }
     ensures other { result ≡ 2 → ⊥ }
     ensures session { IfEmbed (Some (plain_command command.entry)) (λ outbox.
-        (ended : Ended) × (bytes : List ℕ) × (result ≡ status_of ended)
-        × Gave (I.taken input.old) (I.taken input.new) (I.left input.old) (I.left input.new) bytes
-        × SessionEnds (usual_start outbox) ended bytes (I.left input.new)
+        (ended : Ended) × (pieces : List (List ℕ)) × (result ≡ status_of ended)
+        × GaveEach (words_of I.taken I.left I.reads input.old)
+        (words_of I.taken I.left I.reads input.new) pieces
+        × SessionEnds (usual_start outbox) ended pieces (I.left input.new)
         (plain_entries kept.new.entries) (S.taken output.old) (S.taken output.new)
         × (ended ≡ Ended.ReadFault → Rose (I.faults input.old) (I.faults input.new))
         × (ended ≡ Ended.WriteFault → Rose (S.faults output.old) (S.faults output.new))
@@ -280,12 +278,13 @@ pub fn run<
         (E.faults errors.old) (E.faults errors.new) }
 
     // Where the words ask for one session, there is an end of it that the status and the line tell,
-    // of the bytes that were read and the history that was kept. Faults come only where they rose.
+    // of what each read gave and the history that was kept. Faults come only where they rose.
     ensures session { AreWords (map (λ word. word.now) words.now)
         → IfEmbed (command_asked (map (λ word. word.now) words.now)) (λ outbox.
-        (ended : Ended) × (bytes : List ℕ) × (result ≡ status_of ended)
-        × Gave (I.taken input.old) (I.taken input.new) (I.left input.old) (I.left input.new) bytes
-        × SessionEnds (usual_start outbox) ended bytes (I.left input.new)
+        (ended : Ended) × (pieces : List (List ℕ)) × (result ≡ status_of ended)
+        × GaveEach (words_of I.taken I.left I.reads input.old)
+        (words_of I.taken I.left I.reads input.new) pieces
+        × SessionEnds (usual_start outbox) ended pieces (I.left input.new)
         (plain_entries kept.new.entries) (S.taken output.old) (S.taken output.new)
         × (ended ≡ Ended.ReadFault → Rose (I.faults input.old) (I.faults input.new))
         × (ended ≡ Ended.WriteFault → Rose (S.faults output.old) (S.faults output.new))

@@ -9,11 +9,10 @@ ghost use Rattle.nv_run.specs.inside.Lanes.{AreOut};
 
 use nv_io::{Lane, Port};
 use nv_serve::Job;
-use std::net::{Net, TcpListener, TcpStream};
 
 /// Takes so many lanes, for which `jobs` has room. `false` is a fault, and says that `jobs` has
 /// the lanes that were got before it.
-pub fn take_lanes<R: Net<Listener = TcpListener, Stream = TcpStream>, P: Port>(
+pub fn take_lanes<R, P: Port>(
     rt: &R,
     port: &mut P,
     count: usize,

@@ -14,11 +14,10 @@ use nv_watch::Watcher;
 use nv_world::History;
 use std::alloc::Global;
 use std::fs::File;
-use std::net::{Net, TcpListener, TcpStream};
 use std::rt::Files as SystemFiles;
 
 // Replays a book, or checks it.
-fn play<R: Net<Listener = TcpListener, Stream = TcpStream>, I: Source, S: Sink, W: Watcher>(
+fn play<R, I: Source, S: Sink, W: Watcher>(
     rt: &R,
     alloc: Global,
     is_check: bool,
@@ -50,12 +49,7 @@ fn play<R: Net<Listener = TcpListener, Stream = TcpStream>, I: Source, S: Sink, 
 
 /// Replays the book in a file, or checks it, and leaves its history in `kept`. The source that was
 /// given goes back.
-pub fn replay<
-    R: SystemFiles<File = File> + Net<Listener = TcpListener, Stream = TcpStream>,
-    S: Sink,
-    F: Files,
-    W: Watcher,
->(
+pub fn replay<R: SystemFiles<File = File>, S: Sink, F: Files, W: Watcher>(
     rt: &R,
     alloc: Global,
     name: &str,

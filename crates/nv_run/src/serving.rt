@@ -180,7 +180,7 @@ fn end_with(ended: ServerEnd, written: WriteEnd) -> ServerEnd
 }
 
 // Writes the book of the history of a server whose lanes ended so, and tells how it ended then.
-fn leave_book<R: Net<Listener = TcpListener, Stream = TcpStream>, S: Sink>(
+fn leave_book<R, S: Sink>(
     rt: &R,
     alloc: Global,
     outbox: u32,

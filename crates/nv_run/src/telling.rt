@@ -2,7 +2,7 @@
 //! memory.
 ghost use Rattle.std.specs.Prelude.{◌≡◌, ◌++◌, codes, decimal, flat_map};
 ghost use Rattle.nv_io.specs.Streams.{Tells};
-ghost use Rattle.nv_io.specs.declared.ending.Ended.TheVariants.{Malformed};
+ghost use Rattle.nv_io.specs.declared.lanes.Ended.TheVariants.{Malformed};
 ghost use Rattle.nv_replay.specs.declared.ending.ReplayEnd.TheVariants.{Objects};
 ghost use Rattle.nv_run.specs.Statuses.{line_of, line_of_replay, line_of_script, line_of_server, malformed_line, status_of, status_of_replay, status_of_script, status_of_server};
 
@@ -10,7 +10,6 @@ use crate::serving::ServerEnd;
 use itoa::Buffer;
 use nv_io::{Ended, Flaw, Sink, put_all};
 use nv_replay::{ReplayEnd, WriteEnd};
-use std::net::{Net, TcpListener, TcpStream};
 
 /// The status of an end.
 pub fn status_of(ended: Ended) -> u8
@@ -64,11 +63,7 @@ pub fn status_of_script(ended: WriteEnd) -> u8
 }
 
 /// Writes the parts of a line to `errors`, one after another, up to a fault.
-pub fn tell<R: Net<Listener = TcpListener, Stream = TcpStream>, E: Sink>(
-    rt: &R,
-    errors: &mut E,
-    parts: &[&str],
-)
+pub fn tell<R, E: Sink>(rt: &R, errors: &mut E, parts: &[&str])
     ensures { Tells (flat_map (λ part. part.now) parts.now) (E.taken errors.old)
         (E.taken errors.new) (E.faults errors.old) (E.faults errors.new) }
 {
@@ -93,11 +88,7 @@ fn word_of(flaw: Flaw) -> (&'static str, u64)
 }
 
 /// Writes the line of an end to `errors`, where it has one.
-pub fn tell_end<R: Net<Listener = TcpListener, Stream = TcpStream>, E: Sink>(
-    rt: &R,
-    errors: &mut E,
-    ended: Ended,
-)
+pub fn tell_end<R, E: Sink>(rt: &R, errors: &mut E, ended: Ended)
     ensures { Tells (line_of ended) (E.taken errors.old) (E.taken errors.new) (E.faults errors.old)
         (E.faults errors.new) }
 {
@@ -128,11 +119,7 @@ pub fn tell_end<R: Net<Listener = TcpListener, Stream = TcpStream>, E: Sink>(
 }
 
 /// Writes the line of the end of a server to `errors`, where it has one.
-pub fn tell_server<R: Net<Listener = TcpListener, Stream = TcpStream>, E: Sink>(
-    rt: &R,
-    errors: &mut E,
-    ended: ServerEnd,
-)
+pub fn tell_server<R, E: Sink>(rt: &R, errors: &mut E, ended: ServerEnd)
     ensures { Tells (line_of_server ended) (E.taken errors.old) (E.taken errors.new)
         (E.faults errors.old) (E.faults errors.new) }
 {
@@ -145,12 +132,7 @@ pub fn tell_server<R: Net<Listener = TcpListener, Stream = TcpStream>, E: Sink>(
 }
 
 // Writes a line to `errors` that ends with a number.
-fn tell_number<R: Net<Listener = TcpListener, Stream = TcpStream>, E: Sink>(
-    rt: &R,
-    errors: &mut E,
-    words: &str,
-    number: u64,
-)
+fn tell_number<R, E: Sink>(rt: &R, errors: &mut E, words: &str, number: u64)
     ensures { Tells (words.now ++ (decimal number ++ codes "\n")) (E.taken errors.old)
         (E.taken errors.new) (E.faults errors.old) (E.faults errors.new) }
 {
@@ -160,12 +142,7 @@ fn tell_number<R: Net<Listener = TcpListener, Stream = TcpStream>, E: Sink>(
 }
 
 // Writes the line of the watcher that says no to `errors`.
-fn tell_no<R: Net<Listener = TcpListener, Stream = TcpStream>, E: Sink>(
-    rt: &R,
-    errors: &mut E,
-    watcher: u64,
-    entry: u64,
-)
+fn tell_no<R, E: Sink>(rt: &R, errors: &mut E, watcher: u64, entry: u64)
     ensures { Tells (line_of_replay (Objects watcher entry)) (E.taken errors.old)
         (E.taken errors.new) (E.faults errors.old) (E.faults errors.new) }
 {
@@ -187,11 +164,7 @@ fn tell_no<R: Net<Listener = TcpListener, Stream = TcpStream>, E: Sink>(
 }
 
 /// Writes the line of the end of a replay to `errors`, where it has one.
-pub fn tell_replay<R: Net<Listener = TcpListener, Stream = TcpStream>, E: Sink>(
-    rt: &R,
-    errors: &mut E,
-    ended: ReplayEnd,
-)
+pub fn tell_replay<R, E: Sink>(rt: &R, errors: &mut E, ended: ReplayEnd)
     ensures { Tells (line_of_replay ended) (E.taken errors.old) (E.taken errors.new)
         (E.faults errors.old) (E.faults errors.new) }
 {
@@ -211,11 +184,7 @@ pub fn tell_replay<R: Net<Listener = TcpListener, Stream = TcpStream>, E: Sink>(
 }
 
 /// Writes the line of the end of the writing of a script's book to `errors`, where it has one.
-pub fn tell_script<R: Net<Listener = TcpListener, Stream = TcpStream>, E: Sink>(
-    rt: &R,
-    errors: &mut E,
-    ended: WriteEnd,
-)
+pub fn tell_script<R, E: Sink>(rt: &R, errors: &mut E, ended: WriteEnd)
     ensures { Tells (line_of_script ended) (E.taken errors.old) (E.taken errors.new)
         (E.faults errors.old) (E.faults errors.new) }
 {

@@ -1,7 +1,7 @@
 //! What the command does over a source that never fails, whose bytes are known.
 ghost use Rattle.std.specs.Prelude.{◌≡◌, ◌≢◌, ◌⊎◌, ℕ, ◌^◌, ◌<◌, ◌++◌, List, [], vec_len, None, Some};
 ghost use Rattle.nv_io.specs.Memory.{AreSizes};
-ghost use Rattle.nv_io.specs.declared.ending.Flaw.{Flaw};
+ghost use Rattle.nv_io.specs.declared.lanes.Flaw.{Flaw};
 ghost use Rattle.nv_history.specs.Events.{quit_at};
 ghost use Rattle.nv_world.specs.Contents.{plain_entries};
 ghost use Rattle.nv_session.specs.Ends.{AnswersAll, AnswersUpTo};

@@ -8,8 +8,8 @@ use Rattle.nv_turn.proofs.Prefixes.{prefix_self, prefix_trans}
 use Rattle.nv_io.specs.Faults.{Rose}
 use Rattle.nv_io.specs.Known.{append_items, prepend_items, ForEachItem}
 use Rattle.nv_io.specs.declared.lanes.Over.{Over}
-use Rattle.nv_io.specs.declared.ending.Ended.{Ended}
-use Rattle.nv_io.specs.declared.ending.Ended.TheVariants.{ReadFault, WriteFault}
+use Rattle.nv_io.specs.declared.lanes.Ended.{Ended}
+use Rattle.nv_io.specs.declared.lanes.Ended.TheVariants.{ReadFault, WriteFault}
 use Rattle.nv_history.specs.Events.{Entry}
 use Rattle.nv_history.specs.Asking.{own}
 use Rattle.nv_world.specs.Contents.{plain_entries}

@@ -11,8 +11,8 @@ use Rattle.nv_turn.proofs.Entries.{has_one}
 use Rattle.nv_turn.proofs.Prefixes.{prefix_self}
 use Rattle.nv_io.specs.Faults.{Rose}
 use Rattle.nv_io.specs.Known.{ForEachItem}
-use Rattle.nv_io.specs.declared.ending.Ended.{Ended}
-use Rattle.nv_io.specs.declared.ending.Ended.TheVariants.{Quit}
+use Rattle.nv_io.specs.declared.lanes.Ended.{Ended}
+use Rattle.nv_io.specs.declared.lanes.Ended.TheVariants.{Quit}
 use Rattle.nv_history.specs.Events.{open_session, request_of, Entry, quit_at}
 use Rattle.nv_history.specs.Sessions.{Session}
 use Rattle.nv_history.specs.Worlds.{World, session_of}

@@ -5,7 +5,7 @@ use mathlib.Core.List.{IsPrefix}
 use Rattle.nv_io.specs.Faults.{Rose}
 use Rattle.nv_io.specs.Known.{IsNoItem}
 use Rattle.nv_io.specs.Streams.{Gave}
-use Rattle.nv_io.specs.declared.ending.Ended.TheVariants.{ReadFault, WriteFault, Quit}
+use Rattle.nv_io.specs.declared.lanes.Ended.TheVariants.{ReadFault, WriteFault, Quit}
 use Rattle.nv_history.specs.Events.{Event, open_session, request_of, take_of, close_of, Entry}
 use Rattle.nv_history.specs.Sessions.{Session}
 use Rattle.nv_history.specs.Worlds.{World, session_of}

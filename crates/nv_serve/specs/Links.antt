@@ -3,8 +3,8 @@ use Rattle.std.specs.Prelude.{◌≡◌, ◌⊎◌, ℕ, List, [], ◌∷◌, �
 use Rattle.nv_io.specs.Faults.{Rose}
 use Rattle.nv_io.specs.Known.{append_items, prepend_items, IsNoItem}
 use Rattle.nv_io.specs.declared.lanes.Over.{Over}
-use Rattle.nv_io.specs.declared.ending.Ended.{Ended}
-use Rattle.nv_io.specs.declared.ending.Ended.TheVariants.{Closed, Malformed, Overflowed, ReadFault, WriteFault, Quit, NoMemory}
+use Rattle.nv_io.specs.declared.lanes.Ended.{Ended}
+use Rattle.nv_io.specs.declared.lanes.Ended.TheVariants.{Closed, Malformed, Overflowed, ReadFault, WriteFault, Quit, NoMemory}
 use Rattle.nv_history.specs.Events.{Entry}
 use Rattle.nv_session.specs.Connections.{EndsOf}
 

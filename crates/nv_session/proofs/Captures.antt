@@ -11,6 +11,8 @@ use denote.Param.Send.{IsSend, sendable, shr_send, shr_slice_send}
 use denote.Param.SendFields.{declared_send, as_row_send}
 use Rattle.std.proofs.alloc.Global.TheSendSync as heap
 use Rattle.std.specs.contracts.alloc.Global as heap_row
+use Rattle.std.proofs.sync.atomic.AtomicBool.TheSendSync as flag
+use Rattle.std.specs.contracts.sync.atomic.AtomicBool as flag_row
 use Rattle.nv_turn.specs.contracts.turn.Turn as turn_row
 use Rattle.nv_turn.specs.contracts.pass.Pass as pass_row
 use Rattle.nv_world.proofs.Crossing.{crossing_passes}
@@ -38,18 +40,34 @@ pub seven_send : {ν : Sym} {A B C D E F G : RattleType} → IsSend A → IsSend
 seven_send {ν} {A} {B} {C} {D} {E} {F} {G} a b c d e f g = declared_send (type_at ν (A ∷ B ∷ C ∷ D ∷ E ∷ F ∷ G ∷ []))
     (as_row_send (row_field A) a, (as_row_send (row_field B) b, (as_row_send (row_field C) c, (as_row_send (row_field D) d, (as_row_send (row_field E) e, (as_row_send (row_field F) f, (as_row_send (row_field G) g, tt)))))))
 
+-- eight of them
+pub eight_send : {ν : Sym} {A B C D E F G H : RattleType} → IsSend A → IsSend B → IsSend C → IsSend D → IsSend E → IsSend F → IsSend G → IsSend H
+    → IsSend (TupleAt ν (A ∷ B ∷ C ∷ D ∷ E ∷ F ∷ G ∷ H ∷ []))
+eight_send {ν} {A} {B} {C} {D} {E} {F} {G} {H} a b c d e f g h = declared_send (type_at ν (A ∷ B ∷ C ∷ D ∷ E ∷ F ∷ G ∷ H ∷ []))
+    (as_row_send (row_field A) a, (as_row_send (row_field B) b, (as_row_send (row_field C) c, (as_row_send (row_field D) d, (as_row_send (row_field E) e, (as_row_send (row_field F) f, (as_row_send (row_field G) g, (as_row_send (row_field H) h, tt))))))))
+
 -- and nine of them
 pub nine_send : {ν : Sym} {A B C D E F G H I : RattleType} → IsSend A → IsSend B → IsSend C → IsSend D → IsSend E → IsSend F → IsSend G → IsSend H → IsSend I
     → IsSend (TupleAt ν (A ∷ B ∷ C ∷ D ∷ E ∷ F ∷ G ∷ H ∷ I ∷ []))
 nine_send {ν} {A} {B} {C} {D} {E} {F} {G} {H} {I} a b c d e f g h i = declared_send (type_at ν (A ∷ B ∷ C ∷ D ∷ E ∷ F ∷ G ∷ H ∷ I ∷ []))
     (as_row_send (row_field A) a, (as_row_send (row_field B) b, (as_row_send (row_field C) c, (as_row_send (row_field D) d, (as_row_send (row_field E) e, (as_row_send (row_field F) f, (as_row_send (row_field G) g, (as_row_send (row_field H) h, (as_row_send (row_field I) i, tt)))))))))
 
--- one for each: the allocator, the turn, the bells, the pass, and the number of the session
+-- one for each: the allocator, lent and not, the turn, the bells, the pass, the number of the session,
+-- and the flag
 pub heap_sends : {ℓ : Lifetime} {κ : Lft} → IsSend (ShrRef ℓ κ heap_row.the_row)
 heap_sends {ℓ} {κ} = shr_send ℓ κ heap_row.the_row heap.the_sync
 
 pub number_sends : {ℓ : Lifetime} {κ : Lft} → IsSend (ShrRef ℓ κ u64-field.row)
 number_sends {ℓ} {κ} = search sendable
+
+pub own_heap_sends : IsSend heap_row.the_row
+own_heap_sends = heap.the_send
+
+pub own_number_sends : IsSend u64-field.row
+own_number_sends = search sendable
+
+pub flag_sends : {ℓ : Lifetime} {κ : Lft} → IsSend (ShrRef ℓ κ flag_row.the_row)
+flag_sends {ℓ} {κ} = shr_send ℓ κ flag_row.the_row flag.the_sync
 
 abbrev pub the_turn : RattleType
 the_turn = turn_row.the_row world_row.the_row entry_row.the_row start_row.the_row story.ghosts

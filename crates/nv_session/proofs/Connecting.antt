@@ -3,8 +3,8 @@ use Rattle.std.proofs.Common.{◌≡◌, ℕ, List, [], ◌∷◌, ◌++◌, Opt
 use Rattle.nv_turn.specs.Passes.{IsSamePass}
 use Rattle.nv_turn.proofs.Prefixes.{prefix_self, prefix_trans}
 use Rattle.nv_io.specs.Faults.{Rose}
-use Rattle.nv_io.specs.declared.ending.Ended.{Ended}
-use Rattle.nv_io.specs.declared.ending.Ended.TheVariants.{ReadFault, WriteFault, NoMemory}
+use Rattle.nv_io.specs.declared.lanes.Ended.{Ended}
+use Rattle.nv_io.specs.declared.lanes.Ended.TheVariants.{ReadFault, WriteFault, NoMemory}
 use Rattle.nv_history.specs.Events.{Entry}
 use Rattle.nv_history.specs.Asking.{own}
 use Rattle.nv_history.specs.Spoken.{AreBytesOf}

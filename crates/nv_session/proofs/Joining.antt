@@ -4,9 +4,9 @@ use Rattle.std.proofs.lemmas.List.{take_all}
 use Rattle.std.proofs.lemmas.Option.{same_Some}
 use Rattle.std.specs.Io.KnownBytes.{append_known}
 use Rattle.nv_io.specs.Faults.{Rose}
-use Rattle.nv_io.specs.declared.ending.Flaw.{Flaw}
-use Rattle.nv_io.specs.declared.ending.Ended.{Ended}
-use Rattle.nv_io.specs.declared.ending.Ended.TheVariants.{Closed, Malformed, ReadFault, WriteFault, NoMemory}
+use Rattle.nv_io.specs.declared.lanes.Flaw.{Flaw}
+use Rattle.nv_io.specs.declared.lanes.Ended.{Ended}
+use Rattle.nv_io.specs.declared.lanes.Ended.TheVariants.{Closed, Malformed, ReadFault, WriteFault, NoMemory}
 use Rattle.nv_rpc.specs.Calls.{Call}
 use Rattle.nv_history.specs.Events.{Entry, Cause, closed_at, overflowed_at, quit_at}
 use Rattle.nv_history.specs.Sessions.{Session}

@@ -1,10 +1,11 @@
 -- A session that is left, and its close.
 use Rattle.std.proofs.Common.{◌≡◌, ℕ, Bool, true, false, List, [], ◌∷◌, ◌++◌, Option, Some, None, refl, sym, ap, ◌∙◌, subst, inl, inr}
 use Rattle.std.proofs.lemmas.List.{append-nil}
+use Rattle.std.specs.List.{concat}
 use Rattle.std.specs.Io.KnownBytes.{append_known}
-use Rattle.nv_io.specs.declared.ending.Flaw.{Flaw}
-use Rattle.nv_io.specs.declared.ending.Ended.{Ended}
-use Rattle.nv_io.specs.declared.ending.Ended.TheVariants.{Closed, Malformed, Overflowed, ReadFault, WriteFault, Quit, NoMemory}
+use Rattle.nv_io.specs.declared.lanes.Flaw.{Flaw}
+use Rattle.nv_io.specs.declared.lanes.Ended.{Ended}
+use Rattle.nv_io.specs.declared.lanes.Ended.TheVariants.{Closed, Malformed, Overflowed, ReadFault, WriteFault, Quit, NoMemory}
 use Rattle.nv_rpc.specs.Calls.{Call}
 use Rattle.nv_history.specs.Events.{open_session, close_of, Entry, Cause, closed_at, overflowed_at, quit_at, Effect}
 use Rattle.nv_history.specs.Sessions.{Session, session_closed_by, session_quit_if}
@@ -76,8 +77,8 @@ closed_has start false ended result h k s c = subst (HasSession start) (sym c.1)
 whole_history : (start : Start) (calls : List Call) (h k : List Entry) (c : IsClosing start calls h) → GainsClose start h k → k ≡ history_of start calls
 whole_history start calls h k c g = g c.now c.runs ∙ c.ends
 
-all_closed : (start : Start) (flaw : Option Flaw) (bytes : List ℕ) (h k : List Entry) (b a : Option (List ℕ)) → LeavesAll start flaw bytes h b a → GainsClose start h k → AnswersAll start flaw bytes k b a
-all_closed start flaw bytes h k b a l g =
+all_closed : (start : Start) (flaw : Option Flaw) (pieces : List (List ℕ)) (h k : List Entry) (b a : Option (List ℕ)) → LeavesAll start flaw pieces h b a → GainsClose start h k → AnswersAll start flaw (concat pieces) k b a
+all_closed start flaw pieces h k b a l g =
     let c = closing start h l.alone.nothing_due in
     let is : k ≡ history_of start (calls_of 1 h) = whole_history start (calls_of 1 h) h k c g in
     record {
@@ -93,10 +94,10 @@ all_closed start flaw bytes h k b a l g =
     }
 
 -- all was answered, and memory was wanting for the close
-all_unclosed : (start : Start) (flaw : Option Flaw) (bytes : List ℕ) (h : List Entry) (b a : Option (List ℕ)) → LeavesAll start flaw bytes h b a → AnswersSome start IsFront bytes h b a
-all_unclosed start flaw bytes h b a l =
+all_unclosed : (start : Start) (flaw : Option Flaw) (pieces : List (List ℕ)) (h : List Entry) (b a : Option (List ℕ)) → LeavesAll start flaw pieces h b a → AnswersSome start IsFront pieces h b a
+all_unclosed start flaw pieces h b a l =
     let c = closing start h l.alone.nothing_due in
-    let r = calls_read 0 0 l.calls bytes flaw l.reads in
+    let r = calls_read 0 0 l.calls (concat pieces) flaw l.reads in
     let taken : batches_taken start (history_of start l.calls) ≡ batches_taken start h =
     ap (λ (x : List Call). batches_taken start (history_of start x)) (sym l.asked) ∙ closed_taken start (calls_of 1 h) h c in
     record {
@@ -117,8 +118,8 @@ all_unclosed start flaw bytes h b a l =
     }
 
 -- the answers were cut short, and the session was closed
-some_closed : (start : Start) (bytes : List ℕ) (h k : List Entry) (b a : Option (List ℕ)) → AnswersSome start IsClosing bytes h b a → GainsClose start h k → AnswersSome start IsHistoryOf bytes k b a
-some_closed start bytes h k b a s g =
+some_closed : (start : Start) (pieces : List (List ℕ)) (h k : List Entry) (b a : Option (List ℕ)) → AnswersSome start IsClosing pieces h b a → GainsClose start h k → AnswersSome start IsHistoryOf pieces k b a
+some_closed start pieces h k b a s g =
     let calls = s.calls ++ s.next in
     let is : k ≡ history_of start calls = whole_history start calls h k s.history g in
     record {
@@ -138,8 +139,8 @@ some_closed start bytes h k b a s g =
       written = s.written;
     }
 
-some_unclosed : (start : Start) (bytes : List ℕ) (h : List Entry) (b a : Option (List ℕ)) → AnswersSome start IsClosing bytes h b a → AnswersSome start IsFront bytes h b a
-some_unclosed start bytes h b a s = record {
+some_unclosed : (start : Start) (pieces : List (List ℕ)) (h : List Entry) (b a : Option (List ℕ)) → AnswersSome start IsClosing pieces h b a → AnswersSome start IsFront pieces h b a
+some_unclosed start pieces h b a s = record {
   calls = s.calls;
   next = s.next;
   whole = s.whole;
@@ -177,48 +178,48 @@ answers_none start cause h out e due c =
       written = known_none out;
     }
 
-closes_so : (start : Start) (ended : Ended) (bytes : List ℕ) (left : Option (List ℕ)) (h k : List Entry) (b a : Option (List ℕ)) → leaves_open ended ≡ true → LeavesWith start ended bytes left h b a → GainsClose start h k → SessionEnds start ended bytes left k b a
-closes_so start Closed bytes left h k b a e l g = (all_closed start None bytes h k b a l.0 g, l.1)
-closes_so start (Malformed flaw) bytes left h k b a e l g = (all_closed start (Some flaw) bytes h k b a l.0 g, l.1)
-closes_so start ReadFault bytes left h k b a e l g = (l.0, l.1, all_closed start l.0 bytes h k b a l.2 g)
-closes_so start WriteFault bytes left h k b a e l g = some_closed start bytes h k b a l g
-closes_so start NoMemory bytes left h k b a e l g = cc
-closes_so start (Overflowed entry) bytes left h k b a e l g = cc
-closes_so start (Quit entry) bytes left h k b a e l g = cc
+closes_so : (start : Start) (ended : Ended) (pieces : List (List ℕ)) (left : Option (List ℕ)) (h k : List Entry) (b a : Option (List ℕ)) → leaves_open ended ≡ true → LeavesWith start ended pieces left h b a → GainsClose start h k → SessionEnds start ended pieces left k b a
+closes_so start Closed pieces left h k b a e l g = (all_closed start None pieces h k b a l.0 g, l.1)
+closes_so start (Malformed flaw) pieces left h k b a e l g = (all_closed start (Some flaw) pieces h k b a l.0 g, l.1)
+closes_so start ReadFault pieces left h k b a e l g = (l.0, l.1, all_closed start l.0 pieces h k b a l.2 g)
+closes_so start WriteFault pieces left h k b a e l g = some_closed start pieces h k b a l g
+closes_so start NoMemory pieces left h k b a e l g = cc
+closes_so start (Overflowed entry) pieces left h k b a e l g = cc
+closes_so start (Quit entry) pieces left h k b a e l g = cc
 
-wants_memory : (start : Start) (ended : Ended) (bytes : List ℕ) (left : Option (List ℕ)) (h : List Entry) (b a : Option (List ℕ)) → leaves_open ended ≡ true → LeavesWith start ended bytes left h b a → SessionEnds start NoMemory bytes left h b a
-wants_memory start Closed bytes left h b a e l = all_unclosed start None bytes h b a l.0
-wants_memory start (Malformed flaw) bytes left h b a e l = all_unclosed start (Some flaw) bytes h b a l.0
-wants_memory start ReadFault bytes left h b a e l = all_unclosed start l.0 bytes h b a l.2
-wants_memory start WriteFault bytes left h b a e l = some_unclosed start bytes h b a l
-wants_memory start NoMemory bytes left h b a e l = cc
-wants_memory start (Overflowed entry) bytes left h b a e l = cc
-wants_memory start (Quit entry) bytes left h b a e l = cc
+wants_memory : (start : Start) (ended : Ended) (pieces : List (List ℕ)) (left : Option (List ℕ)) (h : List Entry) (b a : Option (List ℕ)) → leaves_open ended ≡ true → LeavesWith start ended pieces left h b a → SessionEnds start NoMemory pieces left h b a
+wants_memory start Closed pieces left h b a e l = all_unclosed start None pieces h b a l.0
+wants_memory start (Malformed flaw) pieces left h b a e l = all_unclosed start (Some flaw) pieces h b a l.0
+wants_memory start ReadFault pieces left h b a e l = all_unclosed start l.0 pieces h b a l.2
+wants_memory start WriteFault pieces left h b a e l = some_unclosed start pieces h b a l
+wants_memory start NoMemory pieces left h b a e l = cc
+wants_memory start (Overflowed entry) pieces left h b a e l = cc
+wants_memory start (Quit entry) pieces left h b a e l = cc
 
-stays_so : (start : Start) (ended : Ended) (bytes : List ℕ) (left : Option (List ℕ)) (h : List Entry) (b a : Option (List ℕ)) → leaves_open ended ≡ false → LeavesWith start ended bytes left h b a → SessionEnds start ended bytes left h b a
-stays_so start Closed bytes left h b a e l = cc
-stays_so start (Malformed flaw) bytes left h b a e l = cc
-stays_so start ReadFault bytes left h b a e l = cc
-stays_so start WriteFault bytes left h b a e l = cc
-stays_so start NoMemory bytes left h b a e l = l
-stays_so start (Overflowed entry) bytes left h b a e l = l
-stays_so start (Quit entry) bytes left h b a e l = l
+stays_so : (start : Start) (ended : Ended) (pieces : List (List ℕ)) (left : Option (List ℕ)) (h : List Entry) (b a : Option (List ℕ)) → leaves_open ended ≡ false → LeavesWith start ended pieces left h b a → SessionEnds start ended pieces left h b a
+stays_so start Closed pieces left h b a e l = cc
+stays_so start (Malformed flaw) pieces left h b a e l = cc
+stays_so start ReadFault pieces left h b a e l = cc
+stays_so start WriteFault pieces left h b a e l = cc
+stays_so start NoMemory pieces left h b a e l = l
+stays_so start (Overflowed entry) pieces left h b a e l = l
+stays_so start (Quit entry) pieces left h b a e l = l
 
-left_by : (start : Start) (still : Bool) (ended result : Ended) (bytes : List ℕ) (left : Option (List ℕ)) (h k : List Entry) (b a : Option (List ℕ)) → leaves_open ended ≡ still → LeavesWith start ended bytes left h b a → IsClosedSo start still ended result h k → SessionEnds start result bytes left k b a
-left_by start true ended result bytes left h k b a e l (inl c) =
-    subst (λ (x : Ended). SessionEnds start x bytes left k b a) (sym c.0) (closes_so start ended bytes left h k b a e l c.1)
-left_by start true ended result bytes left h k b a e l (inr c) =
-    subst (λ (x : Ended). SessionEnds start x bytes left k b a) (sym c.0)
-    (subst (λ (x : List Entry). SessionEnds start NoMemory bytes left x b a) (sym c.1) (wants_memory start ended bytes left h b a e l))
-left_by start false ended result bytes left h k b a e l c =
-    subst (λ (x : Ended). SessionEnds start x bytes left k b a) (sym c.0)
-    (subst (λ (x : List Entry). SessionEnds start ended bytes left x b a) (sym c.1) (stays_so start ended bytes left h b a e l))
+left_by : (start : Start) (still : Bool) (ended result : Ended) (pieces : List (List ℕ)) (left : Option (List ℕ)) (h k : List Entry) (b a : Option (List ℕ)) → leaves_open ended ≡ still → LeavesWith start ended pieces left h b a → IsClosedSo start still ended result h k → SessionEnds start result pieces left k b a
+left_by start true ended result pieces left h k b a e l (inl c) =
+    subst (λ (x : Ended). SessionEnds start x pieces left k b a) (sym c.0) (closes_so start ended pieces left h k b a e l c.1)
+left_by start true ended result pieces left h k b a e l (inr c) =
+    subst (λ (x : Ended). SessionEnds start x pieces left k b a) (sym c.0)
+    (subst (λ (x : List Entry). SessionEnds start NoMemory pieces left x b a) (sym c.1) (wants_memory start ended pieces left h b a e l))
+left_by start false ended result pieces left h k b a e l c =
+    subst (λ (x : Ended). SessionEnds start x pieces left k b a) (sym c.0)
+    (subst (λ (x : List Entry). SessionEnds start ended pieces left x b a) (sym c.1) (stays_so start ended pieces left h b a e l))
 
 -- a session that was left and closed has ended so, with the history that was taken out
-pub left_ends : (start : Start) (ended result : Ended) (bytes : List ℕ) (left : Option (List ℕ)) (h k entries : List Entry) (b a : Option (List ℕ)) → LeavesWith start ended bytes left h b a → IsClosedSo start (leaves_open ended) ended result h k
-    → entries ≡ k → SessionEnds start result bytes left entries b a
-left_ends start ended result bytes left h k entries b a l c e =
-    subst (λ (x : List Entry). SessionEnds start result bytes left x b a) (sym e) (left_by start (leaves_open ended) ended result bytes left h k b a refl l c)
+pub left_ends : (start : Start) (ended result : Ended) (pieces : List (List ℕ)) (left : Option (List ℕ)) (h k entries : List Entry) (b a : Option (List ℕ)) → LeavesWith start ended pieces left h b a → IsClosedSo start (leaves_open ended) ended result h k
+    → entries ≡ k → SessionEnds start result pieces left entries b a
+left_ends start ended result pieces left h k entries b a l c e =
+    subst (λ (x : List Entry). SessionEnds start result pieces left x b a) (sym e) (left_by start (leaves_open ended) ended result pieces left h k b a refl l c)
 
 -- a fault is told by the end that was left
 fault_by : (start : Start) (still : Bool) (ended result fault : Ended) (h k : List Entry) → IsClosedSo start still ended result h k → result ≡ fault → (fault ≡ NoMemory → ⊥) → ended ≡ fault

@@ -1,13 +1,14 @@
 -- How what a session does in steps is one whole.
 use Rattle.std.proofs.Common.{Result, Ok, Err, ◌≡◌, ℕ, suc, ◌+◌, ◌<◌, ◌≤◌, List, [], ◌∷◌, ◌++◌, length, take, Option, Some, None, refl, sym, ap, ◌∙◌, subst, arith, length-append, append_assoc, inl}
 use Rattle.std.proofs.lemmas.List.{append-nil}
-use Rattle.std.specs.Io.KnownBytes.{append_known, prepend_known, IsAtEnd}
-use Rattle.nv_io.specs.Streams.{Gave}
+use Rattle.std.specs.List.{concat}
+use Rattle.std.proofs.lemmas.List.Folds.{concat-append}
+use Rattle.std.specs.Io.KnownBytes.{append_known, IsAtEnd}
 use Rattle.nv_stream.specs.State.{State, with_piece}
-use Rattle.nv_io.specs.declared.ending.Flaw.{Flaw}
-use Rattle.nv_io.specs.declared.ending.Flaw.TheVariants.{Bad, TooDeep, TooLong, Inside, NoCall}
-use Rattle.nv_io.specs.declared.ending.Ended.{Ended}
-use Rattle.nv_io.specs.declared.ending.Ended.TheVariants.{Closed, Malformed, Overflowed, ReadFault, WriteFault, Quit, NoMemory}
+use Rattle.nv_io.specs.declared.lanes.Flaw.{Flaw}
+use Rattle.nv_io.specs.declared.lanes.Flaw.TheVariants.{Bad, TooDeep, TooLong, Inside, NoCall}
+use Rattle.nv_io.specs.declared.lanes.Ended.{Ended}
+use Rattle.nv_io.specs.declared.lanes.Ended.TheVariants.{Closed, Malformed, Overflowed, ReadFault, WriteFault, Quit, NoMemory}
 use Rattle.nv_rpc.specs.Calls.{Call}
 use Rattle.nv_history.specs.Events.{Entry, Cause, overflowed_at, quit_at}
 use Rattle.nv_history.specs.Runs.{TakenBatch}
@@ -268,10 +269,11 @@ new_sent s n =
 new_asked : (s : SessionState) → IsNew s → calls_of 1 (session_entries s) ≡ []
 new_asked s n = ap (calls_of 1) n.first
 
-all_answered : (flaw : Option Flaw) (bytes : List ℕ) (s last : SessionState) (a b : Option (List ℕ)) (n : IsNew s) (h : FinishesCalls flaw bytes s last a b) → HasEarlier h.calls bytes → LeavesAll (begun_with s) flaw bytes (session_entries last) a b
-all_answered flaw bytes s last a b n h earlier = record {
+all_answered : (flaw : Option Flaw) (pieces : List (List ℕ)) (bytes : List ℕ) (s last : SessionState) (a b : Option (List ℕ)) (n : IsNew s) → concat pieces ≡ bytes → (h : FinishesCalls flaw bytes s last a b)
+    → HasEarlier h.calls pieces → LeavesAll (begun_with s) flaw pieces (session_entries last) a b
+all_answered flaw pieces bytes s last a b n e h earlier = record {
   calls = h.calls;
-  reads = reads_at s.number 0 s.stream.start 0 h.calls bytes flaw n.none n.place h.reads;
+  reads = subst (λ (l : List ℕ). ReadsFrom 0 0 h.calls l flaw) (sym e) (reads_at s.number 0 s.stream.start 0 h.calls bytes flaw n.none n.place h.reads);
   earlier = earlier;
   asked = h.went.asked ∙ ap (λ (l : List Call). l ++ h.calls) (new_asked s n);
   alone = h.alone;
@@ -291,24 +293,25 @@ earlier_reads bytes first second a b flaw n p e =
     (subst (λ (cs : List Call). ReadsFrom first.number first.stream.start cs (p.whole ++ second.stream.held) flaw) (append-nil p.calls) all))
 
 -- the calls that were whole before a read, of those that were answered by its end
-has_earlier : (bytes piece : List ℕ) (first second : SessionState) (more : List Call) (a b : Option (List ℕ)) (flaw : Option Flaw) → IsNew first → (p : ServesCalls bytes first second a b)
-    → IsUnfinished flaw → EndsAt second.number second.stream.start second.stream.held flaw → length piece ≤ 65536 → HasEarlier (p.calls ++ more) (bytes ++ piece)
-has_earlier bytes piece first second more a b flaw n p u e short = record {
-  earlier = bytes;
-  last = piece;
+has_earlier : (pieces : List (List ℕ)) (piece : List ℕ) (first second : SessionState) (more : List Call) (a b : Option (List ℕ)) (flaw : Option Flaw) → IsNew first → (p : ServesCalls (concat pieces) first second a b)
+    → IsUnfinished flaw → EndsAt second.number second.stream.start second.stream.held flaw → HasEarlier (p.calls ++ more) (pieces ++ piece ∷ [])
+has_earlier pieces piece first second more a b flaw n p u e = record {
+  earlier = pieces;
+  last = piece ∷ [];
   parts = refl;
-  short = short;
+  short = omega arith;
   first = p.calls;
   later = more;
   flaw = flaw;
   unfinished = u;
-  reads = earlier_reads bytes first second a b flaw n p e;
+  reads = earlier_reads (concat pieces) first second a b flaw n p e;
   begins = refl;
 }
 
 -- the answers were cut short
-some_answered : (Is : Start → List Call → List Entry → Type 0) (bytes : List ℕ) (s last : SessionState) (a b : Option (List ℕ)) (n : IsNew s) (h : StopsShort Is bytes s last a b) → HasEarlier h.calls bytes → AnswersSome (begun_with s) Is bytes (session_entries last) a b
-some_answered Is bytes s last a b n h earlier =
+some_answered : (Is : Start → List Call → List Entry → Type 0) (pieces : List (List ℕ)) (bytes : List ℕ) (s last : SessionState) (a b : Option (List ℕ)) (n : IsNew s) → concat pieces ≡ bytes → (h : StopsShort Is bytes s last a b)
+    → HasEarlier h.calls pieces → AnswersSome (begun_with s) Is pieces (session_entries last) a b
+some_answered Is pieces bytes s last a b n e h earlier =
     let w = h.went in
     let asked : calls_of 1 (session_entries s) ≡ [] = new_asked s n in
     record {
@@ -316,7 +319,7 @@ some_answered Is bytes s last a b n h earlier =
       next = h.next;
       whole = h.whole;
       rest = h.rest;
-      parts = h.parts;
+      parts = e ∙ h.parts;
       reads = h.spelled;
       earlier = earlier;
       history = subst (λ (l : List Call). Is (begun_with s) (l ++ h.calls ++ h.next) (session_entries last)) asked w.is;
@@ -368,27 +371,19 @@ pub turned : {A : Type 0} (over : Type 0) (done : Result A Ended) (piece : List 
     → 0 < length piece → length piece ≤ 65536 → Serves ⊥ done middle.stream.held middle new before after → Turns over done piece old new before after
 turned over (Ok done) piece old middle new before after s n t k some few h =
     (served_on (old.stream.held ++ piece) old middle new before before after (served_fed piece old middle before s n t k) h.0, h.1, h.2, some, few)
-turned over (Err ended) piece old middle new before after s n t k some few h = (
-  few,
-  ends_by ⊥ over ended (old.stream.held ++ piece) old new before after (λ e. absurd e)
-      (ends_on ⊥ ended (old.stream.held ++ piece) old middle new before before after (served_fed piece old middle before s n t k) h),
-)
+turned over (Err ended) piece old middle new before after s n t k some few h =
+    ends_by ⊥ over ended (old.stream.held ++ piece) old new before after (λ e. absurd e)
+    (ends_on ⊥ ended (old.stream.held ++ piece) old middle new before before after (served_fed piece old middle before s n t k) h)
 
-prepend_then : (a b : List ℕ) (known : Option (List ℕ)) → prepend_known a (prepend_known b known) ≡ prepend_known (a ++ b) known
-prepend_then a b None = refl
-prepend_then a b (Some xs) = ap (λ (l : List ℕ). Some l) (sym (append_assoc a b xs))
+-- the bytes of pieces and of one more
+concat_push : (pieces : List (List ℕ)) (piece : List ℕ) → concat (pieces ++ piece ∷ []) ≡ concat pieces ++ piece
+concat_push pieces piece = concat-append pieces (piece ∷ []) ∙ ap (λ (l : List ℕ). concat pieces ++ l) (append-nil piece)
 
--- a source gave nothing
-pub gave_none : (taken left : Option (List ℕ)) → Gave taken taken left left []
-gave_none taken None = record { taken = known_none taken; left = refl }
-gave_none taken (Some xs) = record { taken = known_none taken; left = refl }
-
--- a source gave some bytes and then others
-pub gave_then : (t u v l m n : Option (List ℕ)) (a b : List ℕ) → Gave t u l m a → Gave u v m n b → Gave t v l n (a ++ b)
-gave_then t u v l m n a b p q = record {
-  taken = q.taken ∙ ap (λ (o : Option (List ℕ)). append_known o b) p.taken ∙ known_then t a b;
-  left = p.left ∙ ap (λ (o : Option (List ℕ)). prepend_known a o) q.left ∙ prepend_then a b n;
-}
+-- steps over pieces, and over one more
+pub served_piece : (pieces : List (List ℕ)) (piece : List ℕ) (first second third : SessionState) (a b c : Option (List ℕ)) → ServesCalls (concat pieces) first second a b
+    → ServesCalls (second.stream.held ++ piece) second third b c → ServesCalls (concat (pieces ++ piece ∷ [])) first third a c
+served_piece pieces piece first second third a b c p q =
+    subst (λ (l : List ℕ). ServesCalls l first third a c) (sym (concat_push pieces piece)) (served_then (concat pieces) piece first second third a b c p q)
 
 -- how many bytes came to a session
 pub served_length : (bytes : List ℕ) (old new : SessionState) (before after : Option (List ℕ)) → IsNew old → ServesCalls bytes old new before after → length bytes ≡ new.stream.start + length new.stream.held
@@ -404,7 +399,18 @@ leaves_before start left out = record {
   rest = [];
   parts = refl;
   reads = refl;
-  earlier = record { earlier = []; last = []; parts = refl; short = omega arith; first = []; later = []; flaw = None; unfinished = tt; reads = refl; begins = refl };
+  earlier = record {
+    earlier = [];
+    last = [];
+    parts = refl;
+    short = omega arith;
+    first = [];
+    later = [];
+    flaw = None;
+    unfinished = tt;
+    reads = refl;
+    begins = refl;
+  };
   history = (history_of start [], refl);
   front = [];
   front_is = subst (λ (bs : List TakenBatch). AreBytesOf bs []) (sym (nothing_sent start)) ([], nothing_told, (refl, refl, refl));
@@ -415,35 +421,37 @@ leaves_before start left out = record {
 }
 
 -- a turn ended a session
-pub leaves_turn : (ended : Ended) (bytes piece : List ℕ) (left : Option (List ℕ)) (first second last : SessionState) (a b c : Option (List ℕ)) (flaw : Option Flaw) → IsNew first → ServesCalls bytes first second a b
-    → IsUnfinished flaw → EndsAt second.number second.stream.start second.stream.held flaw → length piece ≤ 65536
-    → EndsIn (IsAtEnd left) ended (second.stream.held ++ piece) second last b c → LeavesWith (begun_with first) ended (bytes ++ piece) left (session_entries last) a c
-leaves_turn Closed bytes piece left first second last a b c flaw n p u e short q = (
-  all_answered None (bytes ++ piece) first last a c n (finished_then None bytes piece first second last a b c p q.0)
-      (has_earlier bytes piece first second q.0.calls a b flaw n p u e short),
+pub leaves_turn : (ended : Ended) (pieces : List (List ℕ)) (piece : List ℕ) (left : Option (List ℕ)) (first second last : SessionState) (a b c : Option (List ℕ)) (flaw : Option Flaw) → IsNew first
+    → ServesCalls (concat pieces) first second a b → IsUnfinished flaw → EndsAt second.number second.stream.start second.stream.held flaw
+    → EndsIn (IsAtEnd left) ended (second.stream.held ++ piece) second last b c → LeavesWith (begun_with first) ended (pieces ++ piece ∷ []) left (session_entries last) a c
+leaves_turn Closed pieces piece left first second last a b c flaw n p u e q = (
+  all_answered None (pieces ++ piece ∷ []) (concat pieces ++ piece) first last a c n (concat_push pieces piece) (finished_then None (concat pieces) piece first second last a b c p q.0)
+      (has_earlier pieces piece first second q.0.calls a b flaw n p u e),
   inl q.1,
 )
-leaves_turn (Malformed found) bytes piece left first second last a b c flaw n p u e short q = (
-  all_answered (Some found) (bytes ++ piece) first last a c n (finished_then (Some found) bytes piece first second last a b c p q.0)
-      (has_earlier bytes piece first second q.0.calls a b flaw n p u e short),
-  inside_by (IsAtEnd left) (WasRead left (bytes ++ piece)) found (λ h. inl h) q.1,
+leaves_turn (Malformed found) pieces piece left first second last a b c flaw n p u e q = (
+  all_answered (Some found) (pieces ++ piece ∷ []) (concat pieces ++ piece) first last a c n (concat_push pieces piece) (finished_then (Some found) (concat pieces) piece first second last a b c p q.0)
+      (has_earlier pieces piece first second q.0.calls a b flaw n p u e),
+  inside_by (IsAtEnd left) (WasRead left (concat (pieces ++ piece ∷ []))) found (λ h. inl h) q.1,
 )
-leaves_turn ReadFault bytes piece left first second last a b c flaw n p u e short q = (
+leaves_turn ReadFault pieces piece left first second last a b c flaw n p u e q = (
   q.0,
   q.1,
-  all_answered q.0 (bytes ++ piece) first last a c n (finished_then q.0 bytes piece first second last a b c p q.2)
-      (has_earlier bytes piece first second q.2.calls a b flaw n p u e short),
+  all_answered q.0 (pieces ++ piece ∷ []) (concat pieces ++ piece) first last a c n (concat_push pieces piece) (finished_then q.0 (concat pieces) piece first second last a b c p q.2)
+      (has_earlier pieces piece first second q.2.calls a b flaw n p u e),
 )
-leaves_turn WriteFault bytes piece left first second last a b c flaw n p u e short q =
-    some_answered IsClosing (bytes ++ piece) first last a c n (cut_then IsClosing bytes piece first second last a b c p q)
-    (has_earlier bytes piece first second q.calls a b flaw n p u e short)
-leaves_turn NoMemory bytes piece left first second last a b c flaw n p u e short q =
-    some_answered IsFront (bytes ++ piece) first last a c n (cut_then IsFront bytes piece first second last a b c p q)
-    (has_earlier bytes piece first second q.calls a b flaw n p u e short)
-leaves_turn (Overflowed entry) bytes piece left first second last a b c flaw n p u e short q =
-    closed_answered (overflowed_at entry) (bytes ++ piece) first last a c n (closed_then (overflowed_at entry) bytes piece first second last a b c p q)
-leaves_turn (Quit entry) bytes piece left first second last a b c flaw n p u e short q =
-    closed_answered (quit_at entry) (bytes ++ piece) first last a c n (closed_then (quit_at entry) bytes piece first second last a b c p q)
+leaves_turn WriteFault pieces piece left first second last a b c flaw n p u e q =
+    some_answered IsClosing (pieces ++ piece ∷ []) (concat pieces ++ piece) first last a c n (concat_push pieces piece) (cut_then IsClosing (concat pieces) piece first second last a b c p q)
+    (has_earlier pieces piece first second q.calls a b flaw n p u e)
+leaves_turn NoMemory pieces piece left first second last a b c flaw n p u e q =
+    some_answered IsFront (pieces ++ piece ∷ []) (concat pieces ++ piece) first last a c n (concat_push pieces piece) (cut_then IsFront (concat pieces) piece first second last a b c p q)
+    (has_earlier pieces piece first second q.calls a b flaw n p u e)
+leaves_turn (Overflowed entry) pieces piece left first second last a b c flaw n p u e q =
+    subst (λ (l : List ℕ). AnswersUpTo (begun_with first) (overflowed_at entry) l (session_entries last) a c) (sym (concat_push pieces piece))
+    (closed_answered (overflowed_at entry) (concat pieces ++ piece) first last a c n (closed_then (overflowed_at entry) (concat pieces) piece first second last a b c p q))
+leaves_turn (Quit entry) pieces piece left first second last a b c flaw n p u e q =
+    subst (λ (l : List ℕ). AnswersUpTo (begun_with first) (quit_at entry) l (session_entries last) a c) (sym (concat_push pieces piece))
+    (closed_answered (quit_at entry) (concat pieces ++ piece) first last a c n (closed_then (quit_at entry) (concat pieces) piece first second last a b c p q))
 
 -- the end of a session to which no more bytes come is no fault
 pub not_read_fault : (flaw : Option Flaw) → end_by_flaw flaw ≡ ReadFault → ⊥
@@ -455,16 +463,27 @@ not_write_fault None e = cc
 not_write_fault (Some flaw) e = cc
 
 -- a session from whose source so many bytes came that it counts as ended
-leaves_at_most : (flaw : Option Flaw) (bytes : List ℕ) (left : Option (List ℕ)) (first second : SessionState) (a b : Option (List ℕ)) → IsNew first → (p : ServesCalls bytes first second a b)
-    → IsUnfinished flaw → EndsAt second.number second.stream.start second.stream.held flaw → IsAlone (begun_with first) (session_entries second) → WasRead left bytes
-    → LeavesWith (begun_with first) (end_by_flaw flaw) bytes left (session_entries second) a b
-leaves_at_most flaw bytes left first second a b n p u e alone over =
-    let reads = earlier_reads bytes first second a b flaw n p e in
+leaves_at_most : (flaw : Option Flaw) (pieces : List (List ℕ)) (left : Option (List ℕ)) (first second : SessionState) (a b : Option (List ℕ)) → IsNew first → (p : ServesCalls (concat pieces) first second a b)
+    → IsUnfinished flaw → EndsAt second.number second.stream.start second.stream.held flaw → IsAlone (begun_with first) (session_entries second) → WasRead left (concat pieces)
+    → LeavesWith (begun_with first) (end_by_flaw flaw) pieces left (session_entries second) a b
+leaves_at_most flaw pieces left first second a b n p u e alone over =
+    let reads = earlier_reads (concat pieces) first second a b flaw n p e in
     let asked : calls_of 1 (session_entries second) ≡ p.calls = p.went.asked ∙ ap (λ (l : List Call). l ++ p.calls) (new_asked first n) in
-    let all : LeavesAll (begun_with first) flaw bytes (session_entries second) a b = record {
+    let all : LeavesAll (begun_with first) flaw pieces (session_entries second) a b = record {
       calls = p.calls;
       reads = reads;
-      earlier = record { earlier = bytes; last = []; parts = sym (append-nil bytes); short = omega arith; first = p.calls; later = []; flaw = flaw; unfinished = u; reads = reads; begins = sym (append-nil p.calls) };
+      earlier = record {
+        earlier = pieces;
+        last = [];
+        parts = sym (append-nil pieces);
+        short = omega arith;
+        first = p.calls;
+        later = [];
+        flaw = flaw;
+        unfinished = u;
+        reads = reads;
+        begins = sym (append-nil p.calls);
+      };
       asked = asked;
       alone = alone;
       sent = p.went.gave;
@@ -473,7 +492,7 @@ leaves_at_most flaw bytes left first second a b n p u e alone over =
     } in
     by_flaw flaw u all
   where
-    by_flaw : (f : Option Flaw) → IsUnfinished f → LeavesAll (begun_with first) f bytes (session_entries second) a b → LeavesWith (begun_with first) (end_by_flaw f) bytes left (session_entries second) a b
+    by_flaw : (f : Option Flaw) → IsUnfinished f → LeavesAll (begun_with first) f pieces (session_entries second) a b → LeavesWith (begun_with first) (end_by_flaw f) pieces left (session_entries second) a b
     by_flaw None u all = (all, over)
     by_flaw (Some (Inside place)) u all = (all, over)
     by_flaw (Some (Bad place)) u all = absurd u
@@ -481,8 +500,8 @@ leaves_at_most flaw bytes left first second a b n p u e alone over =
     by_flaw (Some (TooLong place)) u all = absurd u
     by_flaw (Some (NoCall place)) u all = absurd u
 
-pub leaves_full : (ended : Ended) (flaw : Option Flaw) (bytes : List ℕ) (left : Option (List ℕ)) (first second : SessionState) (a b : Option (List ℕ)) → ended ≡ end_by_flaw flaw → IsNew first → ServesCalls bytes first second a b
-    → IsUnfinished flaw → EndsAt second.number second.stream.start second.stream.held flaw → IsAlone (begun_with first) (session_entries second) → WasRead left bytes
-    → LeavesWith (begun_with first) ended bytes left (session_entries second) a b
-leaves_full ended flaw bytes left first second a b e n p u at alone over =
-    subst (λ (x : Ended). LeavesWith (begun_with first) x bytes left (session_entries second) a b) (sym e) (leaves_at_most flaw bytes left first second a b n p u at alone over)
+pub leaves_full : (ended : Ended) (flaw : Option Flaw) (pieces : List (List ℕ)) (left : Option (List ℕ)) (first second : SessionState) (a b : Option (List ℕ)) → ended ≡ end_by_flaw flaw → IsNew first
+    → ServesCalls (concat pieces) first second a b → IsUnfinished flaw → EndsAt second.number second.stream.start second.stream.held flaw → IsAlone (begun_with first) (session_entries second)
+    → WasRead left (concat pieces) → LeavesWith (begun_with first) ended pieces left (session_entries second) a b
+leaves_full ended flaw pieces left first second a b e n p u at alone over =
+    subst (λ (x : Ended). LeavesWith (begun_with first) x pieces left (session_entries second) a b) (sym e) (leaves_at_most flaw pieces left first second a b n p u at alone over)

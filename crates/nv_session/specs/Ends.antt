@@ -1,16 +1,16 @@
 -- How a session that is alone ends: what was read, kept and written by then.
 use Rattle.std.specs.Prelude.{◌≡◌, ℕ, ◌≤◌, List, ◌++◌, length, take, Option, Some, None}
+use Rattle.std.specs.List.{concat}
 use Rattle.std.specs.Io.KnownBytes.{append_known}
-use Rattle.nv_io.specs.declared.ending.Flaw.{Flaw}
-use Rattle.nv_io.specs.declared.ending.Ended.{Ended}
-use Rattle.nv_io.specs.declared.ending.Ended.TheVariants.{Closed, Malformed, Overflowed, ReadFault, WriteFault, Quit, NoMemory}
+use Rattle.nv_io.specs.declared.lanes.Flaw.{Flaw}
+use Rattle.nv_io.specs.declared.lanes.Ended.{Ended}
+use Rattle.nv_io.specs.declared.lanes.Ended.TheVariants.{Closed, Malformed, Overflowed, ReadFault, WriteFault, Quit, NoMemory}
 use Rattle.nv_rpc.specs.Calls.{Call}
 use Rattle.nv_history.specs.Events.{Entry, Cause, closed_at, overflowed_at, quit_at}
 use Rattle.nv_history.specs.Asking.{calls_of}
 use Rattle.nv_world.specs.declared.story.Start.{Start}
 use Rattle.nv_halves.specs.Reading.{Calls, Reads, WasRead, IsUnfinished, IfInside}
 use Rattle.nv_session.specs.Sending.{AreBytesTaken, history_of, cause_after}
-use Rattle.nv_session.specs.declared.session.TheConstants.{PIECE}
 
 -- The bytes read hold calls and then this flaw or none; the history is that of a session that makes
 -- all of these calls, each has its request in it, and its own close ends it. What went out grew by
@@ -44,18 +44,18 @@ pub record AnswersUpTo (start : Start) (cause : Cause) (bytes : List ℕ) (kept 
   pub sent_is : AreBytesTaken start kept sent
   pub written : after ≡ append_known before sent
 
--- the bytes read are earlier ones and what one more read gave, and the calls that were whole before
--- it are the first of these
-pub record HasEarlier (calls : List Call) (bytes : List ℕ) : Type 0 where
-  pub earlier : List ℕ
-  pub last : List ℕ
-  pub parts : bytes ≡ earlier ++ last
-  pub short : length last ≤ PIECE
+-- of what each read gave, in order: the calls that were whole before the last read are the first of
+-- these
+pub record HasEarlier (calls : List Call) (pieces : List (List ℕ)) : Type 0 where
+  pub earlier : List (List ℕ)
+  pub last : List (List ℕ)
+  pub parts : pieces ≡ earlier ++ last
+  pub short : length last ≤ 1
   pub first : List Call
   pub later : List Call
   pub flaw : Option Flaw
   pub unfinished : IsUnfinished flaw
-  pub reads : Reads first earlier flaw
+  pub reads : Reads first (concat earlier) flaw
   pub begins : calls ≡ first ++ later
 
 -- a history is that of a session that makes these calls, or the front of it
@@ -65,19 +65,19 @@ IsHistoryOf start calls kept = kept ≡ history_of start calls
 abbrev pub IsFront : Start → List Call → List Entry → Type 0
 IsFront start calls kept = (more : List Entry) × (history_of start calls ≡ kept ++ more)
 
--- The bytes read begin with calls whose answers went out whole, and then with the next ones; the
--- history is, so far as `Is` says, that of a session that makes them all. What went out grew by all
--- that is sent of what was taken for the former calls, and a prefix of what is sent for the next
--- ones together. Each call that was whole before the last read was answered whole.
+-- What the reads gave begins with calls whose answers went out whole, and then with the next ones;
+-- the history is, so far as `Is` says, that of a session that makes them all. What went out grew by
+-- all that is sent of what was taken for the former calls, and a prefix of what is sent for the
+-- next ones together. Each call that was whole before the last read was answered whole.
 pub record AnswersSome (start : Start) (Is : Start → List Call → List Entry → Type 0)
-    (bytes : List ℕ) (kept : List Entry) (before after : Option (List ℕ)) : Type 0 where
+    (pieces : List (List ℕ)) (kept : List Entry) (before after : Option (List ℕ)) : Type 0 where
   pub calls : List Call
   pub next : List Call
   pub whole : List ℕ
   pub rest : List ℕ
-  pub parts : bytes ≡ whole ++ rest
+  pub parts : concat pieces ≡ whole ++ rest
   pub reads : Calls (calls ++ next) whole
-  pub earlier : HasEarlier calls bytes
+  pub earlier : HasEarlier calls pieces
   pub history : Is start (calls ++ next) kept
   pub front : List ℕ
   pub front_is : AreBytesTaken start (history_of start calls) front
@@ -86,20 +86,22 @@ pub record AnswersSome (start : Start) (Is : Start → List Call → List Entry 
   pub count : ℕ
   pub written : after ≡ append_known before (front ++ take count last_sent)
 
--- what a session read, kept and wrote by its end
-abbrev pub SessionEnds : Start → Ended → List ℕ → Option (List ℕ) → List Entry
+-- what a session read, one piece a read, kept and wrote by its end
+abbrev pub SessionEnds : Start → Ended → List (List ℕ) → Option (List ℕ) → List Entry
     → Option (List ℕ) → Option (List ℕ) → Type 0
-SessionEnds start Closed bytes left kept before after =
-    AnswersAll start None bytes kept before after × WasRead left bytes
-SessionEnds start (Malformed flaw) bytes left kept before after =
-    AnswersAll start (Some flaw) bytes kept before after × IfInside flaw (WasRead left bytes)
-SessionEnds start ReadFault bytes left kept before after =
-    (flaw : Option Flaw) × IsUnfinished flaw × AnswersAll start flaw bytes kept before after
-SessionEnds start WriteFault bytes left kept before after =
-    AnswersSome start IsHistoryOf bytes kept before after
-SessionEnds start NoMemory bytes left kept before after =
-    AnswersSome start IsFront bytes kept before after
-SessionEnds start (Overflowed entry) bytes left kept before after =
-    AnswersUpTo start (overflowed_at entry) bytes kept before after
-SessionEnds start (Quit entry) bytes left kept before after =
-    AnswersUpTo start (quit_at entry) bytes kept before after
+SessionEnds start Closed pieces left kept before after =
+    AnswersAll start None (concat pieces) kept before after × WasRead left (concat pieces)
+SessionEnds start (Malformed flaw) pieces left kept before after =
+    AnswersAll start (Some flaw) (concat pieces) kept before after
+    × IfInside flaw (WasRead left (concat pieces))
+SessionEnds start ReadFault pieces left kept before after =
+    (flaw : Option Flaw) × IsUnfinished flaw
+    × AnswersAll start flaw (concat pieces) kept before after
+SessionEnds start WriteFault pieces left kept before after =
+    AnswersSome start IsHistoryOf pieces kept before after
+SessionEnds start NoMemory pieces left kept before after =
+    AnswersSome start IsFront pieces kept before after
+SessionEnds start (Overflowed entry) pieces left kept before after =
+    AnswersUpTo start (overflowed_at entry) (concat pieces) kept before after
+SessionEnds start (Quit entry) pieces left kept before after =
+    AnswersUpTo start (quit_at entry) (concat pieces) kept before after

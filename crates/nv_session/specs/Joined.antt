@@ -1,8 +1,8 @@
 -- How a connection ends, by how its two halves ended (own rule): the first that holds of want of
 -- memory, an overflow, the end of the world, a fault of writing, and how the bytes that were read
 -- ended.
-use Rattle.nv_io.specs.declared.ending.Ended.{Ended}
-use Rattle.nv_io.specs.declared.ending.Ended.TheVariants.{Closed, Malformed, Overflowed, ReadFault, WriteFault, Quit, NoMemory}
+use Rattle.nv_io.specs.declared.lanes.Ended.{Ended}
+use Rattle.nv_io.specs.declared.lanes.Ended.TheVariants.{Closed, Malformed, Overflowed, ReadFault, WriteFault, Quit, NoMemory}
 use Rattle.nv_world.specs.declared.effect.Cause.{Cause}
 use Rattle.nv_world.specs.declared.effect.Cause.TheVariants as cause
 use Rattle.nv_halves.specs.declared.ends.ReaderEnd.{ReaderEnd}

@@ -2,8 +2,8 @@
 use Rattle.std.specs.Prelude.{◌≡◌, ℕ, suc, List, [], ◌∷◌, ◌++◌, Option, Some, Result, Ok, Err, ⊤}
 use mathlib.Core.List.{IsPrefix}
 use Rattle.nv_turn.specs.Passes.{IsSamePass}
-use Rattle.nv_io.specs.declared.ending.Ended.{Ended}
-use Rattle.nv_io.specs.declared.ending.Ended.TheVariants.{Closed, Malformed, Overflowed, ReadFault, WriteFault, Quit, NoMemory}
+use Rattle.nv_io.specs.declared.lanes.Ended.{Ended}
+use Rattle.nv_io.specs.declared.lanes.Ended.TheVariants.{Closed, Malformed, Overflowed, ReadFault, WriteFault, Quit, NoMemory}
 use Rattle.nv_history.specs.Events.{open_session, Entry}
 use Rattle.nv_history.specs.Worlds.{World}
 use Rattle.nv_history.specs.Asking.{own, opened_in}

@@ -16,7 +16,7 @@ ghost use Rattle.nv_session.specs.inside.Worlds.{entries_in, TakesDue, IsEndedBy
 
 use nv_io::Ended;
 use nv_rpc::Frame;
-use nv_world::{Batch, Cause, Effect, Event, Stop, World};
+use nv_world::{Batch, Cause, Taken, Unasked, Unclosed, Unopened, Untaken, World};
 use std::alloc::{AllocError, Global};
 
 /// The number of the one session.
@@ -33,10 +33,10 @@ pub fn open(world: &mut World) -> Result<(), AllocError>
     ensures entries { OnOk result (entries_in world.new ≡ entry_alone open_session ∷ []) }
     ensures err { OnErr result (world.new.history ≡ []) }
 {
-    match world.apply(CALLER, Event::Open) {
+    match world.open(CALLER) {
         Ok(_) => Ok(()),
-        Err((_, Stop::NoMemory)) => Err(AllocError),
-        Err(_) => unreachable!(),
+        Err(Unopened::NoMemory) => Err(AllocError),
+        Err(Unopened::Ended(_)) => unreachable!(),
     }
 }
 
@@ -49,13 +49,9 @@ fn ask(world: &mut World, frame: Frame) -> Result<(), AllocError>
         ≡ entries_in world.old ++ entry_alone (request_of 1 (call_of_frame frame)) ∷ []) }
     ensures err { OnErr result (entries_in world.new ≡ entries_in world.old) }
 {
-    let event = Event::Request {
-        session: SESSION,
-        frame,
-    };
-    match world.apply(CALLER, event) {
-        Ok(_) => Ok(()),
-        Err((_, Stop::NoMemory)) => Err(AllocError),
+    match world.request(CALLER, SESSION, frame) {
+        Ok(()) => Ok(()),
+        Err((_, Unasked::NoMemory)) => Err(AllocError),
         Err(_) => unreachable!(),
     }
 }
@@ -74,15 +70,14 @@ fn take(alloc: Global, world: &mut World) -> Result<Batch, AllocError>
     ensures sound { IfOk result (λ batch. IsSoundIfThere batch.scene) }
     ensures err { OnErr result (entries_in world.new ≡ entries_in world.old) }
 {
-    match world.apply(CALLER, Event::Take { session: SESSION }) {
-        Ok(Effect::Items(batch)) => Ok(batch),
-        Ok(Effect::Nothing | Effect::Over(_)) => Ok(Batch {
+    match world.take(CALLER, SESSION) {
+        Ok(Taken::Items(batch)) => Ok(batch),
+        Ok(Taken::Nothing | Taken::Over(_)) => Ok(Batch {
             messages: Vec::new(alloc),
             scene: None,
         }),
-        Ok(Effect::Opened(_) | Effect::Done | Effect::Closed) => unreachable!(),
-        Err((_, Stop::NoMemory)) => Err(AllocError),
-        Err(_) => unreachable!(),
+        Err(Untaken::NoMemory) => Err(AllocError),
+        Err(Untaken::Stranger) => unreachable!(),
     }
 }
 
@@ -126,9 +121,9 @@ pub fn close(world: &mut World) -> Result<(), AllocError>
         (entries_in world.new)) }
     ensures err { OnErr result (entries_in world.new ≡ entries_in world.old) }
 {
-    match world.apply(CALLER, Event::Close { session: SESSION }) {
-        Ok(_) => Ok(()),
-        Err((_, Stop::NoMemory)) => Err(AllocError),
-        Err(_) => Ok(()),
+    match world.close(CALLER, SESSION) {
+        Ok(()) => Ok(()),
+        Err(Unclosed::NoMemory) => Err(AllocError),
+        Err(Unclosed::Stranger | Unclosed::Gone(_)) => Ok(()),
     }
 }

@@ -11,20 +11,21 @@ ghost use Rattle.nv_halves.specs.Halves.{LeavesClosed, ReadsHalf, WritesHalf};
 ghost use Rattle.nv_session.specs.Openings.{Opens};
 ghost use Rattle.nv_session.specs.Joined.{end_by_cause, end_beside, end_beside_gone, end_of_halves};
 ghost use Rattle.nv_session.specs.Connections.{ServesSession, ServesNone};
-ghost use Rattle.nv_session.specs.inside.Opened.{what_was_opened, why_unopened, ServesHalves};
+ghost use Rattle.nv_session.specs.inside.Opened.{ServesHalves, what_was_opened};
 
 use nv_halves::{
-    Bell, ReaderEnd, ReaderHalf, Refusal, Refused, Voice, WriterEnd, WriterHalf, once, reader_half,
+    Bell, ReaderEnd, ReaderHalf, Voice, WriterEnd, WriterHalf, open, reader_half, unread_half,
     writer_half,
 };
 use nv_io::{Ended, Sink, Source};
 use nv_painter::Painter;
 use nv_turn::{Pass, Turn};
-use nv_world::{Cause, Effect, Event, World};
+use nv_world::{Cause, Unopened, World};
 use std::alloc::Global;
-use std::net::{Net, TcpListener, TcpStream};
+use std::snapshot::Snapshot;
 use std::sync::Wait;
-use std::thread::{Threads, join};
+use std::sync::atomic::{AtomicBool, Ordering};
+use std::thread::{self, Promise, Threads, join};
 
 /// A connection that was served: how it ended, the number of its session, or 0 where it had none,
 /// its passes, and its two ends.
@@ -37,38 +38,21 @@ pub struct Served<I, S> {
     pub output: S,
 }
 
-// The end of a connection whose opening was refused.
-fn end_of_refusal(why: Refusal) -> Ended
-    ensures { result ≡ why_unopened why }
-{
-    match why {
-        Refusal::Ended(entry) => Ended::Quit(entry),
-        Refusal::NoMemory => Ended::NoMemory,
-        Refusal::Stranger(_) => Ended::NoMemory,
-        Refusal::Held(_) => Ended::NoMemory,
-        Refusal::Gone(_) => Ended::NoMemory,
-    }
-}
-
 // The session that was opened, or the end of the connection.
-fn session_of(met: Result<Effect, Refused>) -> Result<u64, Ended>
+fn opened_by(met: Result<u64, Unopened>) -> Result<u64, Ended>
     ensures { result ≡ what_was_opened met }
 {
     match met {
-        Ok(effect) => match effect {
-            Effect::Opened(session) => Ok(session),
-            Effect::Done => Err(Ended::NoMemory),
-            Effect::Items(_) => Err(Ended::NoMemory),
-            Effect::Nothing => Err(Ended::NoMemory),
-            Effect::Over(_) => Err(Ended::NoMemory),
-            Effect::Closed => Err(Ended::NoMemory),
+        Ok(session) => Ok(session),
+        Err(why) => match why {
+            Unopened::Ended(entry) => Err(Ended::Quit(entry)),
+            Unopened::NoMemory => Err(Ended::NoMemory),
         },
-        Err(Refused { event: _, why }) => Err(end_of_refusal(why)),
     }
 }
 
 // Opens a session.
-fn open<R: Wait>(
+fn open_session<R: Wait>(
     rt: &R,
     turn: &Turn<World>,
     bells: &[Bell],
@@ -77,8 +61,8 @@ fn open<R: Wait>(
     requires { pass.turn ≡ turn.now.turn }
     ensures { Opens result.1 (plain_pass pass) (plain_pass result.0) }
 {
-    let (pass, met) = once(rt, turn, bells, pass, Event::Open);
-    (pass, session_of(met))
+    let (pass, met) = open(rt, turn, bells, pass);
+    (pass, opened_by(met))
 }
 
 // An overflow or the end of the world, where that closed the session, and else `other`.
@@ -129,11 +113,7 @@ fn joined(reader: ReaderEnd, writer: WriterEnd) -> Ended
 
 // Runs the half that writes, in a thread of its own where one can be made. That ends with its
 // session, and so does what it kept of the memory that the half freed, as of screens.
-fn write_apart<
-    R: Net<Listener = TcpListener, Stream = TcpStream> + Threads + Wait + Sync,
-    S: Sink + Send + Drop,
-    V: Voice + Send + Drop,
->(
+fn write_apart<R: Threads + Wait + Sync, S: Sink + Send + Drop, V: Voice + Send + Drop>(
     rt: &R,
     alloc: Global,
     turn: &Turn<World>,
@@ -171,9 +151,56 @@ fn write_apart<
     .0
 }
 
-// Runs both halves of a session, each in a thread of its own.
+// Runs the half that reads, unless no thread could be had for it.
+fn read_if<R: Wait, I: Source>(
+    rt: &R,
+    alloc: Global,
+    turn: &Turn<World>,
+    bells: &[Bell],
+    pass: Pass<World>,
+    session: u64,
+    input: I,
+    has_thread: &AtomicBool,
+) -> ReaderHalf<I>
+    requires { pass.turn ≡ turn.now.turn }
+    ensures pass { IsSamePass (plain_pass pass) (plain_pass result.pass) }
+    ensures read { ReadsHalf result.end (plain_pass pass) (plain_pass result.pass) session
+        (I.taken input) (I.taken result.input) (I.left input) (I.left result.input) }
+    ensures closes { LeavesClosed result.end (plain_pass result.pass) session }
+    ensures later { I.faults input ≤ I.faults result.input }
+    ensures fault { result.end ≡ ReaderEnd.ReadFault
+        → Rose (I.faults input) (I.faults result.input) }
+{
+    if has_thread.load(Ordering::SeqCst) {
+        reader_half(rt, alloc, turn, bells, pass, session, input)
+    } else {
+        unread_half(rt, turn, bells, pass, session, input)
+    }
+}
+
+// What is known of a half that reads, once it ended: it began with this pass and this source.
+#[derive(Drop)]
+struct Reading<I> {
+    pass: Snapshot<Pass<World>>,
+    session: u64,
+    input: Snapshot<I>,
+}
+
+impl<I: Source> Promise<ReaderHalf<I>> for Reading<I> {
+    ghost use Rattle.nv_halves.specs.declared.ends.ReaderEnd.TheVariants.{ReadFault};
+
+    ghost kept_by = { λ p r. IsSamePass (plain_pass p.pass.value) (plain_pass r.pass)
+        × ReadsHalf r.end (plain_pass p.pass.value) (plain_pass r.pass) p.session
+        (I.taken p.input.value) (I.taken r.input) (I.left p.input.value) (I.left r.input)
+        × LeavesClosed r.end (plain_pass r.pass) p.session
+        × (I.faults p.input.value ≤ I.faults r.input)
+        × (r.end ≡ ReadFault → Rose (I.faults p.input.value) (I.faults r.input)) };
+}
+
+// Runs both halves of a session, each in a thread of its own. Where no thread can be had for the
+// half that reads, that reads nothing, and closes the session.
 pub(crate) fn run_halves<
-    R: Net<Listener = TcpListener, Stream = TcpStream> + Threads + Wait + Sync,
+    R: Threads + Wait + Sync,
     I: Source + Send + Drop,
     S: Sink + Send + Drop,
     V: Voice + Send + Drop,
@@ -207,37 +234,68 @@ pub(crate) fn run_halves<
     ensures write_fault { result.1.end ≡ WriterEnd.WriteFault
         → Rose (S.faults output) (S.faults result.1.output) }
 {
-    join(
+    let has_thread = AtomicBool::new(true);
+    let has_thread = &has_thread;
+    thread::scope(
+        thread::scope_env(),
         rt,
-        || -> ReaderHalf<I>
-            requires { IsSync R.row × IsSend I.row × (first.turn ≡ turn.now.turn) }
-            ensures pass { IsSamePass (plain_pass first) (plain_pass result.pass) }
-            ensures read { ReadsHalf result.end (plain_pass first) (plain_pass result.pass) session
-                (I.taken input) (I.taken result.input) (I.left input) (I.left result.input) }
-            ensures closes { LeavesClosed result.end (plain_pass result.pass) session }
-            ensures later { I.faults input ≤ I.faults result.input }
-            ensures fault { result.end ≡ ReaderEnd.ReadFault
-                → Rose (I.faults input) (I.faults result.input) }
-        { reader_half(rt, alloc, turn, bells, first, session, input) },
-        || -> WriterHalf<S>
-            requires { IsSync R.row × IsSend S.row × IsSend V.row × (second.turn ≡ turn.now.turn)
+        |scope| -> (ReaderHalf<I>, WriterHalf<S>)
+            requires { IsSync R.row × IsSend I.row × IsSend S.row × IsSend V.row
+                × (first.turn ≡ turn.now.turn) × (second.turn ≡ turn.now.turn)
                 × (lane < length bells.now) × (V.told voice ≡ nothing_told) }
-            ensures pass { IsSamePass (plain_pass second) (plain_pass result.pass) }
-            ensures wrote { WritesHalf result.end (plain_pass second) (plain_pass result.pass)
-                session (S.taken output) (S.taken result.output) }
-            ensures later { S.faults output ≤ S.faults result.output }
-            ensures fault { result.end ≡ WriterEnd.WriteFault
-                → Rose (S.faults output) (S.faults result.output) }
-        { write_apart(rt, alloc, turn, bells, lane, second, session, output, voice) },
+            ensures first { IsSamePass (plain_pass first) (plain_pass result.0.pass) }
+            ensures read { ReadsHalf result.0.end (plain_pass first) (plain_pass result.0.pass)
+                session (I.taken input) (I.taken result.0.input) (I.left input)
+                (I.left result.0.input) }
+            ensures closes { LeavesClosed result.0.end (plain_pass result.0.pass) session }
+            ensures read_later { I.faults input ≤ I.faults result.0.input }
+            ensures read_fault { result.0.end ≡ ReaderEnd.ReadFault
+                → Rose (I.faults input) (I.faults result.0.input) }
+            ensures second { IsSamePass (plain_pass second) (plain_pass result.1.pass) }
+            ensures wrote { WritesHalf result.1.end (plain_pass second)
+                (plain_pass result.1.pass) session (S.taken output) (S.taken result.1.output) }
+            ensures write_later { S.faults output ≤ S.faults result.1.output }
+            ensures write_fault { result.1.end ≡ WriterEnd.WriteFault
+                → Rose (S.faults output) (S.faults result.1.output) }
+        {
+            let promise = Reading {
+                pass: Snapshot::of(&first),
+                session,
+                input: Snapshot::of(&input),
+            };
+            let reader = move || -> ReaderHalf<I>
+                requires { IsSync R.row × IsSend I.row × (first.turn ≡ turn.now.turn) }
+                ensures pass { IsSamePass (plain_pass first) (plain_pass result.pass) }
+                ensures read { ReadsHalf result.end (plain_pass first) (plain_pass result.pass)
+                    session (I.taken input) (I.taken result.input) (I.left input)
+                    (I.left result.input) }
+                ensures closes { LeavesClosed result.end (plain_pass result.pass) session }
+                ensures later { I.faults input ≤ I.faults result.input }
+                ensures fault { result.end ≡ ReaderEnd.ReadFault
+                    → Rose (I.faults input) (I.faults result.input) }
+            { read_if(rt, alloc, turn, bells, first, session, input, has_thread) };
+            match scope.spawn_with(promise, reader) {
+                Ok(child) => {
+                    let writer = write_apart(
+                        rt, alloc, turn, bells, lane, second, session, output, voice,
+                    );
+                    (child.join(rt), writer)
+                }
+                Err(refused) => {
+                    has_thread.store(false, Ordering::SeqCst);
+                    let reader = (refused.value)();
+                    let writer = write_apart(
+                        rt, alloc, turn, bells, lane, second, session, output, voice,
+                    );
+                    (reader, writer)
+                }
+            }
+        },
     )
 }
 
 // Serves a connection that was opened as a session.
-fn serve_session<
-    R: Net<Listener = TcpListener, Stream = TcpStream> + Threads + Wait + Sync,
-    I: Source + Send + Drop,
-    S: Sink + Send + Drop,
->(
+fn serve_session<R: Threads + Wait + Sync, I: Source + Send + Drop, S: Sink + Send + Drop>(
     rt: &R,
     alloc: Global,
     turn: &Turn<World>,
@@ -282,7 +340,7 @@ fn serve_session<
 }
 
 // Gives a connection back that had no session.
-fn serve_none<R: Net<Listener = TcpListener, Stream = TcpStream>, I: Source + Drop, S: Sink + Drop>(
+fn serve_none<R, I: Source + Drop, S: Sink + Drop>(
     rt: &R,
     passes: (Pass<World>, Pass<World>),
     input: I,
@@ -308,12 +366,9 @@ fn serve_none<R: Net<Listener = TcpListener, Stream = TcpStream>, I: Source + Dr
 /// first pass, and then runs the half that reads by the first pass and the half that writes by the
 /// second one, each in a thread of its own, until both ended. The connection is finished both ways.
 /// Where the world had ended, or memory was wanting to begin, it has no session, and nothing is
-/// read or written.
-pub fn serve_one<
-    R: Net<Listener = TcpListener, Stream = TcpStream> + Threads + Wait + Sync,
-    I: Source + Send + Drop,
-    S: Sink + Send + Drop,
->(
+/// read or written; where no thread can be had to read it, its session is closed at once, and it
+/// ends out of memory.
+pub fn serve_one<R: Threads + Wait + Sync, I: Source + Send + Drop, S: Sink + Send + Drop>(
     rt: &R,
     alloc: Global,
     turn: &Turn<World>,
@@ -348,7 +403,7 @@ pub fn serve_one<
         return serve_none(rt, passes, input, output, Ended::NoMemory);
     };
     let (first, second) = passes;
-    let (first, opened) = open(rt, turn, bells, first);
+    let (first, opened) = open_session(rt, turn, bells, first);
     match opened {
         Ok(session) => serve_session(
             rt, alloc, turn, bells, lane, first, second, session, input, output, painter,

@@ -1,9 +1,9 @@
 //! One session alone: its bytes are read piece by piece, and each call in them is answered before
 //! the next.
-ghost use Rattle.std.specs.Prelude.{◌≡◌, ◌⊎◌, ℕ, true, ◌+◌, ◌^◌, ◌<◌, ◌≤◌, List, [], length, OnOk, IfOk, IfErr, Ok, Err, Some};
+ghost use Rattle.std.specs.Prelude.{◌≡◌, ◌⊎◌, ℕ, true, ◌+◌, ◌^◌, ◌<◌, ◌≤◌, List, [], ◌∷◌, length, OnOk, IfOk, IfErr, Ok, Err, Some};
 ghost use Rattle.std.specs.Io.KnownBytes.{IsAtEnd};
 ghost use Rattle.nv_io.specs.Faults.{Rose};
-ghost use Rattle.nv_io.specs.Streams.{Gave};
+ghost use Rattle.nv_io.specs.Streams.{GaveEach, words_of};
 ghost use Rattle.nv_stream.specs.State.{stream_end};
 ghost use Rattle.nv_stream.specs.Answers.{NeedsMore};
 ghost use Rattle.nv_rpc.specs.Frames.{call_of_frame};
@@ -25,7 +25,6 @@ use nv_painter::Painter;
 use nv_rpc::Frame;
 use nv_world::World;
 use std::alloc::{AllocError, Global};
-use std::net::{Net, TcpListener, TcpStream};
 
 /// The bytes that are read at once.
 pub const PIECE: usize = 65_536;
@@ -148,7 +147,7 @@ impl Session {
     }
 
     // Answers calls of what it holds, and writes what waits then, whatever came of them.
-    fn serve_some<R: Net<Listener = TcpListener, Stream = TcpStream>, S: Sink>(
+    fn serve_some<R, S: Sink>(
         &mut self,
         rt: &R,
         world: &mut World,
@@ -177,7 +176,7 @@ impl Session {
     }
 
     // Answers the calls of what it holds, and writes what they make due.
-    fn serve_held<R: Net<Listener = TcpListener, Stream = TcpStream>, S: Sink>(
+    fn serve_held<R, S: Sink>(
         &mut self,
         rt: &R,
         world: &mut World,
@@ -200,7 +199,7 @@ impl Session {
     }
 
     // Takes the next piece of its bytes from `input`, by one read; in whichever world it stands.
-    fn take_piece<R: Net<Listener = TcpListener, Stream = TcpStream>, I: Source>(
+    fn take_piece<R, I: Source>(
         &mut self,
         rt: &R,
         input: &mut I,
@@ -210,8 +209,8 @@ impl Session {
         requires fits { self.old.stream.start + length self.old.stream.held < 2 ^ 62 }
         requires room { length buffer.old ≡ PIECE }
         ensures takes { (piece : List ℕ)
-            × Gave (I.taken input.old) (I.taken input.new) (I.left input.old)
-            (I.left input.new) piece
+            × GaveEach (words_of I.taken I.left I.reads input.old)
+            (words_of I.taken I.left I.reads input.new) (piece ∷ [])
             × ((world : WorldRecord) → IsReady (state_of self.old world)
             → TakesPiece (IsAtEnd (I.left input.new)) result piece (state_of self.old world)
             (state_of self.new world)) }
@@ -233,7 +232,7 @@ impl Session {
 
     // Takes a piece and answers the calls that are whole by it. Before it ends, all that they made
     // due was written.
-    fn turn<R: Net<Listener = TcpListener, Stream = TcpStream>, I: Source, S: Sink>(
+    fn turn<R, I: Source, S: Sink>(
         &mut self,
         rt: &R,
         world: &mut World,
@@ -247,8 +246,8 @@ impl Session {
         requires room { length buffer.old ≡ PIECE }
         requires nothing_waits { bytes_waiting self.old ≡ [] }
         ensures turns { (piece : List ℕ)
-            × Gave (I.taken input.old) (I.taken input.new) (I.left input.old)
-            (I.left input.new) piece
+            × GaveEach (words_of I.taken I.left I.reads input.old)
+            (words_of I.taken I.left I.reads input.new) (piece ∷ [])
             × Turns (IsAtEnd (I.left input.new)) result piece (state_of self.old world.old)
             (state_of self.new world.new) (S.taken output.old) (S.taken output.new) }
         ensures nothing_waits { bytes_waiting self.new ≡ [] }
@@ -265,7 +264,7 @@ impl Session {
     }
 
     // Takes its bytes from `input` and answers the calls in them, up to its end.
-    fn serve_all<R: Net<Listener = TcpListener, Stream = TcpStream>, I: Source, S: Sink>(
+    fn serve_all<R, I: Source, S: Sink>(
         &mut self,
         rt: &R,
         world: &mut World,
@@ -277,10 +276,10 @@ impl Session {
         requires ready { IsReady (state_of self.old world.old) }
         requires room { length buffer.old ≡ PIECE }
         requires nothing_waits { bytes_waiting self.old ≡ [] }
-        ensures leaves { (bytes : List ℕ)
-            × Gave (I.taken input.old) (I.taken input.new) (I.left input.old)
-            (I.left input.new) bytes
-            × LeavesWith (start_of world.old) result bytes (I.left input.new)
+        ensures leaves { (pieces : List (List ℕ))
+            × GaveEach (words_of I.taken I.left I.reads input.old)
+            (words_of I.taken I.left I.reads input.new) pieces
+            × LeavesWith (start_of world.old) result pieces (I.left input.new)
             (entries_in world.new) (S.taken output.old) (S.taken output.new) }
         ensures has { HasSession (start_of world.old) (entries_in world.new) }
         ensures begins { start_of world.new ≡ start_of world.old }
@@ -299,7 +298,7 @@ impl Session {
     }
 
     // Opens the one session of the world, and serves it until it is closed.
-    fn run<R: Net<Listener = TcpListener, Stream = TcpStream>, I: Source, S: Sink>(
+    fn run<R, I: Source, S: Sink>(
         &mut self,
         rt: &R,
         world: &mut World,
@@ -311,10 +310,10 @@ impl Session {
         requires fresh { world.old.history ≡ [] }
         requires capacity { 0 < world.old.capacity }
         requires room { length buffer.old ≡ PIECE }
-        ensures ends { (bytes : List ℕ)
-            × Gave (I.taken input.old) (I.taken input.new) (I.left input.old)
-            (I.left input.new) bytes
-            × SessionEnds (start_of world.old) result bytes (I.left input.new)
+        ensures ends { (pieces : List (List ℕ))
+            × GaveEach (words_of I.taken I.left I.reads input.old)
+            (words_of I.taken I.left I.reads input.new) pieces
+            × SessionEnds (start_of world.old) result pieces (I.left input.new)
             (plain_entries world.new.history) (S.taken output.old) (S.taken output.new) }
         ensures has { (world.new.history ≡ [])
             ⊎ HasSession (start_of world.old) (plain_entries world.new.history) }
@@ -374,7 +373,7 @@ fn close_for(world: &mut World, ended: Ended) -> Ended
 /// Serves one session alone, whose number is 1, in a world without entries: answers the calls of
 /// `input` on `output`, one after another. What the calls of one read make due goes out together,
 /// before the next read. Every entry has caller 0.
-pub fn alone<R: Net<Listener = TcpListener, Stream = TcpStream>, I: Source, S: Sink>(
+pub fn alone<R, I: Source, S: Sink>(
     rt: &R,
     alloc: Global,
     world: &mut World,
@@ -383,9 +382,10 @@ pub fn alone<R: Net<Listener = TcpListener, Stream = TcpStream>, I: Source, S: S
 ) -> Ended
     requires fresh { world.old.history ≡ [] }
     requires capacity { 0 < world.old.capacity }
-    ensures ends { (bytes : List ℕ)
-        × Gave (I.taken input.old) (I.taken input.new) (I.left input.old) (I.left input.new) bytes
-        × SessionEnds (start_of world.old) result bytes (I.left input.new)
+    ensures ends { (pieces : List (List ℕ))
+        × GaveEach (words_of I.taken I.left I.reads input.old)
+        (words_of I.taken I.left I.reads input.new) pieces
+        × SessionEnds (start_of world.old) result pieces (I.left input.new)
         (plain_entries world.new.history) (S.taken output.old) (S.taken output.new) }
     ensures has { (world.new.history ≡ [])
         ⊎ HasSession (start_of world.old) (plain_entries world.new.history) }

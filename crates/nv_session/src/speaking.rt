@@ -15,7 +15,6 @@ use nv_painter::{Batch as SpokenBatch, Painter};
 use nv_world::{Batch, put_messages};
 use std::alloc::{AllocError, Global};
 use std::mem;
-use std::net::{Net, TcpListener, TcpStream};
 
 /// Where so many bytes wait they go out, before more calls are answered.
 const FULL: usize = 65_536;
@@ -101,11 +100,7 @@ impl Outgoing {
 
     /// Writes what waits to `output`, as one piece, after which nothing waits. `false` says that a
     /// write failed: then a part of it from the front went out, maybe none.
-    pub fn put_out<R: Net<Listener = TcpListener, Stream = TcpStream>, S: Sink>(
-        &mut self,
-        rt: &R,
-        output: &mut S,
-    ) -> bool
+    pub fn put_out<R, S: Sink>(&mut self, rt: &R, output: &mut S) -> bool
         ensures all { OnTrue result
             (S.taken output.new ≡ append_known (S.taken output.old) self.old.waiting.items) }
         ensures prefix { WroteSome self.old.waiting.items (S.taken output.old)

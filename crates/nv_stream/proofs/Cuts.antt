@@ -5,8 +5,8 @@ use Rattle.nv_msgpack.specs.Reading.{Reading, whole, more, flawed, value_at}
 use Rattle.nv_msgpack.specs.Reading as reading
 use Rattle.nv_msgpack.specs.Within.{BeginsNone, IsCut}
 use Rattle.nv_msgpack.proofs.Exact.{empty_wants, reads, wants_more, streams_have_one_cut}
-use Rattle.nv_io.specs.declared.ending.Flaw.{Flaw}
-use Rattle.nv_io.specs.declared.ending.Flaw.TheVariants.{Bad, TooDeep, TooLong, Inside, NoCall}
+use Rattle.nv_io.specs.declared.lanes.Flaw.{Flaw}
+use Rattle.nv_io.specs.declared.lanes.Flaw.TheVariants.{Bad, TooDeep, TooLong, Inside, NoCall}
 use Rattle.nv_stream.specs.Runs.{Ends, StreamsHaveOneEnd}
 
 -- the flaw of a stream that stands at a byte of its rest

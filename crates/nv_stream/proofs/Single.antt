@@ -7,8 +7,8 @@ use Rattle.nv_msgpack.specs.Reading.{Reading, whole, more, flawed, value_at}
 use Rattle.nv_msgpack.specs.Reading as reading
 use Rattle.nv_msgpack.specs.Within.{IsPartial}
 use Rattle.nv_msgpack.proofs.Exact.{empty_wants, reads, wants_more}
-use Rattle.nv_io.specs.declared.ending.Flaw.{Flaw}
-use Rattle.nv_io.specs.declared.ending.Flaw.TheVariants.{Bad, TooDeep, TooLong, Inside, NoCall}
+use Rattle.nv_io.specs.declared.lanes.Flaw.{Flaw}
+use Rattle.nv_io.specs.declared.lanes.Flaw.TheVariants.{Bad, TooDeep, TooLong, Inside, NoCall}
 use Rattle.nv_stream.specs.State.{State, behind_value, with_flaw}
 use Rattle.nv_stream.specs.Answers.{IsAnswer, IsFlawAt}
 use Rattle.nv_stream.specs.Runs.{SeenAnswer, a_value, no_value_yet, a_flaw, seen_answer, AnswersAreOne}

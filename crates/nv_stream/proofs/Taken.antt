@@ -12,8 +12,8 @@ use Rattle.nv_msgpack.specs.Within.{SpellsWithin, IsPartial}
 use Rattle.nv_msgpack.proofs.Exact.{is_flaw}
 use Rattle.nv_msgpack.proofs.Complete.{has_byte-in}
 use Rattle.nv_msgpack.proofs.Flaws.{stays}
-use Rattle.nv_io.specs.declared.ending.Flaw.{Flaw}
-use Rattle.nv_io.specs.declared.ending.Flaw.TheVariants.{Bad, TooDeep, TooLong, Inside, NoCall}
+use Rattle.nv_io.specs.declared.lanes.Flaw.{Flaw}
+use Rattle.nv_io.specs.declared.lanes.Flaw.TheVariants.{Bad, TooDeep, TooLong, Inside, NoCall}
 use Rattle.nv_stream.specs.State.{State, empty_state, with_piece, end_at, stream_end}
 use Rattle.nv_stream.specs.Answers.{IsAnswer, HasFlaw, IsFlawAt}
 use Rattle.nv_stream.specs.Runs.{StreamStep, feeds, gives_answer, Takes, Follows, piece_of, stream_of, values_of_step, values_of_steps, Ends, EndsWith, HasCut, Says, RunsAreCuts, AnswersOnly, FlawsStay}

@@ -7,8 +7,8 @@ use Rattle.nv_msgpack.specs.Reading as reading
 use Rattle.nv_msgpack.specs.Reading.{value_at, flawed, bad, too_deep, too_long}
 use Rattle.nv_msgpack.specs.Within.{SpellsWithin, IsPartial, IsFlaw}
 use Rattle.nv_msgpack.specs.Shortest.{HasSpelling}
-use Rattle.nv_io.specs.declared.ending.Flaw.{Flaw}
-use Rattle.nv_io.specs.declared.ending.Flaw.TheVariants.{Bad, TooDeep, TooLong, Inside, NoCall}
+use Rattle.nv_io.specs.declared.lanes.Flaw.{Flaw}
+use Rattle.nv_io.specs.declared.lanes.Flaw.TheVariants.{Bad, TooDeep, TooLong, Inside, NoCall}
 use Rattle.nv_stream.specs.State.{State, behind_value, with_flaw}
 use Rattle.nv_stream.specs.declared.stream.Next.{Next}
 use Rattle.nv_stream.specs.declared.stream.Next.TheVariants.{Value as TheValue, More as AskMore, Flaw as TheFlaw}

@@ -5,8 +5,8 @@ use Rattle.nv_value.specs.Content.{Tree, trees_of}
 use Rattle.nv_value.specs.View.{content}
 use Rattle.nv_msgpack.specs.Spelling.{Each}
 use Rattle.nv_msgpack.specs.Within.{SpellsWithin, IsPartial}
-use Rattle.nv_io.specs.declared.ending.Flaw.{Flaw}
-use Rattle.nv_io.specs.declared.ending.Flaw.TheVariants.{Inside}
+use Rattle.nv_io.specs.declared.lanes.Flaw.{Flaw}
+use Rattle.nv_io.specs.declared.lanes.Flaw.TheVariants.{Inside}
 use Rattle.nv_stream.specs.State.{State, empty_state, with_piece, stream_end}
 use Rattle.nv_stream.specs.Answers.{IsAnswer, IsFlawAt}
 use Rattle.nv_stream.specs.declared.stream.Next.{Next}

@@ -1,6 +1,6 @@
 //! The command over devices in memory, as the tests run it, and what a run leaves.
 ghost use Rattle.std.specs.Prelude.{◌≡◌, ◌<◌, [], IfOk, Some};
-ghost use Rattle.nv_io.specs.Known.{IsUnused};
+ghost use Rattle.nv_io.specs.Known.{IsUnread, IsUnused};
 
 use nv_io::{MemFiles, MemLane, MemPort, MemSink, MemSource};
 use nv_run::run;
@@ -34,7 +34,7 @@ pub(crate) struct Wanted<'a> {
 /// A source that gives these bytes in pieces of one size, and of which such reads fail.
 fn source(alloc: Global, bytes: &[u8], cut: usize, fails: &[u64]) -> Result<MemSource, AllocError>
     requires { 0 < cut }
-    ensures { IfOk result (λ s. IsUnused (Some s.pieces.taken) s.failures.faults) }
+    ensures { IfOk result (λ s. IsUnread (Some s.pieces.taken) s.reads s.failures.faults) }
 {
     let bytes = Vec::from_slice(alloc, bytes)?;
     let cuts = vec![in alloc; cut]?;

@@ -9,7 +9,6 @@ use nv_model::Limits;
 use nv_painter::{Batch, Painter};
 use nv_serve::Job;
 use std::alloc::{AllocError, Global};
-use std::net::{Net, TcpListener, TcpStream};
 use std::sync::atomic::{AtomicU64, Ordering};
 
 // A request for the number of lines, and one that ends the server.
@@ -61,13 +60,11 @@ impl<'a> Source for Asker<'a> {
 
     ghost left = { λ s. None };
 
+    ghost reads = { λ s. None };
+
     ghost faults = { λ s. s.faults };
 
-    fn read<R: Net<Listener = TcpListener, Stream = TcpStream>>(
-        &mut self,
-        _rt: &R,
-        into: &mut [u8],
-    ) -> Got {
+    fn read<R>(&mut self, _rt: &R, into: &mut [u8]) -> Got {
         if self.given >= self.free && !comes(self.word, self.least) {
             self.faults = self.faults.saturating_add(1);
             return Got::Failed;
@@ -99,11 +96,7 @@ impl<'a> Sink for Keeper<'a> {
 
     ghost faults = { λ s. s.faults };
 
-    fn write<R: Net<Listener = TcpListener, Stream = TcpStream>>(
-        &mut self,
-        _rt: &R,
-        piece: &[u8],
-    ) -> Put {
+    fn write<R>(&mut self, _rt: &R, piece: &[u8]) -> Put {
         self.calls.fetch_add(1, Ordering::SeqCst);
         if !comes(self.word, self.least) || self.bytes.extend_from_slice(piece).is_err() {
             self.faults = self.faults.saturating_add(1);
@@ -113,7 +106,7 @@ impl<'a> Sink for Keeper<'a> {
         Put::Took(piece.len())
     }
 
-    fn finish<R: Net<Listener = TcpListener, Stream = TcpStream>>(&mut self, _rt: &R) {}
+    fn finish<R>(&mut self, _rt: &R) {}
 }
 
 /// A sink that counts its replies in a word.
@@ -127,16 +120,12 @@ impl<'a> Sink for Counter<'a> {
 
     ghost faults = { λ s. 0 };
 
-    fn write<R: Net<Listener = TcpListener, Stream = TcpStream>>(
-        &mut self,
-        _rt: &R,
-        piece: &[u8],
-    ) -> Put {
+    fn write<R>(&mut self, _rt: &R, piece: &[u8]) -> Put {
         self.word.fetch_add(1, Ordering::SeqCst);
         Put::Took(piece.len())
     }
 
-    fn finish<R: Net<Listener = TcpListener, Stream = TcpStream>>(&mut self, _rt: &R) {}
+    fn finish<R>(&mut self, _rt: &R) {}
 }
 
 /// A source that begins with some bytes, goes on so often with others, and then ends. Where it has
@@ -155,13 +144,11 @@ impl<'a> Source for Speech<'a> {
 
     ghost left = { λ s. None };
 
+    ghost reads = { λ s. None };
+
     ghost faults = { λ s. s.faults };
 
-    fn read<R: Net<Listener = TcpListener, Stream = TcpStream>>(
-        &mut self,
-        _rt: &R,
-        into: &mut [u8],
-    ) -> Got {
+    fn read<R>(&mut self, _rt: &R, into: &mut [u8]) -> Got {
         if self.given > self.times {
             return Got::End;
         }
@@ -205,11 +192,7 @@ impl<'a> Sink for Page<'a> {
 
     ghost faults = { λ s. s.faults };
 
-    fn write<R: Net<Listener = TcpListener, Stream = TcpStream>>(
-        &mut self,
-        _rt: &R,
-        piece: &[u8],
-    ) -> Put {
+    fn write<R>(&mut self, _rt: &R, piece: &[u8]) -> Put {
         if self.writes == 0 {
             self.faults = self.faults.saturating_add(1);
             return Put::Failed;
@@ -218,7 +201,7 @@ impl<'a> Sink for Page<'a> {
         Put::Took(piece.len())
     }
 
-    fn finish<R: Net<Listener = TcpListener, Stream = TcpStream>>(&mut self, _rt: &R) {
+    fn finish<R>(&mut self, _rt: &R) {
         self.finished.fetch_add(1, Ordering::SeqCst);
     }
 }

@@ -11,15 +11,14 @@ use crate::held_devices::{
     Asker, COUNT, Counter, LIMITS, Mute, QUIT, Slow, Speech, make_page, make_speech,
 };
 use nv_halves::{
-    Bell, ReaderEnd, ReaderHalf, Voice, WriterEnd, WriterHalf, once, reader_half, writer_half,
+    Bell, ReaderEnd, ReaderHalf, Voice, WriterEnd, WriterHalf, open, reader_half, writer_half,
 };
 use nv_io::{Ended, Flaw, Sink, Source};
 use nv_painter::Painter;
 use nv_session::serve_one;
 use nv_turn::{Pass, Turn, take_pass};
-use nv_world::{Cause, Event, World};
+use nv_world::{Cause, World};
 use std::alloc::{AllocError, Global};
-use std::net::{Net, TcpListener, TcpStream};
 use std::sync::Wait;
 use std::sync::atomic::{AtomicU64, Ordering};
 use std::test::Fail;
@@ -61,11 +60,7 @@ fn make_turn(alloc: Global, count: u32) -> Result<(Turn<World>, Vec<Pass<World>>
 }
 
 // How a connection ends that is served alone in its turn.
-fn end_in_turn<
-    R: Net<Listener = TcpListener, Stream = TcpStream> + Threads + Wait + Sync,
-    I: Source + Send + Drop,
-    S: Sink + Send + Drop,
->(
+fn end_in_turn<R: Threads + Wait + Sync, I: Source + Send + Drop, S: Sink + Send + Drop>(
     rt: &R,
     alloc: Global,
     turn: Turn<World>,
@@ -91,21 +86,18 @@ fn end_in_turn<
 
 // How a connection ends over these devices, alone in a world of its own, and the number of its
 // session.
-fn end_alone<
-    R: Net<Listener = TcpListener, Stream = TcpStream> + Threads + Wait + Sync,
-    I: Source + Send + Drop,
-    S: Sink + Send + Drop,
->(rt: &R, alloc: Global, input: I, output: S) -> Result<(Ended, u64), AllocError> {
+fn end_alone<R: Threads + Wait + Sync, I: Source + Send + Drop, S: Sink + Send + Drop>(
+    rt: &R,
+    alloc: Global,
+    input: I,
+    output: S,
+) -> Result<(Ended, u64), AllocError> {
     let (turn, passes) = make_turn(alloc, 2)?;
     Ok(end_in_turn(rt, alloc, turn, passes, input, output))
 }
 
 // How the second of two connections ends that are served one after the other.
-fn end_of_second<
-    R: Net<Listener = TcpListener, Stream = TcpStream> + Threads + Wait + Sync,
-    I: Source + Send + Drop,
-    S: Sink + Send + Drop,
->(
+fn end_of_second<R: Threads + Wait + Sync, I: Source + Send + Drop, S: Sink + Send + Drop>(
     rt: &R,
     alloc: Global,
     turn: Turn<World>,
@@ -140,17 +132,13 @@ fn open_first<R: Wait>(rt: &R, turn: &Turn<World>, bells: &[Bell], pass: Pass<Wo
     ensures turn { result.turn ≡ pass.turn }
     ensures numbers { result.numbers ≡ pass.numbers }
 {
-    let (pass, _) = once(rt, turn, bells, pass, Event::Open);
+    let (pass, _) = open(rt, turn, bells, pass);
     bells[0].serve(1);
     pass
 }
 
 // How a connection ends beside others.
-fn end_beside<
-    R: Net<Listener = TcpListener, Stream = TcpStream> + Threads + Wait + Sync,
-    I: Source + Send + Drop,
-    S: Sink + Send + Drop,
->(
+fn end_beside<R: Threads + Wait + Sync, I: Source + Send + Drop, S: Sink + Send + Drop>(
     rt: &R,
     alloc: Global,
     turn: &Turn<World>,
@@ -173,7 +161,7 @@ fn end_beside<
 
 // Runs both halves of a session, each in a thread of its own.
 fn run_halves<
-    R: Net<Listener = TcpListener, Stream = TcpStream> + Threads + Wait + Sync,
+    R: Threads + Wait + Sync,
     I: Source + Send + Drop,
     S: Sink + Send + Drop,
     V: Voice + Drop,
@@ -212,7 +200,7 @@ fn run_halves<
 
 // How the halves of the first session end.
 fn end_first<
-    R: Net<Listener = TcpListener, Stream = TcpStream> + Threads + Wait + Sync,
+    R: Threads + Wait + Sync,
     I: Source + Send + Drop,
     S: Sink + Send + Drop,
     V: Voice + Drop,
@@ -245,7 +233,7 @@ fn end_first<
 
 // How the halves of a session end that are alone in their turn.
 fn halves_in_turn<
-    R: Net<Listener = TcpListener, Stream = TcpStream> + Threads + Wait + Sync,
+    R: Threads + Wait + Sync,
     I: Source + Send + Drop,
     S: Sink + Send + Drop,
     V: Voice + Drop,
@@ -281,7 +269,7 @@ fn halves_in_turn<
 
 // How the halves of the first session end, and a connection beside it.
 fn ends_of_both<
-    R: Net<Listener = TcpListener, Stream = TcpStream> + Threads + Wait + Sync,
+    R: Threads + Wait + Sync,
     I: Source + Send + Drop,
     S: Sink + Send + Drop,
     V: Voice + Drop,
@@ -330,7 +318,7 @@ fn ends_of_both<
 
 // And as the passes were made.
 fn ends_of_four<
-    R: Net<Listener = TcpListener, Stream = TcpStream> + Threads + Wait + Sync,
+    R: Threads + Wait + Sync,
     I: Source + Send + Drop,
     S: Sink + Send + Drop,
     V: Voice + Drop,
@@ -356,7 +344,7 @@ fn ends_of_four<
 
 // How the only connection of a world ends whose second request comes only once a reply went out,
 // and how many writes its sink took.
-fn end_of_meeting<R: Net<Listener = TcpListener, Stream = TcpStream> + Threads + Wait + Sync>(
+fn end_of_meeting<R: Threads + Wait + Sync>(
     rt: &R,
     alloc: Global,
 ) -> Result<((Ended, u64), u64), AllocError> {
@@ -376,7 +364,7 @@ fn halves_meet(rt: HostRuntime) -> Result<(), Fail> {
 
 // How the halves of the first session end, whose voice waits in its first batch for a reply to a
 // connection beside it, and how that one ends, which asks once the voice has begun.
-fn ends_of_slow<R: Net<Listener = TcpListener, Stream = TcpStream> + Threads + Wait + Sync>(
+fn ends_of_slow<R: Threads + Wait + Sync>(
     rt: &R,
     alloc: Global,
 ) -> Result<((ReaderEnd, WriterEnd), Ended), AllocError> {
@@ -406,7 +394,7 @@ fn speaks_outside(rt: HostRuntime) -> Result<(), Fail> {
 
 // How a connection ends over this source, and how often its sink was finished, which takes so many
 // writes.
-fn end_of<R: Net<Listener = TcpListener, Stream = TcpStream> + Threads + Wait + Sync>(
+fn end_of<R: Threads + Wait + Sync>(
     rt: &R,
     alloc: Global,
     input: Speech,
@@ -420,7 +408,7 @@ fn end_of<R: Net<Listener = TcpListener, Stream = TcpStream> + Threads + Wait + 
 
 // A source that ends, a sink that fails, a source that fails, bytes that are malformed, an
 // overflow, and the end of the world.
-fn ends_of_each<R: Net<Listener = TcpListener, Stream = TcpStream> + Threads + Wait + Sync>(
+fn ends_of_each<R: Threads + Wait + Sync>(
     rt: &R,
     alloc: Global,
 ) -> Result<[(Ended, u64); 6], AllocError> {
@@ -435,7 +423,7 @@ fn ends_of_each<R: Net<Listener = TcpListener, Stream = TcpStream> + Threads + W
 }
 
 // And one that comes after the world has ended.
-fn end_of_late<R: Net<Listener = TcpListener, Stream = TcpStream> + Threads + Wait + Sync>(
+fn end_of_late<R: Threads + Wait + Sync>(
     rt: &R,
     alloc: Global,
 ) -> Result<((Ended, u64), u64), AllocError> {
@@ -449,7 +437,7 @@ fn end_of_late<R: Net<Listener = TcpListener, Stream = TcpStream> + Threads + Wa
 
 // How the half that writes ends where its voice finds no memory, and how often its sink was
 // finished.
-fn end_of_mute<R: Net<Listener = TcpListener, Stream = TcpStream> + Threads + Wait + Sync>(
+fn end_of_mute<R: Threads + Wait + Sync>(
     rt: &R,
     alloc: Global,
 ) -> Result<(WriterEnd, u64), AllocError> {

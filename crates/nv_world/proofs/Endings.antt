@@ -101,7 +101,7 @@ all_go [] v none settled = settled
 all_go (s ∷ ss) v none settled =
     settled_without v.editor (other_uis (s ∷ ss) v.editor.stage.uis) (sym (uis_with (other_uis (s ∷ ss) v.editor.stage.uis) v.editor.stage) ∙ none) settled
 
-without_sessions : (is_seen : Bool) (ss : List ℕ) (w : World) → (world_without_uis is_seen ss w).sessions ≡ w.sessions
+pub without_sessions : (is_seen : Bool) (ss : List ℕ) (w : World) → (world_without_uis is_seen ss w).sessions ≡ w.sessions
 without_sessions is_seen ss w = ap (λ (v : World). v.sessions) (without_is is_seen ss w)
 
 -- the world at the end of an entry that ends the editor, or doesn't

@@ -18,9 +18,11 @@ pub mod Endings
 pub mod Standings
 pub mod Steppings
 pub mod Entries
+pub mod Rooms
 pub mod Applying
 pub mod Refusing
 pub mod RowsSplice
 pub mod CallsSplice
 pub mod Splicings
+pub mod Holding
 pub mod Crossing

@@ -16,7 +16,7 @@ use Rattle.nv_history.specs.Spoken.{ShowsIfGiven}
 use Rattle.nv_history.specs.Worlds.{World, Outcome, refuses, idles, becomes, world_after_call, world_ended_if}
 use Rattle.nv_world.specs.declared.effect.Effect.{Effect}
 use Rattle.nv_world.specs.declared.effect.Stop.{Stop}
-use Rattle.nv_world.specs.declared.effect.Stop.TheVariants.{Stranger, Gone}
+use Rattle.nv_world.specs.declared.effect.Stop.TheVariants.{NoMemory, Stranger, Gone, Held}
 use Rattle.nv_world.specs.Contents.{IsEffect, plain_effect, scene_given}
 use Rattle.nv_world.specs.declared.session.Session.{Session as Kept}
 use Rattle.nv_world.specs.declared.state.State.{State}
@@ -24,7 +24,7 @@ use Rattle.nv_world.specs.declared.state.Numbers.{Numbers}
 use Rattle.nv_world.specs.inside.Answers.{AnswersTo}
 use Rattle.nv_world.specs.inside.Sessions.{IsSession, AreSessions}
 use Rattle.nv_world.specs.inside.Tellings.{sessions_hear_all, sessions_replied}
-use Rattle.nv_world.specs.inside.States.{StandsNumbered, StandsForWorld, Changes, with_next}
+use Rattle.nv_world.specs.inside.States.{StandsNumbered, StandsForWorld, Changes, IsStopOf, with_next}
 use Rattle.nv_world.proofs.Stating.{call_ends}
 
 pub at_outcome : (old new : State) (n : Numbers) (r : Result Effect Stop) (a b : Outcome) → a ≡ b → Changes old new n r b → Changes old new n r a
@@ -106,3 +106,10 @@ stranger_refused old new n s a e h = subst (λ (o : Outcome). Changes old new n 
 
 pub gone_refused : (old new : State) (n : Numbers) (entry : ℕ) (a : Outcome) → a ≡ refuses (gone_by entry) → new ≡ old → Changes old new n (Err (Gone entry)) a
 gone_refused old new n entry a e h = subst (λ (o : Outcome). Changes old new n (Err (Gone entry)) o) (sym e) (refl, h)
+
+-- what stops an event, beside want of memory
+pub stop_refuses : (old : State) (n : Numbers) (stop : Stop) (wanted a : Outcome) → IsStopOf (Some stop) wanted a → Changes old old n (Err stop) a
+stop_refuses old n NoMemory wanted a h = tt
+stop_refuses old n (Stranger s) wanted a h = subst (λ (o : Outcome). Changes old old n (Err (Stranger s)) o) (sym h.2) (h.1, refl)
+stop_refuses old n (Gone entry) wanted a h = subst (λ (o : Outcome). Changes old old n (Err (Gone entry)) o) (sym h.2) (h.1, refl)
+stop_refuses old n (Held waiting) wanted a h = subst (λ (o : Outcome). Changes old old n (Err (Held waiting)) o) (sym h.2) (h.1, refl)

@@ -1,11 +1,12 @@
 -- What contracts see of a world, and what an event makes of it.
-use Rattle.std.specs.Prelude.{◌≡◌, ℕ, ◌*◌, ◌^◌, ◌≤◌, ◌<◌, Bool, true, false, not, ⊤, List, [], ◌∷◌, ◌++◌, length, map, All, Option, Some, None, IfSome, option_map, refl}
+use Rattle.std.specs.Prelude.{◌≡◌, ℕ, ◌*◌, ◌+◌, ◌^◌, ◌≤◌, ◌<◌, ◌==◌, Bool, true, false, not, ⊤, List, [], ◌∷◌, ◌++◌, length, map, All, Option, Some, None, IfSome, option_map, refl}
 use Rattle.std.specs.Coded.{Coded, code_by, coded×, coded_list, coded_ℕ, coded_bool}
 use Rattle.nv_rpc.specs.Calls.{Call, request, notice}
 use Rattle.nv_rpc.specs.Messages.{IsSendable}
 use Rattle.nv_args.specs.Weight.{AreLight}
 use Rattle.nv_model.specs.declared.parts.Limits.{Limits}
 use Rattle.nv_model.specs.contracts.parts.Limits as limits
+use Rattle.nv_editor.specs.Uis.{has_ui}
 use Rattle.nv_history.specs.Sessions.{Session as ModelSession}
 use Rattle.nv_history.specs.Events.{Cause, Event as PlainEvent, open_session, request_of, take_of, close_of}
 use Rattle.nv_history.specs.Worlds.{World as ModelWorld, Outcome, refuses, idles, becomes, is_nothing_due, is_scene_due, step}
@@ -109,3 +110,12 @@ cause_of (Some x) = x.closed
 abbrev pub is_any_due : ModelWorld → ℕ → Option ModelSession → Bool
 is_any_due w s None = false
 is_any_due w s (Some x) = not (is_nothing_due x.waiting (is_scene_due w s x))
+
+-- a close by which no UI goes: its session has none, and the entry isn't the last one that the
+-- limits allow
+abbrev pub ClosesNoUi : ModelWorld → PlainEvent → Type 0
+ClosesNoUi w (close_of s) =
+    (has_ui s w.editor.stage.uis ≡ false) × ((w.entries + 1 == w.limits.entries) ≡ false)
+ClosesNoUi w open_session = ⊥
+ClosesNoUi w (request_of s call) = ⊥
+ClosesNoUi w (take_of s) = ⊥

@@ -1,8 +1,8 @@
 //! The history of a world.
-ghost use Rattle.std.specs.Prelude.{◌≡◌, ◌<◌, ◌≤◌, ◌==◌, ◌^◌, ◌+◌, ◌++◌, ◌∷◌, [], length, IfErr, OnOk, OnErr};
+ghost use Rattle.std.specs.Prelude.{◌≡◌, ◌<◌, ◌≤◌, ◌==◌, ◌^◌, ◌+◌, ◌++◌, ◌∷◌, [], length, OnOk};
 
 use crate::entry::Entry;
-use std::alloc::{AllocError, AllocFailed, Global};
+use std::alloc::{AllocError, Global};
 use std::marker::Model;
 
 /// The entries of a world, numbered from 0.
@@ -65,16 +65,13 @@ impl History {
         self.entries
     }
 
-    /// Puts an entry at the end. Where memory is wanting nothing changes, and the entry comes back;
-    /// it isn't where there is room.
-    pub fn push(&mut self, entry: Entry) -> Result<(), AllocFailed<Entry>>
-        ensures ok { OnOk result (self.new.entries ≡ self.old.entries ++ entry ∷ []) }
-        ensures room { OnOk result (self.old.room ≤ self.new.room + 1) }
-        ensures err { OnErr result (self.new.entries ≡ self.old.entries) }
-        ensures full { OnErr result (self.old.room ≡ 0) }
-        ensures entry_returned { IfErr result (λ e. e.value ≡ entry) }
+    /// Puts an entry at the end, for which there is room.
+    pub fn push_reserved(&mut self, entry: Entry)
+        requires { 0 < self.old.room }
+        ensures entries { self.new.entries ≡ self.old.entries ++ entry ∷ [] }
+        ensures room { self.old.room ≡ self.new.room + 1 }
     {
-        self.entries.push(entry)
+        self.entries.push_reserved(entry);
     }
 
     /// Makes room for so many entries more.

@@ -2,6 +2,7 @@
 #![tactic(auto)]
 
 mod answering;
+mod calls;
 mod effect;
 mod entry;
 mod finishing;
@@ -18,6 +19,7 @@ mod story;
 mod telling;
 mod world;
 
+pub use calls::{Taken, Unasked, Unclosed, Unopened, Untaken};
 pub use effect::{Batch, Cause, Effect, Stop};
 pub use entry::{Entry, Event};
 pub use history::History;

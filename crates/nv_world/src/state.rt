@@ -1,5 +1,5 @@
 //! The state of a world, and what each event makes of it.
-ghost use Rattle.std.specs.Prelude.{◌≡◌, suc, ◌++◌, ◌∷◌, [], ◌<◌, ◌≤◌, ℕ, length, map, slice_get, false, None, Some, IsTrue, IfErr, IfOk, IfNone, IfSome, IsSome, OnOk, option_map};
+ghost use Rattle.std.specs.Prelude.{◌≡◌, ◌≢◌, suc, ◌++◌, ◌∷◌, [], ◌<◌, ◌≤◌, ℕ, length, map, slice_get, false, None, Some, IsTrue, IfErr, IfOk, IfNone, IfSome, OnOk, option_map};
 ghost use Rattle.std.specs.List.{AllZip};
 ghost use Rattle.std.specs.Vec.{vec_len};
 ghost use Rattle.nv_rpc.specs.Calls.{Call};
@@ -11,18 +11,19 @@ ghost use Rattle.nv_scene.specs.Settling.{IsSettled};
 ghost use Rattle.nv_history.specs.Events.{close_of, closed_at};
 ghost use Rattle.nv_history.specs.Sessions.{Session as ModelSession, has_quit, is_quit, session_closed_by, session_emptied, shown_after};
 ghost use Rattle.nv_history.specs.Spoken.{ShowsIfGiven};
-ghost use Rattle.nv_history.specs.Worlds.{World, close_outcome, editor_due, empty_take_outcome, fresh_world, idles, live_request_outcome, opening_outcome, outcome_of_frame, request_outcome, session_of, some_take_outcome, step, take_outcome, with_session_at, world_after_call};
-ghost use Rattle.nv_world.specs.Steps.{splices_by, splices_of_event};
-ghost use Rattle.nv_world.specs.Contents.{plain_cause, plain_effect, plain_event, plain_stop, scene_given, sent_of_shared};
-ghost use Rattle.nv_world.specs.Worlds.{GivesFewCells, GivesSendable, IsLightCall, IsLightEvent};
+ghost use Rattle.nv_history.specs.Worlds.{World, close_outcome, editor_due, empty_take_outcome, fresh_world, idles, live_request_outcome, opening_outcome, outcome_of_frame, request_outcome, session_of, some_take_outcome, take_outcome, with_session_at, world_after_call};
+ghost use Rattle.nv_world.specs.Steps.{splices_by};
+ghost use Rattle.nv_world.specs.Contents.{plain_cause, plain_effect, scene_given, sent_of_shared};
+ghost use Rattle.nv_world.specs.Outcomes.{IsUnaskedBy, IsUnclosedBy, effect_of_taken, stop_of_unasked};
+ghost use Rattle.nv_world.specs.Worlds.{ClosesNoUi, GivesFewCells, GivesSendable, IsLightCall};
 ghost use Rattle.nv_world.specs.declared.effect.Effect.TheVariants.{Items};
 ghost use Rattle.nv_world.specs.inside.Sessions.{IsSession};
 ghost use Rattle.nv_world.specs.inside.Showings.{HasFewCells};
-ghost use Rattle.nv_world.specs.inside.States.{Changes, ClosesNoUi, IsAt, IsStopOf, StandsForWorld, StepsState, called_outcome};
+ghost use Rattle.nv_world.specs.inside.States.{Changes, IsAt, IsStopOf, StandsForWorld, StepsState, called_as, called_outcome, closed_as, opened_as, taken_as};
 
 use crate::answering::answer;
-use crate::effect::{Batch, Cause, Effect, Stop};
-use crate::entry::Event;
+use crate::calls::{Taken, Unasked, Unclosed, Unopened, Untaken};
+use crate::effect::{Batch, Cause};
 use crate::finishing::{end_if, finish, finish_settled};
 use crate::session::{Session, close, new_session, taken, waiting};
 use crate::showing::{is_any_due, is_scene_due, scene_if, shown_after};
@@ -80,25 +81,25 @@ fn was_added(sessions: &mut Vec<Session>, session: Session) -> bool
     sessions.push(session).is_ok()
 }
 
-fn open(alloc: Global, state: &mut State, numbers: Numbers) -> Result<Effect, Stop>
-    ensures steps { StepsState state.old state.new numbers result (λ w. opening_outcome w.ended w) }
-    ensures sendable { IfOk result GivesSendable }
-    ensures cells { IfOk result GivesFewCells }
+/// A session is opened.
+pub fn open_session(alloc: Global, state: &mut State, numbers: Numbers) -> Result<u64, Unopened>
+    ensures { StepsState state.old state.new numbers (opened_as result)
+        (λ w. opening_outcome w.ended w) }
 {
     if let Some(entry) = state.ended {
-        return Err(Stop::Gone(entry));
+        return Err(Unopened::Ended(entry));
     }
     let Ok(session) = new_session(alloc, numbers.capacity) else {
-        return Err(Stop::NoMemory);
+        return Err(Unopened::NoMemory);
     };
     if !was_added(&mut state.sessions, session) {
-        return Err(Stop::NoMemory);
+        return Err(Unopened::NoMemory);
     }
     let number = state.sessions.len() as u64;
     let Ok(()) = finish(alloc, state, numbers) else {
-        return Err(Stop::NoMemory);
+        return Err(Unopened::NoMemory);
     };
-    Ok(Effect::Opened(number))
+    Ok(number)
 }
 
 // Whether a fact tells that the editor ends.
@@ -159,52 +160,55 @@ fn make_call(
 }
 
 // Why a session that is there can't make a call now, if it can't.
-fn live_stop(session: &Session, capacity: u32) -> Option<Stop>
+fn live_stop(session: &Session, capacity: u32) -> Option<Unasked>
     ensures stop { (w : World) (s : ℕ) (call : Call) (y : ModelSession) → w.capacity ≡ capacity
         → IsSession capacity session.now y
-        → IsStopOf result (called_outcome w s call)
+        → IsStopOf (option_map (stop_of_unasked s) result) (called_outcome w s call)
         (live_request_outcome y.closed w s y call) }
-    ensures memory { IfSome result (λ stop. IsSome (plain_stop stop)) }
+    ensures gone { (y : ModelSession) → IsSession capacity session.now y
+        → IfSome result (IsUnaskedBy (Some y)) }
 {
     if let Some(cause) = session.closed {
-        return Some(Stop::Gone(cause.entry()));
+        return Some(Unasked::Gone(cause));
     }
     let waiting = waiting(session);
     if 2 * waiting >= capacity as usize {
-        return Some(Stop::Held(waiting.min(capacity as usize) as u32));
+        return Some(Unasked::Held(waiting.min(capacity as usize) as u32));
     }
     None
 }
 
 // Why a session can't make a call now, if it can't.
-fn request_stop(sessions: &[Session], capacity: u32, session: u64) -> Option<Stop>
+fn request_stop(sessions: &[Session], capacity: u32, session: u64) -> Option<Unasked>
     ensures stop { (w : World) (call : Call) → w.capacity ≡ capacity
         → AllZip (IsSession capacity) sessions.now w.sessions
-        → IsStopOf result (called_outcome w session call)
+        → IsStopOf (option_map (stop_of_unasked session) result) (called_outcome w session call)
         (request_outcome (session_of w session) w session call) }
+    ensures gone { (w : World) → AllZip (IsSession capacity) sessions.now w.sessions
+        → IfSome result (IsUnaskedBy (session_of w session)) }
     ensures found { IfNone result ((0 < session) × (session ≤ length sessions.now)) }
-    ensures memory { IfSome result (λ stop. IsSome (plain_stop stop)) }
 {
     match place_of(session, sessions.len()) {
         Some(place) => live_stop(&sessions[place], capacity),
-        None => Some(Stop::Stranger(session)),
+        None => Some(Unasked::Stranger),
     }
 }
 
-fn request(
+/// A session makes a call. The splices that it makes are put behind others.
+pub fn request(
     alloc: Global,
     state: &mut State,
     numbers: Numbers,
     session: u64,
     frame: &Frame,
     splices: &mut Vec<Moved>,
-) -> Result<Effect, Stop>
+) -> Result<(), Unasked>
     requires light { IsLightCall (call_of_frame frame.now) }
     requires sealed { AllSealed state.old.editor }
-    ensures steps { StepsState state.old state.new numbers result
+    ensures steps { StepsState state.old state.new numbers (called_as session result)
         (λ w. request_outcome (session_of w session) w session (call_of_frame frame.now)) }
-    ensures sendable { IfOk result GivesSendable }
-    ensures cells { IfOk result GivesFewCells }
+    ensures gone { IfErr result (λ why. (w : World) → IsAt state.old numbers w
+        → IsUnaskedBy (session_of w session) why) }
     ensures splices { OnOk result ((w : World) → IsAt state.old numbers w → splices.new.items
         ≡ splices.old.items ++ splices_by
         (outcome_of_frame w.editor session (call_of_frame frame.now)).operations) }
@@ -213,24 +217,24 @@ fn request(
         return Err(stop);
     }
     let Ok(is_seen) = make_call(alloc, state, numbers.at, session, frame, splices) else {
-        return Err(Stop::NoMemory);
+        return Err(Unasked::NoMemory);
     };
     let Ok(()) = finish_settled(alloc, state, numbers, is_seen) else {
-        return Err(Stop::NoMemory);
+        return Err(Unasked::NoMemory);
     };
-    Ok(Effect::Done)
+    Ok(())
 }
 
 // What a take of a session to which nothing is due comes to.
-fn empty_take(session: &Session) -> Effect
-    ensures effect { idles (plain_effect None result)
+fn empty_take(session: &Session) -> Taken
+    ensures effect { idles (plain_effect None (effect_of_taken result))
         ≡ empty_take_outcome (option_map plain_cause session.now.closed) }
-    ensures scene { scene_given result ≡ None }
-    ensures sendable { GivesSendable result }
+    ensures scene { scene_given (effect_of_taken result) ≡ None }
+    ensures sendable { GivesSendable (effect_of_taken result) }
 {
     match session.closed {
-        Some(cause) => Effect::Over(cause),
-        None => Effect::Nothing,
+        Some(cause) => Taken::Over(cause),
+        None => Taken::Nothing,
     }
 }
 
@@ -270,35 +274,42 @@ fn take_some(
     numbers: Numbers,
     place: usize,
     is_due: bool,
-) -> Result<Effect, Stop>
+) -> Result<Taken, Untaken>
     requires place { place < vec_len state.old.sessions }
     requires settled { IsSettled (seen_now state.old.editor) }
     ensures steps { (w : World) (y : ModelSession) → IsAt state.old numbers w
-        → slice_get w.sessions place ≡ Some y → Changes state.old state.new numbers result
+        → slice_get w.sessions place ≡ Some y
+        → Changes state.old state.new numbers (taken_as (suc place) result)
         (some_take_outcome false is_due w (suc place) y) }
-    ensures sendable { IfOk result (λ effect. (w : World) → IsAt state.old numbers w
-        → GivesSendable effect) }
-    ensures cells { IfOk result GivesFewCells }
+    ensures sendable { IfOk result (λ taken. (w : World) → IsAt state.old numbers w
+        → GivesSendable (effect_of_taken taken)) }
+    ensures cells { IfOk result (λ taken. GivesFewCells (effect_of_taken taken)) }
 {
     let Ok(batch) = batch_of(alloc, state, place, is_due) else {
-        return Err(Stop::NoMemory);
+        return Err(Untaken::NoMemory);
     };
     let Ok(()) = finish(alloc, state, numbers) else {
-        return Err(Stop::NoMemory);
+        return Err(Untaken::NoMemory);
     };
-    Ok(Effect::Items(batch))
+    Ok(Taken::Items(batch))
 }
 
-fn take(alloc: Global, state: &mut State, numbers: Numbers, session: u64) -> Result<Effect, Stop>
+/// What is due to a session is taken.
+pub fn take(
+    alloc: Global,
+    state: &mut State,
+    numbers: Numbers,
+    session: u64,
+) -> Result<Taken, Untaken>
     requires settled { IsSettled (seen_now state.old.editor) }
-    ensures steps { StepsState state.old state.new numbers result
+    ensures steps { StepsState state.old state.new numbers (taken_as session result)
         (λ w. take_outcome (session_of w session) w session) }
-    ensures sendable { IfOk result (λ effect. (w : World) → IsAt state.old numbers w
-        → GivesSendable effect) }
-    ensures cells { IfOk result GivesFewCells }
+    ensures sendable { IfOk result (λ taken. (w : World) → IsAt state.old numbers w
+        → GivesSendable (effect_of_taken taken)) }
+    ensures cells { IfOk result (λ taken. GivesFewCells (effect_of_taken taken)) }
 {
     let Some(place) = place_of(session, state.sessions.len()) else {
-        return Err(Stop::Stranger(session));
+        return Err(Untaken::Stranger);
     };
     let found = &state.sessions[place];
     let is_due = is_scene_due(state.editor.uis(), state.stamp, session, found.shown);
@@ -321,60 +332,30 @@ fn close_at(state: &mut State, at: u64, place: usize)
     state.subs.leave(place as u64 + 1);
 }
 
-fn close_session(
+/// A session is closed. Where no UI goes by it, no memory is taken.
+pub fn close_session(
     alloc: Global,
     state: &mut State,
     numbers: Numbers,
     session: u64,
-) -> Result<Effect, Stop>
+) -> Result<(), Unclosed>
     requires settled { IsSettled (seen_now state.old.editor) }
-    ensures steps { StepsState state.old state.new numbers result
+    ensures steps { StepsState state.old state.new numbers (closed_as session result)
         (λ w. close_outcome (session_of w session) w session) }
-    ensures sendable { IfOk result GivesSendable }
-    ensures cells { IfOk result GivesFewCells }
-    ensures memory { IfErr result (λ stop. (w : World) → IsAt state.old numbers w
-        → ClosesNoUi w (close_of session) → IsSome (plain_stop stop)) }
+    ensures gone { IfErr result (λ why. (w : World) → IsAt state.old numbers w
+        → IsUnclosedBy (session_of w session) why) }
+    ensures memory { IfErr result (λ why. (w : World) → IsAt state.old numbers w
+        → ClosesNoUi w (close_of session) → why ≢ Unclosed.NoMemory) }
 {
     let Some(place) = place_of(session, state.sessions.len()) else {
-        return Err(Stop::Stranger(session));
+        return Err(Unclosed::Stranger);
     };
     if let Some(cause) = state.sessions[place].closed {
-        return Err(Stop::Gone(cause.entry()));
+        return Err(Unclosed::Gone(cause));
     }
     close_at(state, numbers.at, place);
     let Ok(()) = finish_settled(alloc, state, numbers, false) else {
-        return Err(Stop::NoMemory);
+        return Err(Unclosed::NoMemory);
     };
-    Ok(Effect::Closed)
-}
-
-/// What an event makes of a state. The splices that it makes are put behind others.
-pub fn happen(
-    alloc: Global,
-    state: &mut State,
-    numbers: Numbers,
-    event: &Event,
-    splices: &mut Vec<Moved>,
-) -> Result<Effect, Stop>
-    requires light { IsLightEvent (plain_event event.now) }
-    requires sealed { AllSealed state.old.editor }
-    requires settled { IsSettled (seen_now state.old.editor) }
-    ensures steps { StepsState state.old state.new numbers result
-        (λ w. step w (plain_event event.now)) }
-    ensures sendable { IfOk result (λ effect. (w : World) → IsAt state.old numbers w
-        → GivesSendable effect) }
-    ensures cells { IfOk result GivesFewCells }
-    ensures memory { IfErr result (λ stop. (w : World) → IsAt state.old numbers w
-        → ClosesNoUi w (plain_event event.now) → IsSome (plain_stop stop)) }
-    ensures splices { OnOk result ((w : World) → IsAt state.old numbers w → splices.new.items
-        ≡ splices.old.items ++ splices_of_event w (plain_event event.now)) }
-{
-    match event {
-        Event::Open => open(alloc, state, numbers),
-        Event::Request { session, frame } => {
-            request(alloc, state, numbers, *session, frame, splices)
-        }
-        Event::Take { session } => take(alloc, state, numbers, *session),
-        Event::Close { session } => close_session(alloc, state, numbers, *session),
-    }
+    Ok(())
 }

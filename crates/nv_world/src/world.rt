@@ -1,24 +1,27 @@
 //! The world: one editor, its sessions, and the history of all that happened to it.
-ghost use Rattle.std.specs.Prelude.{◌≡◌, ◌≤◌, [], false, true, IfErr, IfOk, IsSome, Option, is_none, option_map};
-ghost use Rattle.nv_model.specs.Editors.{ModelEditor};
+ghost use Rattle.std.specs.Prelude.{◌≡◌, ◌≢◌, ◌≤◌, ◌<◌, ◌-◌, ◌^◌, [], length, false, true, Err, IfErr, IfOk, IsSome, IsTrue, OnOk, is_none, option_map};
+ghost use Rattle.nv_rpc.specs.Frames.{call_of_frame};
 ghost use Rattle.nv_model.specs.Standing.{Stands};
+ghost use Rattle.nv_history.specs.Events.{close_of, open_session, request_of, take_of};
 ghost use Rattle.nv_history.specs.Worlds.{World as ModelWorld, session_of};
-ghost use Rattle.nv_world.specs.Contents.{plain_cause, plain_effect, plain_event, plain_stop};
+ghost use Rattle.nv_world.specs.Contents.{plain_cause, plain_event, plain_stop};
+ghost use Rattle.nv_world.specs.Outcomes.{IsUnaskedBy, IsUnclosedBy, effect_of_taken, stop_of_unasked, stop_of_unclosed, stop_of_unopened, stop_of_untaken};
 ghost use Rattle.nv_world.specs.Sizes.{bytes_due};
 ghost use Rattle.nv_world.specs.Steps.{AreLastSplices};
-ghost use Rattle.nv_world.specs.Worlds.{AppliesErr, AppliesOk, GivesFewCells, GivesSendable, IsLightEvent, IsOutboxSize, cause_of, is_any_due, model_of, outcome_of_event};
-ghost use Rattle.nv_world.specs.inside.Entering.{is_entry};
+ghost use Rattle.nv_world.specs.Worlds.{AppliesErr, AppliesOk, ClosesNoUi, GivesFewCells, GivesSendable, IsLightCall, IsLightEvent, IsOutboxSize, cause_of, is_any_due, model_of, outcome_of_event};
 
+use crate::calls::{Taken, Unasked, Unclosed, Unopened, Untaken};
 use crate::effect::{Cause, Effect, Stop};
 use crate::entry::{Entry, Event};
 use crate::history::History;
 use crate::session::bytes_due;
 use crate::showing::{is_any_due, is_scene_due};
-use crate::state::{Numbers, State, happen};
+use crate::state::{Numbers, State, close_session, open_session, request, take};
 use crate::step::Moved;
 use crate::telling::place_of;
 use nv_editor::Editor;
 use nv_model::Limits;
+use nv_rpc::Frame;
 use std::alloc::{AllocError, Global};
 use std::marker::Model;
 
@@ -36,6 +39,7 @@ pub struct World {
     capacity: u32,
     limits: Limits,
     state: State,
+    // With room for the close of each session that isn't closed.
     history: History,
     // The splices of the last entry.
     last: Vec<Moved>,
@@ -62,21 +66,44 @@ impl Model for World {
     ghost invariant = { IsWorld };
 }
 
-// Whether an event with this effect enters the history.
-fn enters(effect: &Effect) -> bool
-    ensures { (editor : Option ModelEditor) → result ≡ is_entry (plain_effect editor effect.now) }
-{
-    match effect {
-        Effect::Opened(_) | Effect::Done | Effect::Items(_) | Effect::Closed => true,
-        Effect::Nothing | Effect::Over(_) => false,
-    }
-}
-
 // Whether an event is refused for want of memory.
 fn is_want(stop: Stop) -> bool
     ensures { result ≡ is_none (plain_stop stop) }
 {
     matches!(stop, Stop::NoMemory)
+}
+
+// The numbers of the next entry.
+fn numbers_of(capacity: u32, entries: u64, history: &History) -> Numbers
+    requires { 1 ≤ entries }
+    ensures numbers { result ≡ record {
+      capacity = capacity;
+      last = entries - 1;
+      at = length history.now.entries;
+    } }
+    ensures few { result.at < 2 ^ 63 }
+{
+    Numbers {
+        capacity,
+        last: entries - 1,
+        at: history.len() as u64,
+    }
+}
+
+// Whether a world isn't spent and has memory for so many entries more. One without it is spent by
+// that.
+fn has_room(history: &mut History, spent: &mut bool, more: usize) -> bool
+    ensures entries { history.new.entries ≡ history.old.entries }
+    ensures live { IsTrue result → (spent.old ≡ false) × (spent.new ≡ false) }
+    ensures room { IsTrue result → more ≤ history.new.room }
+    ensures kept { history.old.room ≤ history.new.room }
+    ensures spent { result ≡ false → spent.new ≡ true }
+{
+    if *spent || history.reserve(more).is_err() {
+        *spent = true;
+        return false;
+    }
+    true
 }
 
 impl World {
@@ -104,9 +131,162 @@ impl World {
         })
     }
 
+    /// A session begins, with this number: sessions are numbered from 1, in the order of these
+    /// calls.
+    pub fn open(&mut self, caller: u32) -> Result<u64, Unopened>
+        ensures ok { IfOk result (λ session. (self.old.spent ≡ false)
+            × AppliesOk self.old self.new (record { caller = caller; event = Event.Open })
+            (Effect.Opened session) (outcome_of_event self.old open_session)) }
+        ensures err { IfErr result (λ why. AppliesErr self.old self.new (stop_of_unopened why)
+            (outcome_of_event self.old open_session)) }
+        ensures spent { self.old.spent ≡ true
+            → (result ≡ Err Unopened.NoMemory) × (self.new ≡ self.old) }
+    {
+        let numbers = numbers_of(self.capacity, self.limits.entries, &self.history);
+        if !has_room(
+            &mut self.history,
+            &mut self.spent,
+            self.state.sessions.len() + 2,
+        ) {
+            return Err(Unopened::NoMemory);
+        }
+        match open_session(self.alloc, &mut self.state, numbers) {
+            Ok(session) => {
+                let event = Event::Open;
+                self.history.push_reserved(Entry { caller, event });
+                self.last = Vec::new(self.alloc);
+                Ok(session)
+            }
+            Err(why) => {
+                self.spent = is_want(why.stop());
+                Err(why)
+            }
+        }
+    }
+
+    /// A session makes a call. Where it can't, the call comes back.
+    pub fn request(
+        &mut self,
+        caller: u32,
+        session: u64,
+        frame: Frame,
+    ) -> Result<(), (Frame, Unasked)>
+        requires light { IsLightCall (call_of_frame frame) }
+        ensures ok { OnOk result ((self.old.spent ≡ false) × AppliesOk self.old self.new
+            (record { caller = caller; event = Event.Request session frame }) Effect.Done
+            (outcome_of_event self.old (request_of session (call_of_frame frame)))) }
+        ensures err { IfErr result (λ refused. (refused.0 ≡ frame)
+            × AppliesErr self.old self.new (stop_of_unasked session refused.1)
+            (outcome_of_event self.old (request_of session (call_of_frame frame)))) }
+        ensures gone { IfErr result (λ refused. (w : ModelWorld) → model_of self.old ≡ Some w
+            → IsUnaskedBy (session_of w session) refused.1) }
+        ensures spent { self.old.spent ≡ true
+            → (result ≡ Err (frame, Unasked.NoMemory)) × (self.new ≡ self.old) }
+    {
+        let numbers = numbers_of(self.capacity, self.limits.entries, &self.history);
+        if !has_room(
+            &mut self.history,
+            &mut self.spent,
+            self.state.sessions.len() + 1,
+        ) {
+            return Err((frame, Unasked::NoMemory));
+        }
+        let mut splices = Vec::new(self.alloc);
+        match request(
+            self.alloc,
+            &mut self.state,
+            numbers,
+            session,
+            &frame,
+            &mut splices,
+        ) {
+            Ok(()) => {
+                let event = Event::Request { session, frame };
+                self.history.push_reserved(Entry { caller, event });
+                self.last = splices;
+                Ok(())
+            }
+            Err(why) => {
+                self.spent = is_want(why.stop(session));
+                Err((frame, why))
+            }
+        }
+    }
+
+    /// All that waits for a session is handed over, with what is seen, where its UI is to show it.
+    pub fn take(&mut self, caller: u32, session: u64) -> Result<Taken, Untaken>
+        ensures ok { IfOk result (λ taken. (self.old.spent ≡ false)
+            × AppliesOk self.old self.new (record { caller = caller; event = Event.Take session })
+            (effect_of_taken taken) (outcome_of_event self.old (take_of session))) }
+        ensures err { IfErr result (λ why. AppliesErr self.old self.new
+            (stop_of_untaken session why) (outcome_of_event self.old (take_of session))) }
+        ensures sendable { IfOk result (λ taken. GivesSendable (effect_of_taken taken)) }
+        ensures cells { IfOk result (λ taken. GivesFewCells (effect_of_taken taken)) }
+        ensures spent { self.old.spent ≡ true
+            → (result ≡ Err Untaken.NoMemory) × (self.new ≡ self.old) }
+    {
+        let numbers = numbers_of(self.capacity, self.limits.entries, &self.history);
+        if !has_room(
+            &mut self.history,
+            &mut self.spent,
+            self.state.sessions.len() + 1,
+        ) {
+            return Err(Untaken::NoMemory);
+        }
+        match take(self.alloc, &mut self.state, numbers, session) {
+            Ok(Taken::Items(batch)) => {
+                let event = Event::Take { session };
+                self.history.push_reserved(Entry { caller, event });
+                self.last = Vec::new(self.alloc);
+                Ok(Taken::Items(batch))
+            }
+            Ok(Taken::Nothing) => Ok(Taken::Nothing),
+            Ok(Taken::Over(cause)) => Ok(Taken::Over(cause)),
+            Err(why) => {
+                self.spent = is_want(why.stop(session));
+                Err(why)
+            }
+        }
+    }
+
+    /// A session ends. No memory is taken where no UI goes by it: there is room for its entry since
+    /// it was opened.
+    pub fn close(&mut self, caller: u32, session: u64) -> Result<(), Unclosed>
+        ensures ok { OnOk result ((self.old.spent ≡ false) × AppliesOk self.old self.new
+            (record { caller = caller; event = Event.Close session }) Effect.Closed
+            (outcome_of_event self.old (close_of session))) }
+        ensures err { IfErr result (λ why. AppliesErr self.old self.new
+            (stop_of_unclosed session why) (outcome_of_event self.old (close_of session))) }
+        ensures gone { IfErr result (λ why. (w : ModelWorld) → model_of self.old ≡ Some w
+            → IsUnclosedBy (session_of w session) why) }
+        ensures memory { IfErr result (λ why. (w : ModelWorld) → self.old.spent ≡ false
+            → model_of self.old ≡ Some w → ClosesNoUi w (close_of session)
+            → why ≢ Unclosed.NoMemory) }
+        ensures spent { self.old.spent ≡ true
+            → (result ≡ Err Unclosed.NoMemory) × (self.new ≡ self.old) }
+    {
+        if self.spent {
+            return Err(Unclosed::NoMemory);
+        }
+        let numbers = numbers_of(self.capacity, self.limits.entries, &self.history);
+        match close_session(self.alloc, &mut self.state, numbers, session) {
+            Ok(()) => {
+                let event = Event::Close { session };
+                self.history.push_reserved(Entry { caller, event });
+                self.last = Vec::new(self.alloc);
+                Ok(())
+            }
+            Err(why) => {
+                self.spent = is_want(why.stop(session));
+                Err(why)
+            }
+        }
+    }
+
     /// Applies an event that a caller brings. It gives what the event does; or, with the event,
     /// why it is refused, and then the world is as it was. Where memory is wanting the world is
-    /// spent: every later event is refused in the same way, and the history can still be read.
+    /// spent: every later event is refused in the same way, and the history can still be read. A
+    /// Close by which no UI goes takes no memory.
     pub fn apply(&mut self, caller: u32, event: Event) -> Result<Effect, (Event, Stop)>
         requires light { IsLightEvent (plain_event event) }
         ensures ok { IfOk result (λ effect. (self.old.spent ≡ false)
@@ -117,37 +297,29 @@ impl World {
             (outcome_of_event self.old (plain_event event))) }
         ensures sendable { IfOk result GivesSendable }
         ensures cells { IfOk result GivesFewCells }
+        ensures memory { IfErr result (λ refused. (w : ModelWorld) → self.old.spent ≡ false
+            → model_of self.old ≡ Some w → ClosesNoUi w (plain_event event)
+            → refused.1 ≢ Stop.NoMemory) }
+        ensures spent { self.old.spent ≡ true
+            → (result ≡ Err (event, Stop.NoMemory)) × (self.new ≡ self.old) }
     {
-        if self.spent {
-            return Err((event, Stop::NoMemory));
-        }
-        let numbers = Numbers {
-            capacity: self.capacity,
-            last: self.limits.entries - 1,
-            at: self.history.len() as u64,
-        };
-        let mut splices = Vec::new(self.alloc);
-        match happen(self.alloc, &mut self.state, numbers, &event, &mut splices) {
-            Ok(effect) => {
-                if !enters(&effect) {
-                    return Ok(effect);
-                }
-                match self.history.push(Entry { caller, event }) {
-                    Ok(()) => {
-                        self.last = splices;
-                        Ok(effect)
-                    }
-                    Err(failed) => {
-                        self.spent = true;
-                        let Entry { event, .. } = failed.value;
-                        Err((event, Stop::NoMemory))
-                    }
-                }
-            }
-            Err(stop) => {
-                self.spent = is_want(stop);
-                Err((event, stop))
-            }
+        match event {
+            Event::Open => match self.open(caller) {
+                Ok(session) => Ok(Effect::Opened(session)),
+                Err(why) => Err((Event::Open, why.stop())),
+            },
+            Event::Request { session, frame } => match self.request(caller, session, frame) {
+                Ok(()) => Ok(Effect::Done),
+                Err((frame, why)) => Err((Event::Request { session, frame }, why.stop(session))),
+            },
+            Event::Take { session } => match self.take(caller, session) {
+                Ok(taken) => Ok(taken.effect()),
+                Err(why) => Err((Event::Take { session }, why.stop(session))),
+            },
+            Event::Close { session } => match self.close(caller, session) {
+                Ok(()) => Ok(Effect::Closed),
+                Err(why) => Err((Event::Close { session }, why.stop(session))),
+            },
         }
     }
 

@@ -1,6 +1,6 @@
 -- inside: the bytes of a session on their way to calls, each step from the state before it.
 use Rattle.std.specs.Prelude.{◌≡◌, ℕ, ◌+◌, ◌<◌, ◌≤◌, List, [], ◌∷◌, ◌++◌, length, Option, Some, None, Result, Ok, Err}
-use Rattle.nv_io.specs.declared.ending.Flaw.{Flaw}
+use Rattle.nv_io.specs.declared.lanes.Flaw.{Flaw}
 use Rattle.nv_stream.specs.State.{with_piece}
 use Rattle.nv_stream.specs.Answers.{NeedsMore}
 use Rattle.nv_rpc.specs.Calls.{Call}
@@ -25,7 +25,7 @@ pub record IsReadable (s : Intake) : Type 0 where
   pub counted : s.number ≤ s.stream.start
 
 -- the state of an intake to which no byte has come
-pub record IsUnread (s : Intake) : Type 0 where
+pub record IsUnfed (s : Intake) : Type 0 where
   pub place : s.stream.start ≡ 0
   pub nothing : s.stream.held ≡ []
   pub none : s.number ≡ 0

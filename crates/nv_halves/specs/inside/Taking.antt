@@ -1,5 +1,5 @@
 -- inside: what a writer takes, and what it has written on its way.
-use Rattle.std.specs.Prelude.{◌≡◌, ℕ, List, [], ◌∷◌, ◌++◌, take, map, All, Option, Some, None}
+use Rattle.std.specs.Prelude.{◌≡◌, ℕ, List, [], ◌∷◌, ◌++◌, take, map, All, Option, Some, None, Result, Ok, Err}
 use Rattle.std.specs.Io.KnownBytes.{append_known}
 use Rattle.nv_turn.specs.Passes.{IsSamePass}
 use Rattle.nv_rpc.specs.Messages.{Sent, IsSendable}
@@ -14,59 +14,48 @@ use Rattle.nv_history.specs.Runs.{TakenBatch}
 use Rattle.nv_history.specs.Asking.{takes_by}
 use Rattle.nv_history.specs.Spoken.{bytes_of_messages, bytes_of_scene, ShowsIfGiven, AreSpoken, AreBytesOf}
 use Rattle.nv_world.specs.Contents.{plain_cause, sent_of_shared}
+use Rattle.nv_world.specs.Outcomes.{effect_of_taken}
+use Rattle.nv_world.specs.Worlds.{GivesSendable}
 use Rattle.nv_world.specs.declared.effect.Batch.{Batch}
 use Rattle.nv_world.specs.declared.effect.Cause.{Cause as WorldCause}
-use Rattle.nv_world.specs.declared.effect.Effect.{Effect as WorldEffect}
-use Rattle.nv_world.specs.declared.effect.Effect.TheVariants as effect
+use Rattle.nv_world.specs.declared.calls.Taken.{Taken}
+use Rattle.nv_world.specs.declared.calls.Taken.TheVariants as taken
+use Rattle.nv_world.specs.declared.calls.Untaken.{Untaken}
 use Rattle.nv_world.specs.declared.story.Start.{Start}
 use Rattle.nv_halves.specs.Passes.{WorldPass, world_of_run, out_of, IsFromWriter, GainedEach, IsOver}
-use Rattle.nv_halves.specs.Applying.{AppliesOnce}
+use Rattle.nv_halves.specs.Applying.{Visit, AddsEvent, AddsNothing, DoesEvent, AppliesOnce}
 use Rattle.nv_halves.specs.Halves.{WritesHalf}
 use Rattle.nv_halves.specs.inside.Insisting.{Stays}
 use Rattle.nv_halves.specs.declared.ends.WriterEnd.{WriterEnd}
 use Rattle.nv_halves.specs.declared.ends.WriterEnd.TheVariants as w
-use Rattle.nv_halves.specs.declared.insisting.Answer.{Answer}
-use Rattle.nv_halves.specs.declared.insisting.Answer.TheVariants as answer
-use Rattle.nv_halves.specs.declared.writer.Took.{Took}
-use Rattle.nv_halves.specs.declared.writer.Took.TheVariants as took
 use Rattle.nv_halves.specs.declared.writer.Written.{Written}
 use Rattle.nv_halves.specs.declared.writer.Written.TheVariants as written
 
 -- ---- what was taken
 
--- what an effect is to a writer; a take has no others
-abbrev pub taken_of_effect : WorldEffect → Took
-taken_of_effect (effect.Items batch) = took.Batch batch
-taken_of_effect effect.Nothing = took.Nothing
-taken_of_effect (effect.Over cause) = took.Over cause
-taken_of_effect (effect.Opened s) = took.NoMemory
-taken_of_effect effect.Done = took.NoMemory
-taken_of_effect effect.Closed = took.NoMemory
-
-abbrev pub what_was_taken : Answer → Took
-what_was_taken (answer.Done effect) = taken_of_effect effect
-what_was_taken (answer.Gone cause) = took.NoMemory
-what_was_taken answer.NoMemory = took.NoMemory
+-- what a take of a session came to
+abbrev pub TakesWith : Result Taken Untaken → ℕ → Visit → Type 0
+TakesWith (Ok given) s v =
+    DoesEvent (take_of s) (effect_of_taken given) v × GivesSendable (effect_of_taken given)
+TakesWith (Err why) s v = AddsNothing v
 
 -- the messages of a batch
 abbrev pub sent_in : Batch → List Sent
 sent_in batch = map sent_of_shared batch.messages.items
 
 -- a pass took these messages for a session, and a scene where its UI is to show the editor
-pub record IsTaken (start : Option Start) (number s : ℕ) (messages : List Sent)
-    (scene : Option Scene) (found after : List Entry) : Type 0 where
+pub record IsTaken (s : ℕ) (messages : List Sent) (scene : Option Scene) (v : Visit) : Type 0 where
   pub world : World
   pub later : World
   pub editor : Option ModelEditor
-  pub runs : world_of_run start found ≡ Some world
+  pub runs : world_of_run v.start v.found ≡ Some world
   pub shows : ShowsIfGiven editor scene
   pub gave : step world (take_of s) ≡ becomes later (gives messages editor)
-  pub entered : after ≡ found ++ record { caller = number; event = take_of s } ∷ []
+  pub entered : AddsEvent (take_of s) v
 
 -- a batch that can be spoken was taken
 pub record TakesBatch (p q : WorldPass) (s : ℕ) (batch : Batch) : Type 0 where
-  pub once : AppliesOnce p q
-      (λ found. IsTaken p.start p.number s (sent_in batch) batch.scene found q.seen)
+  pub once : AppliesOnce p q (IsTaken s (sent_in batch) batch.scene)
   pub sendable : All IsSendable (sent_in batch)
   pub sound : IsSoundIfThere batch.scene
 
@@ -77,11 +66,11 @@ pub record IsOverNow (q : WorldPass) (s : ℕ) (cause : WorldCause) : Type 0 whe
   pub over : IsOver world s (plain_cause cause)
 
 -- what a take of a session gave
-abbrev pub TakesOnce : Took → WorldPass → WorldPass → ℕ → Type 0
-TakesOnce (took.Batch batch) p q s = TakesBatch p q s batch
-TakesOnce took.Nothing p q s = Stays p q
-TakesOnce (took.Over cause) p q s = Stays p q × IsOverNow q s cause
-TakesOnce took.NoMemory p q s = Stays p q
+abbrev pub TakesOnce : Result Taken Untaken → WorldPass → WorldPass → ℕ → Type 0
+TakesOnce (Ok (taken.Items batch)) p q s = TakesBatch p q s batch
+TakesOnce (Ok taken.Nothing) p q s = Stays p q
+TakesOnce (Ok (taken.Over cause)) p q s = Stays p q × IsOverNow q s cause
+TakesOnce (Err why) p q s = Stays p q
 
 -- ---- a writer on its way
 

@@ -6,8 +6,8 @@ use Rattle.nv_turn.specs.Passes.{IsSamePass, PassState, TurnId}
 use Rattle.nv_io.specs.Faults.{Rose}
 use Rattle.nv_io.specs.Known.{append_items, prepend_items, IsNoItem, ForEachItem}
 use Rattle.nv_io.specs.Streams.{Gave}
-use Rattle.nv_io.specs.declared.ending.Ended.{Ended}
-use Rattle.nv_io.specs.declared.ending.Ended.TheVariants.{ReadFault, WriteFault, Quit, NoMemory}
+use Rattle.nv_io.specs.declared.lanes.Ended.{Ended}
+use Rattle.nv_io.specs.declared.lanes.Ended.TheVariants.{ReadFault, WriteFault, Quit, NoMemory}
 use Rattle.nv_history.specs.Events.{Entry}
 use Rattle.nv_history.specs.Asking.{own, takes_by, calls_of}
 use Rattle.nv_world.specs.declared.entry.Entry.{Entry as WorldEntry}

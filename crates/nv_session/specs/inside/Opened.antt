@@ -3,39 +3,20 @@ use Rattle.std.specs.Prelude.{◌≡◌, ℕ, List, Result, Ok, Err}
 use mathlib.Core.List.{IsPrefix}
 use Rattle.nv_turn.specs.Passes.{IsSamePass}
 use Rattle.nv_io.specs.Streams.{Gave}
-use Rattle.nv_io.specs.declared.ending.Ended.{Ended}
-use Rattle.nv_io.specs.declared.ending.Ended.TheVariants.{Quit, NoMemory}
+use Rattle.nv_io.specs.declared.lanes.Ended.{Ended}
+use Rattle.nv_io.specs.declared.lanes.Ended.TheVariants.{Quit, NoMemory}
 use Rattle.nv_history.specs.Events.{Entry}
 use Rattle.nv_history.specs.Asking.{takes_by, calls_of}
-use Rattle.nv_world.specs.declared.effect.Effect.{Effect}
-use Rattle.nv_world.specs.declared.effect.Effect.TheVariants as effect
+use Rattle.nv_world.specs.declared.calls.Unopened.{Unopened}
+use Rattle.nv_world.specs.declared.calls.Unopened.TheVariants as unopened
 use Rattle.nv_halves.specs.Passes.{WorldPass, OfEach, IsFromReader, IsFromWriter, GainedEach}
-use Rattle.nv_halves.specs.declared.ends.Refusal.{Refusal}
-use Rattle.nv_halves.specs.declared.ends.Refusal.TheVariants as refusal
-use Rattle.nv_halves.specs.declared.ends.Refused.{Refused}
 use Rattle.nv_session.specs.Connections.{EndsOf, ConnectionEnds, traffic_of}
 
--- the end of a connection whose opening was refused; an opening has two causes alone
-abbrev pub why_unopened : Refusal → Ended
-why_unopened (refusal.Ended entry) = Quit entry
-why_unopened refusal.NoMemory = NoMemory
-why_unopened (refusal.Stranger s) = NoMemory
-why_unopened (refusal.Held n) = NoMemory
-why_unopened (refusal.Gone cause) = NoMemory
-
--- the session that an effect opened; an opening has no others
-abbrev pub session_opened : Effect → Result ℕ Ended
-session_opened (effect.Opened s) = Ok s
-session_opened effect.Done = Err NoMemory
-session_opened (effect.Items batch) = Err NoMemory
-session_opened effect.Nothing = Err NoMemory
-session_opened (effect.Over cause) = Err NoMemory
-session_opened effect.Closed = Err NoMemory
-
--- what an opening came to
-abbrev pub what_was_opened : Result Effect Refused → Result ℕ Ended
-what_was_opened (Ok effect) = session_opened effect
-what_was_opened (Err refused) = Err (why_unopened refused.why)
+-- the session that was opened, or the end of a connection that has none
+abbrev pub what_was_opened : Result ℕ Unopened → Result ℕ Ended
+what_was_opened (Ok s) = Ok s
+what_was_opened (Err (unopened.Ended entry)) = Err (Quit entry)
+what_was_opened (Err unopened.NoMemory) = Err NoMemory
 
 -- Both halves of a session that is open, from what its passes had seen then.
 pub record ServesHalves {I S : Type 0} (t : EndsOf I S) (p q p_after q_after : WorldPass)

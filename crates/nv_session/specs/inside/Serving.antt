@@ -1,9 +1,9 @@
 -- inside: what the steps of a session do, each from the state of the session before it.
 use Rattle.std.specs.Prelude.{◌≡◌, ℕ, ◌+◌, ◌<◌, ◌≤◌, Bool, true, false, List, [], ◌∷◌, ◌++◌, length, take, Option, Some, None, Result, Ok, Err}
 use Rattle.std.specs.Io.KnownBytes.{append_known}
-use Rattle.nv_io.specs.declared.ending.Flaw.{Flaw}
-use Rattle.nv_io.specs.declared.ending.Ended.{Ended}
-use Rattle.nv_io.specs.declared.ending.Ended.TheVariants.{Closed, Malformed, Overflowed, ReadFault, WriteFault, Quit, NoMemory}
+use Rattle.nv_io.specs.declared.lanes.Flaw.{Flaw}
+use Rattle.nv_io.specs.declared.lanes.Ended.{Ended}
+use Rattle.nv_io.specs.declared.lanes.Ended.TheVariants.{Closed, Malformed, Overflowed, ReadFault, WriteFault, Quit, NoMemory}
 use Rattle.nv_stream.specs.State.{State, empty_state, with_piece}
 use Rattle.nv_stream.specs.Answers.{NeedsMore}
 use Rattle.nv_rpc.specs.Calls.{Call}
@@ -209,8 +209,7 @@ TakesPiece over (Ok done) piece old new =
     × (new.world ≡ old.world) × (new.painter ≡ old.painter) × (0 < length piece)
     × (length piece ≤ PIECE)
 TakesPiece over (Err ended) piece old new =
-    (length piece ≤ PIECE)
-    × ((out : Option (List ℕ)) → EndsIn over ended (old.stream.held ++ piece) old new out out)
+    (out : Option (List ℕ)) → EndsIn over ended (old.stream.held ++ piece) old new out out
 
 -- what a session did with a piece: it answered the calls that are whole by it and needs more bytes,
 -- or it ended
@@ -220,4 +219,4 @@ Turns over (Ok done) piece old new before after =
     ServesCalls (old.stream.held ++ piece) old new before after × IsReady new × NeedsMore new.stream
     × (0 < length piece) × (length piece ≤ PIECE)
 Turns over (Err ended) piece old new before after =
-    (length piece ≤ PIECE) × EndsIn over ended (old.stream.held ++ piece) old new before after
+    EndsIn over ended (old.stream.held ++ piece) old new before after

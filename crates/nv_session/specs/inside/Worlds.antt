@@ -1,7 +1,7 @@
 -- inside: what the events of the one session of a world come to.
 use Rattle.std.specs.Prelude.{◌≡◌, List, [], ◌∷◌, ◌++◌, Option, Some, None}
-use Rattle.nv_io.specs.declared.ending.Ended.{Ended}
-use Rattle.nv_io.specs.declared.ending.Ended.TheVariants.{Overflowed, Quit}
+use Rattle.nv_io.specs.declared.lanes.Ended.{Ended}
+use Rattle.nv_io.specs.declared.lanes.Ended.TheVariants.{Overflowed, Quit}
 use Rattle.nv_rpc.specs.Messages.{Sent}
 use Rattle.nv_screen.specs.declared.scene.Scene.{Scene}
 use Rattle.nv_history.specs.Events.{take_of, Entry, Cause, overflowed_at, quit_at, Effect, gives}

@@ -1,5 +1,5 @@
 //! The devices in memory that give others and take them back, against tables written by hand.
-ghost use Rattle.std.specs.Prelude.{◌≡◌, [], IfOk};
+ghost use Rattle.std.specs.Prelude.{◌≡◌, [], IfOk, Some};
 
 use nv_io::{
     Accepted, Ended, Files, Got, Lane, MemFiles, MemLane, MemPort, MemSink, MemSource, Port, Put,
@@ -9,7 +9,8 @@ use std::alloc::AllocError;
 use std::test::Fail;
 
 fn source_of(rt: &HostRuntime, bytes: &[u8]) -> Result<MemSource, AllocError>
-    ensures { IfOk result (λ s. (s.pieces.taken ≡ []) × (s.failures.faults ≡ 0)) }
+    ensures { IfOk result (λ s. (s.pieces.taken ≡ []) × (s.reads ≡ Some [])
+        × (s.failures.faults ≡ 0)) }
 {
     let bytes = Vec::from_slice(rt.alloc(), bytes)?;
     let cuts = vec![in rt.alloc(); 8usize]?;

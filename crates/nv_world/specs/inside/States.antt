@@ -1,18 +1,25 @@
 -- inside: the state of a world, and what stands for what.
-use Rattle.std.specs.Prelude.{◌≡◌, ℕ, ◌+◌, ◌≤◌, ◌<◌, ◌^◌, ◌==◌, ⊤, false, true, Option, Some, None, Result, Ok, Err}
+use Rattle.std.specs.Prelude.{◌≡◌, ℕ, ◌+◌, ◌≤◌, ◌<◌, ◌^◌, ⊤, false, true, List, [], ◌∷◌, Option, Some, None, Result, Ok, Err}
 use Rattle.std.specs.List.{AllByRecursion}
 use Rattle.nv_rpc.specs.Calls.{Call}
 use Rattle.nv_model.specs.Editors.{ModelEditor}
 use Rattle.nv_model.specs.Seen.{seen_of}
 use Rattle.nv_model.specs.Standing.{Stands, seen_now}
 use Rattle.nv_editor.specs.Sound.{AllSealed}
-use Rattle.nv_editor.specs.Uis.{has_ui}
 use Rattle.nv_scene.specs.Settling.{IsSettled}
 use Rattle.nv_dispatch.specs.Calls.{editor_after}
-use Rattle.nv_history.specs.Events.{Event, open_session, request_of, take_of, close_of, Stop as PlainStop}
+use Rattle.nv_history.specs.Events.{Cause, Stop as PlainStop}
+use Rattle.nv_history.specs.Sessions.{Session}
 use Rattle.nv_history.specs.Worlds.{World, Outcome, refuses, idles, becomes, is_live, session_of, outcome_of_frame, outcome_after_call}
 use Rattle.nv_world.specs.Contents.{IsEffect, plain_stop}
+use Rattle.nv_world.specs.Outcomes.{effect_of_taken, stop_of_unasked, stop_of_unclosed, stop_of_unopened, stop_of_untaken}
+use Rattle.nv_world.specs.declared.calls.Taken.{Taken}
+use Rattle.nv_world.specs.declared.calls.Unopened.{Unopened}
+use Rattle.nv_world.specs.declared.calls.Unasked.{Unasked}
+use Rattle.nv_world.specs.declared.calls.Untaken.{Untaken}
+use Rattle.nv_world.specs.declared.calls.Unclosed.{Unclosed}
 use Rattle.nv_world.specs.declared.effect.Effect.{Effect}
+use Rattle.nv_world.specs.declared.effect.Effect.TheVariants as effect
 use Rattle.nv_world.specs.declared.effect.Stop.{Stop}
 use Rattle.nv_world.specs.declared.effect.Stop.TheVariants.{NoMemory, Stranger, Gone, Held}
 use Rattle.nv_world.specs.declared.state.State.{State}
@@ -89,11 +96,28 @@ IsStopOf None wanted outcome = outcome ≡ wanted
 IsStopOf (Some stop) wanted outcome =
     (told : PlainStop) × (plain_stop stop ≡ Some told) × (outcome ≡ refuses told)
 
--- a close by which no UI goes: its session has none, and the entry isn't the last one that the
--- limits allow
-abbrev pub ClosesNoUi : World → Event → Type 0
-ClosesNoUi w (close_of s) =
-    (has_ui s w.editor.stage.uis ≡ false) × ((w.entries + 1 == w.limits.entries) ≡ false)
-ClosesNoUi w open_session = ⊥
-ClosesNoUi w (request_of s call) = ⊥
-ClosesNoUi w (take_of s) = ⊥
+-- what the answers of the four calls stand for
+abbrev pub opened_as : Result ℕ Unopened → Result Effect Stop
+opened_as (Ok s) = Ok (effect.Opened s)
+opened_as (Err why) = Err (stop_of_unopened why)
+
+abbrev pub called_as : {A : Type 0} → ℕ → Result A Unasked → Result Effect Stop
+called_as s (Ok made) = Ok effect.Done
+called_as s (Err why) = Err (stop_of_unasked s why)
+
+abbrev pub taken_as : ℕ → Result Taken Untaken → Result Effect Stop
+taken_as s (Ok taken) = Ok (effect_of_taken taken)
+taken_as s (Err why) = Err (stop_of_untaken s why)
+
+abbrev pub closed_as : {A : Type 0} → ℕ → Result A Unclosed → Result Effect Stop
+closed_as s (Ok made) = Ok effect.Closed
+closed_as s (Err why) = Err (stop_of_unclosed s why)
+
+-- how many of these sessions aren't closed
+abbrev pub one_if_live : Option Cause → ℕ
+one_if_live None = 1
+one_if_live (Some cause) = 0
+
+abbrev pub count_live : List Session → ℕ
+count_live [] = 0
+count_live (x ∷ xs) = one_if_live x.closed + count_live xs

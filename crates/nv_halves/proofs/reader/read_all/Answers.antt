@@ -1,8 +1,9 @@
 use Rattle.std.proofs.Common.{rules, ◌≡◌, ℕ, [], ◌++◌, length, refl, ap, inl, inr, sym, ◌∙◌, arith}
 use Rattle.std.specs.Io.KnownBytes.{IsAtEnd}
+use Rattle.nv_io.proofs.StreamLemmas.{gave_none, gave_then}
 use Rattle.nv_stream.specs.State.{stream_end}
 use Rattle.nv_halves.specs.Reading.{WasRead}
-use Rattle.nv_halves.proofs.Intaking.{gave_none, gave_then, makes_begun, makes_then, made_length, held_more, stops_then, stops_on, stops_held, read_stops, no_read_fault}
+use Rattle.nv_halves.proofs.Intaking.{makes_begun, makes_then, made_length, held_more, stops_then, stops_on, stops_held, read_stops, no_read_fault}
 use Rattle.nv_halves.proofs.reader.read_all.Goals as goal
 
 pub pieces-init : goal.pieces-init

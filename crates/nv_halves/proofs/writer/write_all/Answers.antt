@@ -1,6 +1,6 @@
 use Rattle.std.proofs.Common.{refl, arith}
 use Rattle.nv_halves.specs.Passes.{plain_pass}
-use Rattle.nv_halves.proofs.WritingOn.{writes_begun, ends_unread}
+use Rattle.nv_halves.proofs.WritingOn.{writes_begun}
 use Rattle.nv_halves.proofs.writer.write_all.Goals as goal
 
 pub takes-init : goal.takes-init
@@ -14,9 +14,3 @@ pub returns-in-Ends-clause-wrote : goal.returns-in-Ends-clause-wrote
 returns-in-Ends-clause-wrote g c =
     let w = rw c.in-Ends.is at c.write_once-next.ensures.writes in
     w (plain_pass c.args.pass) _ c.takes.invariant.writes
-
-pub returns-then-not-is_read-clause-wrote : goal.returns-then-not-is_read-clause-wrote
-returns-then-not-is_read-clause-wrote g c =
-    let idle = rw c.in-Idle.is at c.write_once-next.ensures.writes in
-    let so = idle (plain_pass c.args.pass) _ c.takes.invariant.writes in
-    ends_unread _ _ _ _ _ c.drop_due-pass.ensures (plain_pass c.args.pass) _ so

@@ -1,15 +1,15 @@
 use Rattle.std.proofs.Common.{◌≡◌, [], ℕ, List, map, Option, Some, None, Err, refl, ap, sym, subst, inl, inr, ⊎_elim, ◌∙◌}
 use Rattle.std.proofs.lemmas.Option.{none-some}
 use Rattle.nv_io.specs.Streams.{Tells}
-use Rattle.nv_io.specs.declared.ending.Ended.TheVariants as ended
+use Rattle.nv_io.specs.declared.lanes.Ended.TheVariants as ended
 use Rattle.nv_replay.specs.declared.ending.ReplayEnd.TheVariants as replay
 use Rattle.nv_replay.specs.declared.ending.WriteEnd.TheVariants as write
 use Rattle.nv_words.specs.Commands.{PlainCommand, command_asked, plain_command}
 use Rattle.nv_words.specs.declared.command.Refusal.{Refusal}
 use Rattle.nv_words.specs.declared.command.Refusal.TheVariants as refusal
 use Rattle.nv_world.specs.Contents.{plain_entries}
+use Rattle.nv_io.proofs.StreamLemmas.{each_none}
 use Rattle.nv_session.proofs.Leaving.{ends_before}
-use Rattle.nv_session.proofs.Serving.{gave_none}
 use Rattle.nv_run.specs.Commands.{RunsAs, usual_start}
 use Rattle.nv_run.specs.Statuses.{line_of_refusal}
 use Rattle.nv_run.specs.declared.serving.ServerEnd.TheVariants as server
@@ -66,7 +66,7 @@ returns-in-Err-clause-session g c = λ taken.
       ended.NoMemory,
       [],
       one,
-      gave_none _ _,
+      each_none _,
       ends_before (usual_start outbox) (g.I.Source.left c.args.input.now) _ c.args.kept.now.entries c.requires.empty,
       (λ e. cc (e)),
       (λ e. cc (e)),

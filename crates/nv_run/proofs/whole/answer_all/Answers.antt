@@ -1,4 +1,5 @@
 use Rattle.std.proofs.Common.{◌≡◌, ◌<◌, ◌^◌, length, arith, List, ℕ, [], Option, Some, sym, ◌∙◌, subst, rules}
+use Rattle.std.specs.List.{concat}
 use Rattle.std.specs.Io.KnownBytes.{prepend_known}
 use Rattle.nv_world.specs.Contents.{plain_entries}
 use Rattle.nv_session.specs.Ends.{SessionEnds}
@@ -20,7 +21,7 @@ returns-clause-whole g c = λ z.
     let s = asked_embed _ _ 4096 embed_is_asked (c.run-status.ensures.session embed_is_taken) in
     let kept = plain_entries c.run-status.new.kept.entries in
     let left = c.run-status.new.input.left in
-    let gave : Some c.args.bytes.items ≡ prepend_known s.1 (Some left) = search (rules, s.3.left) in
+    let gave : Some c.args.bytes.items ≡ prepend_known (concat s.1) (Some left) = search (rules, s.3.gave.left) in
     let few : length c.args.bytes.items < 2 ^ 62 = search (rules, arith, c.requires.short) in
     let before : Some c.new-output.result.taken ≡ Some [] = search rules in
     ended_well (usual_start 4096) s.0 c.args.bytes.items s.1 (Some left) kept (Some []) (Some c.run-status.new.output.taken) gave few
@@ -32,7 +33,7 @@ returns-clause-malformed g c = λ z.
     let s = asked_embed _ _ 4096 embed_is_asked (c.run-status.ensures.session embed_is_taken) in
     let kept = plain_entries c.run-status.new.kept.entries in
     let left = c.run-status.new.input.left in
-    let gave : Some c.args.bytes.items ≡ prepend_known s.1 (Some left) = search (rules, s.3.left) in
+    let gave : Some c.args.bytes.items ≡ prepend_known (concat s.1) (Some left) = search (rules, s.3.gave.left) in
     let before : Some c.new-output.result.taken ≡ Some [] = search rules in
     ended_badly (usual_start 4096) s.0 c.args.bytes.items s.1 (Some left) kept (Some []) (Some c.run-status.new.output.taken) gave
     (subst (λ (o : Option (List ℕ)). SessionEnds (usual_start 4096) s.0 s.1 (Some left) kept o (Some c.run-status.new.output.taken)) before s.4)

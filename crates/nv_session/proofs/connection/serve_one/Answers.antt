@@ -9,7 +9,7 @@ pub returns-in-Ok-opened-clause-served : goal.returns-in-Ok-opened-clause-served
 returns-in-Ok-opened-clause-served g c some =
     let t : EndsOf g.row.I.Denot g.row.S.Denot = record { taken = g.I.Source.taken; left = g.I.Source.left; sent = g.S.Sink.taken; faults = g.S.Sink.faults } in
     let out = c.serve_session.result in
-    let opens : OpensSession (plain_pass c.args.passes.0) (plain_pass c.open-first.result.0) c.in-Ok-opened.session =
-    subst (λ r. Opens r (plain_pass c.args.passes.0) (plain_pass c.open-first.result.0)) c.in-Ok-opened.is c.open-first.ensures in
+    let opens : OpensSession (plain_pass c.args.passes.0) (plain_pass c.open_session-first.result.0) c.in-Ok-opened.session =
+    subst (λ r. Opens r (plain_pass c.args.passes.0) (plain_pass c.open_session-first.result.0)) c.in-Ok-opened.is c.open_session-first.ensures in
     subst (λ (n : ℕ). ServesSession t (plain_pass c.args.passes.0) (plain_pass c.args.passes.1) (plain_pass out.passes.0) (plain_pass out.passes.1) c.args.input out.input c.args.output out.output n out.how) (sym c.serve_session.ensures.session)
-    (opened_serves t (plain_pass c.args.passes.0) (plain_pass c.open-first.result.0) (plain_pass c.args.passes.1) (plain_pass out.passes.0) (plain_pass out.passes.1) c.args.input out.input c.args.output out.output c.in-Ok-opened.session out.how opens c.serve_session.ensures.serves)
+    (opened_serves t (plain_pass c.args.passes.0) (plain_pass c.open_session-first.result.0) (plain_pass c.args.passes.1) (plain_pass out.passes.0) (plain_pass out.passes.1) c.args.input out.input c.args.output out.output c.in-Ok-opened.session out.how opens c.serve_session.ensures.serves)

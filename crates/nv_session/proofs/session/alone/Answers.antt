@@ -1,13 +1,13 @@
 use Rattle.std.proofs.Common.{[]}
 use Rattle.nv_halves.specs.Passes.{start_of}
-use Rattle.nv_session.proofs.Serving.{gave_none}
+use Rattle.nv_io.proofs.StreamLemmas.{each_none}
 use Rattle.nv_session.proofs.Leaving.{ends_before}
 use Rattle.nv_session.proofs.session.alone.Goals as goal
 
 pub returns-in_default-clause-ends : goal.returns-in_default-clause-ends
 returns-in_default-clause-ends g c =
-    ([], gave_none _ _, ends_before (start_of c.args.world.now) (g.I.Source.left c.args.input.now) _ c.args.world.now.history c.requires.fresh)
+    ([], each_none _, ends_before (start_of c.args.world.now) (g.I.Source.left c.args.input.now) _ c.args.world.now.history c.requires.fresh)
 
 pub returns-in_default-new-clause-ends : goal.returns-in_default-new-clause-ends
 returns-in_default-new-clause-ends g c =
-    ([], gave_none _ _, ends_before (start_of c.args.world.now) (g.I.Source.left c.args.input.now) _ c.args.world.now.history c.requires.fresh)
+    ([], each_none _, ends_before (start_of c.args.world.now) (g.I.Source.left c.args.input.now) _ c.args.world.now.history c.requires.fresh)

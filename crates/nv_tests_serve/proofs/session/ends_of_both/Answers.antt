@@ -6,7 +6,7 @@ use denote.Struct.Field.{row_field}
 use denote.Struct.Tuple.{TupleAt, type_at}
 use denote.Param.Send.{IsSend, param_send, arg_send, param_sync, shr_send}
 use denote.Param.SendFields.{declared_send, as_row_send}
-use Rattle.nv_io.proofs.ending.Ended.TheSendSync as end
+use Rattle.nv_io.proofs.lanes.Ended.TheSendSync as end
 use Rattle.nv_session.proofs.Captures.{seven_send, heap_sends, turn_sends, bells_send, pass_sends}
 use Rattle.nv_tests_serve.proofs.session.ends_of_both.Goals as goal
 

@@ -1,6 +1,6 @@
-use Rattle.std.proofs.Common.{◌≡◌, ℕ, Option, Some, option_map, sym, ap, ◌∙◌, refl, length}
-use Rattle.nv_history.specs.Events.{Cause, gone_by, held_with}
-use Rattle.nv_history.specs.Worlds.{refuses, live_request_outcome}
+use Rattle.std.proofs.Common.{◌≡◌, Option, Some, option_map, sym, ap, ◌∙◌, refl, length}
+use Rattle.nv_history.specs.Events.{Cause, entry_of, gone_by, held_with}
+use Rattle.nv_history.specs.Worlds.{live_request_outcome}
 use Rattle.nv_world.specs.Contents.{plain_cause}
 use Rattle.nv_world.specs.declared.effect.Cause.{Cause as KeptCause}
 use Rattle.nv_world.proofs.Finding.{held_is, min_is}
@@ -10,10 +10,13 @@ pub returns-in-Some-clause-stop : goal.returns-in-Some-clause-stop
 returns-in-Some-clause-stop c = λ w s call y same is.
     let shut : Some (plain_cause c.in-Some.cause) ≡ y.closed =
     sym (ap (λ (o : Option KeptCause). option_map plain_cause o) c.in-Some.is) ∙ is.closed in (
-      gone_by c.entry.result,
+      gone_by (entry_of (plain_cause c.in-Some.cause)),
       refl,
-      sym (ap (λ (o : Option Cause). live_request_outcome o w s y call) shut) ∙ ap (λ (e : ℕ). refuses (gone_by e)) (sym c.entry.ensures),
+      sym (ap (λ (o : Option Cause). live_request_outcome o w s y call) shut),
     )
+
+pub returns-in-Some-clause-gone : goal.returns-in-Some-clause-gone
+returns-in-Some-clause-gone c = λ y is. sym is.closed ∙ ap (λ (o : Option KeptCause). option_map plain_cause o) c.in-Some.is
 
 pub returns-then-waiting-capacity-clause-stop : goal.returns-then-waiting-capacity-clause-stop
 returns-then-waiting-capacity-clause-stop c = λ w s call y same is. (

@@ -5,13 +5,28 @@ use Rattle.nv_rpc.specs.Frames.{call_of_frame}
 use Rattle.nv_dispatch.specs.Calls.{CallOutcome, editor_after}
 use Rattle.nv_history.specs.Events.{done}
 use Rattle.nv_history.specs.Worlds.{after_settled_entry, outcome_of_frame, world_after_call}
+use Rattle.nv_world.specs.Outcomes.{stop_of_unasked}
 use Rattle.nv_world.specs.declared.effect.Effect.TheVariants.{Done}
 use Rattle.nv_world.specs.declared.session.Session.{Session as Kept}
 use Rattle.nv_world.specs.inside.Sessions.{IsSession}
-use Rattle.nv_world.specs.inside.States.{StandsNumbered, with_next}
+use Rattle.nv_world.specs.inside.States.{StandsNumbered, called_outcome, with_next}
 use Rattle.nv_world.proofs.Standings.{settled_kept}
-use Rattle.nv_world.proofs.Steppings.{ok_becomes, plain_is}
+use Rattle.nv_world.proofs.Steppings.{ok_becomes, plain_is, stop_refuses}
 use Rattle.nv_world.proofs.state.request.Goals as goal
+
+pub returns-in-Some-clause-steps : goal.returns-in-Some-clause-steps
+returns-in-Some-clause-steps c = λ w at.
+    let call : Call = call_of_frame c.args.frame.now in
+    stop_refuses c.args.state.now c.args.numbers (stop_of_unasked c.args.session c.in-Some.stop) (called_outcome w c.args.session call) _
+    (c.in-Some.ensures.stop w call at.stands.numbers.capacity_is
+    (subst (λ (n : ℕ). AllZip (IsSession n) c.deref.result.now w.sessions) at.stands.numbers.capacity_is
+    (subst (λ (l : List Kept). AllZip (IsSession w.capacity) l w.sessions) (sym c.deref.ensures.value) at.stands.state.sessions.pairs)))
+
+pub returns-in-Some-clause-gone : goal.returns-in-Some-clause-gone
+returns-in-Some-clause-gone c = λ w at.
+    c.in-Some.ensures.gone w
+    (subst (λ (n : ℕ). AllZip (IsSession n) c.deref.result.now w.sessions) at.stands.numbers.capacity_is
+    (subst (λ (l : List Kept). AllZip (IsSession w.capacity) l w.sessions) (sym c.deref.ensures.value) at.stands.state.sessions.pairs))
 
 pub returns-clause-steps : goal.returns-clause-steps
 returns-clause-steps c = λ w at.

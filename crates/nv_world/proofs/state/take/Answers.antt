@@ -2,8 +2,10 @@ use Rattle.std.proofs.Common.{◌≡◌, ℕ, suc, Bool, true, false, List, Opti
 use Rattle.nv_history.specs.Events.{Cause}
 use Rattle.nv_history.specs.Sessions.{Session}
 use Rattle.nv_history.specs.Worlds.{is_nothing_due, is_scene_due, take_outcome, some_take_outcome, empty_take_outcome}
+use Rattle.nv_world.specs.Outcomes.{effect_of_taken}
 use Rattle.nv_world.specs.declared.session.Session.{Session as Kept}
 use Rattle.nv_world.specs.inside.Sessions.{IsSession}
+use Rattle.nv_world.specs.inside.States.{Changes, taken_as}
 use Rattle.nv_world.proofs.Finding.{found, nothing_is, session_absent, something_is}
 use Rattle.nv_world.proofs.Standings.{due_is}
 use Rattle.nv_world.proofs.Steppings.{at_outcome, stranger_refused, ok_idles, nobody_has}
@@ -26,7 +28,7 @@ returns-then-not-is_any_due-clause-steps c = λ w at.
     c.is_scene_due-is_due.ensures ∙ due_is c.args.state.now w c.args.session f.y _ _ stands c.uis.ensures.uis was.shown in
     let none : is_nothing_due f.y.waiting c.is_scene_due-is_due.result ≡ true =
     nothing_is c.is_any_due.result _ (c.is_any_due.ensures w.capacity f.y was) c.if-not-is_any_due.true in
-    ok_idles c.args.state.now _ c.args.numbers c.empty_take.result _ c.empty_take.ensures.scene
+    ok_idles c.args.state.now _ c.args.numbers (effect_of_taken c.empty_take.result) _ c.empty_take.ensures.scene
     (ap (λ (o : Option Session). take_outcome o w c.args.session) f.is_of
     ∙ ap (λ (b : Bool). some_take_outcome (is_nothing_due f.y.waiting b) b w c.args.session f.y) (sym due)
     ∙ ap (λ (b : Bool). some_take_outcome b c.is_scene_due-is_due.result w c.args.session f.y) none
@@ -44,9 +46,12 @@ returns-clause-steps c = λ w at.
     let some : is_nothing_due f.y.waiting c.is_scene_due-is_due.result ≡ false =
     something_is c.is_any_due.result _ (c.is_any_due.ensures w.capacity f.y was) c.if-not-is_any_due.false in
     let number : c.args.session ≡ suc c.in-Some.place = omega (arith, c.in-Some.ensures.0) in
-    at_outcome c.args.state.now c.take_some.new.state c.args.numbers c.take_some.result _ _
+    at_outcome c.args.state.now c.take_some.new.state c.args.numbers (taken_as c.args.session c.take_some.result) _ _
     (ap (λ (o : Option Session). take_outcome o w c.args.session) f.is_of
     ∙ ap (λ (b : Bool). some_take_outcome (is_nothing_due f.y.waiting b) b w c.args.session f.y) (sym due)
     ∙ ap (λ (b : Bool). some_take_outcome b c.is_scene_due-is_due.result w c.args.session f.y) some
     ∙ ap (λ (s : ℕ). some_take_outcome false c.is_scene_due-is_due.result w s f.y) number)
-    (c.take_some.ensures.steps w f.y at f.there)
+    (subst
+    (λ (s : ℕ). Changes c.args.state.now c.take_some.new.state c.args.numbers (taken_as s c.take_some.result)
+    (some_take_outcome false c.is_scene_due-is_due.result w (suc c.in-Some.place) f.y))
+    (sym number) (c.take_some.ensures.steps w f.y at f.there))

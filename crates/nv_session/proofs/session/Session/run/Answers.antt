@@ -8,14 +8,14 @@ use Rattle.nv_session.specs.inside.Leaving.{LeavesWith, IsClosedSo, leaves_open}
 use Rattle.nv_session.specs.inside.Serving.{state_of}
 use Rattle.nv_session.specs.inside.Worlds.{entries_in, IsEndedBy}
 use Rattle.nv_session.proofs.Lone.{alone_if, opened_rests}
-use Rattle.nv_session.proofs.Serving.{gave_none}
+use Rattle.nv_io.proofs.StreamLemmas.{each_none}
 use Rattle.nv_session.proofs.Steps.{begun, due_has}
 use Rattle.nv_session.proofs.Leaving.{closed_has, ends_before, ends_opened, left_ends, read_fault, write_fault}
 use Rattle.nv_session.proofs.session.Session.run.Goals as goal
 
 pub returns-in_default-clause-ends : goal.returns-in_default-clause-ends
 returns-in_default-clause-ends g c =
-    ([], gave_none _ _, ends_before (start_of c.args.world.now) (g.I.Source.left c.args.input.now) _ c.open.new.world.history c.in_default.ensures.err)
+    ([], each_none _, ends_before (start_of c.args.world.now) (g.I.Source.left c.args.input.now) _ c.open.new.world.history c.in_default.ensures.err)
 
 pub returns-in_default-clause-has : goal.returns-in_default-clause-has
 returns-in_default-clause-has g c = inl c.in_default.ensures.err
@@ -32,7 +32,7 @@ returns-in-Some-clause-ends g c =
     let h = entries_in c.open.new.world in
     let due = subst (λ (l : List Entry). HasNothingDue start l) (sym c.in-Ok.ensures.entries) (opened_rests start c.requires.capacity) in (
       [],
-      gave_none _ _,
+      each_none _,
       ends_opened start c.in-Some.ended (g.I.Source.left c.args.input.now) _ h c.in-Ok.ensures.entries due
           (subst (λ (d : Start). IsEndedBy (Some c.in-Some.ended) (cause_after d h)) c.in-Ok.ensures.begins c.in-Some.ensures),
     )

@@ -1,12 +1,14 @@
-use Rattle.std.proofs.Common.{rules, ◌≡◌, ℕ, [], ◌++◌, length, refl, ap, inl, inr, sym, ◌∙◌, subst, arith}
+use Rattle.std.proofs.Common.{rules, ◌≡◌, ℕ, [], ◌∷◌, ◌++◌, length, refl, ap, inl, inr, sym, ◌∙◌, subst, arith}
+use Rattle.std.specs.List.{concat}
 use Rattle.std.specs.Io.KnownBytes.{IsAtEnd}
+use Rattle.nv_io.proofs.StreamLemmas.{each_none, each_then}
 use Rattle.nv_stream.specs.State.{stream_end}
 use Rattle.nv_world.specs.declared.story.Start.{Start}
 use Rattle.nv_halves.specs.Reading.{WasRead}
 use Rattle.nv_session.specs.inside.Alone.{IsAlone}
 use Rattle.nv_session.specs.inside.Serving.{state_of}
 use Rattle.nv_session.specs.inside.Worlds.{entries_in}
-use Rattle.nv_session.proofs.Serving.{served_then, gave_none, gave_then, served_length, held_more, leaves_turn, leaves_full, not_read_fault, not_write_fault}
+use Rattle.nv_session.proofs.Serving.{served_piece, served_length, held_more, leaves_turn, leaves_full, not_read_fault, not_write_fault}
 use Rattle.nv_session.proofs.Steps.{served_new, ends_there, ends_all, alone_has}
 use Rattle.nv_session.proofs.Leaving.{ends_has}
 use Rattle.nv_session.specs.Sending.{HasSession}
@@ -16,7 +18,7 @@ pub loop-self-init : goal.loop-self-init
 loop-self-init g c =
     let n = c.requires.new in
     record {
-      served = ([], gave_none _ _, served_new (state_of c.args.self.now c.args.world.now) _ n);
+      served = ([], each_none _, served_new (state_of c.args.self.now c.args.world.now) _ n);
       ready = c.requires.ready;
       begins = refl;
       waits = inl n.nothing;
@@ -35,9 +37,9 @@ returns-in-Err-clause-leaves g c =
     let second = state_of c.loop-self.self c.loop-self.world in
     let last = state_of c.turn.new.self c.turn.new.world in
     let there = ends_there second i.ready i.waits in (
-      i.served.0 ++ t.0,
-      gave_then _ _ _ _ _ _ i.served.0 t.0 i.served.1 t.1,
-      leaves_turn c.in-Err.ended i.served.0 t.0 (g.I.Source.left c.turn.new.input) first second last _ _ _ there.0 c.requires.new i.served.2 there.1 there.2 t.2.0 t.2.1,
+      i.served.0 ++ t.0 ∷ [],
+      each_then _ _ _ i.served.0 (t.0 ∷ []) i.served.1 t.1,
+      leaves_turn c.in-Err.ended i.served.0 t.0 (g.I.Source.left c.turn.new.input) first second last _ _ _ there.0 c.requires.new i.served.2 there.1 there.2 t.2,
     )
 
 pub returns-in-Err-clause-has : goal.returns-in-Err-clause-has
@@ -45,7 +47,7 @@ returns-in-Err-clause-has g c =
     let second = state_of c.loop-self.self c.loop-self.world in
     let last = state_of c.turn.new.self c.turn.new.world in
     subst (λ (d : Start). HasSession d (entries_in c.turn.new.world)) c.loop-self.invariant.begins
-    (ends_has (IsAtEnd (g.I.Source.left c.turn.new.input)) c.in-Err.ended _ second last _ _ c.in-Err.ensures.turns.2.1)
+    (ends_has (IsAtEnd (g.I.Source.left c.turn.new.input)) c.in-Err.ended _ second last _ _ c.in-Err.ensures.turns.2)
 
 pub loop-self-smaller : goal.loop-self-smaller
 loop-self-smaller g c =
@@ -64,9 +66,9 @@ loop-self-preserved g c =
     let sized : length c.turn.new.buffer ≡ 65536 = search (rules, i.sized) in
     record {
       served = (
-        i.served.0 ++ t.0,
-        gave_then _ _ _ _ _ _ i.served.0 t.0 i.served.1 t.1,
-        served_then i.served.0 t.0 first second third _ _ _ i.served.2 t.2.0,
+        i.served.0 ++ t.0 ∷ [],
+        each_then _ _ _ i.served.0 (t.0 ∷ []) i.served.1 t.1,
+        served_piece i.served.0 t.0 first second third _ _ _ i.served.2 t.2.0,
       );
       ready = t.2.1;
       begins = c.in_default.ensures.begins ∙ i.begins;
@@ -83,8 +85,8 @@ returns-clause-leaves g c =
     let i = c.loop-self.invariant in
     let first = state_of c.args.self.now c.args.world.now in
     let second = state_of c.loop-self.self c.loop-self.world in
-    let all = served_length i.served.0 first second _ _ c.requires.new i.served.2 in
-    let read : WasRead (g.I.Source.left c.loop-self.input) i.served.0 = inr (omega (arith, all, c.taken.ensures)) in
+    let all = served_length (concat i.served.0) first second _ _ c.requires.new i.served.2 in
+    let read : WasRead (g.I.Source.left c.loop-self.input) (concat i.served.0) = inr (omega (arith, all, c.taken.ensures)) in
     let e = ends_all second i.ready i.waits in
     let alone = subst (λ (d : Start). IsAlone d (entries_in c.loop-self.world)) i.begins i.ready.alone in (
       i.served.0,

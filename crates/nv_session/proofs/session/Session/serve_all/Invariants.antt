@@ -1,5 +1,6 @@
 use Rattle.std.proofs.Common.{◌≡◌, ℕ, ◌+◌, ◌-◌, ◌^◌, ◌≤◌, List, [], length}
-use Rattle.nv_io.specs.Streams.{Gave}
+use Rattle.std.specs.List.{concat}
+use Rattle.nv_io.specs.Streams.{GaveEach, words_of}
 use Rattle.nv_stream.specs.Answers.{NeedsMore}
 use Rattle.nv_halves.specs.Passes.{start_of}
 use Rattle.nv_session.specs.inside.Serving.{IsReady, ServesCalls, bytes_waiting, state_of}
@@ -7,8 +8,9 @@ use Rattle.nv_session.proofs.session.Session.serve_all.Given as goal
 
 abbrev pub invariant-loop-self : goal.invariant-loop-self
 invariant-loop-self g l = record {
-  served : (bytes : List ℕ) × Gave (g.I.Source.taken l.initial.input) (g.I.Source.taken l.input) (g.I.Source.left l.initial.input) (g.I.Source.left l.input) bytes
-      × ServesCalls bytes (state_of l.initial.self l.initial.world) (state_of l.self l.world) (g.S.Sink.taken l.initial.output) (g.S.Sink.taken l.output);
+  served : (pieces : List (List ℕ))
+      × GaveEach (words_of g.I.Source.taken g.I.Source.left g.I.Source.reads l.initial.input) (words_of g.I.Source.taken g.I.Source.left g.I.Source.reads l.input) pieces
+      × ServesCalls (concat pieces) (state_of l.initial.self l.initial.world) (state_of l.self l.world) (g.S.Sink.taken l.initial.output) (g.S.Sink.taken l.output);
   ready : IsReady (state_of l.self l.world);
   begins : start_of l.world ≡ start_of l.initial.world;
   waits : NeedsMore l.self.stream;

@@ -1,5 +1,5 @@
 use Rattle.std.proofs.Common.{sym, subst}
-use Rattle.nv_io.specs.declared.ending.Ended.{Ended}
+use Rattle.nv_io.specs.declared.lanes.Ended.{Ended}
 use Rattle.nv_session.specs.inside.Serving.{EndsIn, bytes_waiting, state_of}
 use Rattle.nv_session.proofs.Gathering.{grows_alike, steps_out, fault_on, fault_at_end}
 use Rattle.nv_session.proofs.session.Session.serve_some.Goals as goal
