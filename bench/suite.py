@@ -1,8 +1,12 @@
 #!/usr/bin/python3
 """Measures a suite of 200 tests, each with an editor of its own, a text, a mark and a screen: at
-nvimd, at Neovim (`nvim` on the path) as it is installed (`--clean`) and bare, without the plugins
-that come with it (`-u NONE`), by the same fixtures. Prints milliseconds a test, as pytest tells
-them, and those of a processor, of pytest and the editors together: the best of some rounds.
+nvimd by the fixtures of the plugin, and at Neovim (`nvim` on the path), which each test starts as a
+child by `nvim --embed` and kills at its end, as it is installed (`--clean`) and bare, without the
+plugins that come with it (`-u NONE`); and at a Neovim of which the next one starts while a test
+runs, as the plugin does it with nvimd.
+
+Prints milliseconds a test, as pytest tells them, and those of a processor, of pytest and the
+editors together: the best of some rounds, in each of which every suite is run.
 
 Wants Debian's python3-msgpack, python3-pytest and neovim.
 """
@@ -19,19 +23,37 @@ from nvimd.program import TOP
 from session import processor_time, tell_load
 
 TESTS = 200
-ROUNDS = 3
+ROUNDS = 5
+CLEAN = ["nvim", "--clean", "--headless", "-n", "--embed"]
+BARE = ["nvim", "--headless", "-u", "NONE", "-i", "NONE", "-n", "--embed"]
+FRESH = """
+@pytest.fixture
+def nvimd():
+    session = package.start(COMMAND)
+    yield session
+    session.kill()
+"""
+AHEAD = """
+started = [package.start(COMMAND)]
+
+@pytest.fixture
+def nvimd():
+    session = started.pop()
+    started.append(package.start(COMMAND))
+    yield session
+    session.process.kill()
+"""
 SERVERS = {
-    "nvimd": None,
-    "Neovim": ["nvim", "--clean", "--headless", "-n", "--listen"],
-    "bare": ["nvim", "--headless", "-u", "NONE", "-i", "NONE", "-n", "--listen"],
+    "nvimd": "",
+    "Neovim": FRESH.replace("COMMAND", repr(CLEAN)),
+    "bare": FRESH.replace("COMMAND", repr(BARE)),
+    "ahead": AHEAD.replace("COMMAND", repr(CLEAN)),
 }
 SUITE = f"""
 import pytest
 
-@pytest.fixture
-def nvimd_command():
-    return COMMAND
-
+import nvimd as package
+FIXTURE
 @pytest.mark.parametrize("number", range({TESTS}))
 def test_a_mark_on_a_screen(nvimd, number):
     screen = nvimd.screen(60, 12)
@@ -44,11 +66,11 @@ def test_a_mark_on_a_screen(nvimd, number):
 TOLD = re.compile(rf"{TESTS} passed in ([\d.]+)s")
 
 
-def seconds(folder, command):
+def seconds(folder, fixture):
     """The seconds of one round, as pytest tells them, and those of a processor."""
     path = os.path.join(folder, "test_suite.py")
     with open(path, "w", encoding="utf-8") as file:
-        file.write(SUITE.replace("COMMAND", repr(command)))
+        file.write(SUITE.replace("FIXTURE", fixture))
     places = [os.path.join(TOP, "python"), os.environ.get("PYTHONPATH", "")]
     environment = {**os.environ, "NVIMD": nvimd.program(), "PYTHONPATH": os.pathsep.join(places)}
     words = [sys.executable, "-m", "pytest", "-q", "-p", "nvimd.plugin", path]
@@ -68,15 +90,13 @@ def main():
     rounds = words.parse_args().rounds
     tell_load()
     with tempfile.TemporaryDirectory() as folder:
-        found = {
-            name: list(map(min, zip(*[seconds(folder, command) for _ in range(rounds)])))
-            for name, command in SERVERS.items()
-        }
+        each = [[seconds(folder, it) for it in SERVERS.values()] for _ in range(rounds)]
+    found = dict(zip(SERVERS, (list(map(min, zip(*taken))) for taken in zip(*each))))
     print(f"    {'ms a test':16}", *[f"{name:>8}  ratio" for name in found])
     for number, what in enumerate(("in all", "of a processor")):
         ours = found["nvimd"][number]
-        each = [(taken[number] / TESTS * 1e3, ours / taken[number]) for taken in found.values()]
-        print(f"    {what:16}", *[f"{taken:8.1f} {ratio:6.2f}" for taken, ratio in each])
+        row = [(taken[number] / TESTS * 1e3, ours / taken[number]) for taken in found.values()]
+        print(f"    {what:16}", *[f"{taken:8.1f} {ratio:6.2f}" for taken, ratio in row])
     return 0
 
 

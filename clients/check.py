@@ -1,27 +1,20 @@
-"""What the checks of this folder share: one way to compare and to count, the words of a script, and
-runs of the program to its end."""
+"""What checks share: one way to compare and to count, and the words of a script."""
 
-import os
-import subprocess
 import sys
 import threading
 
-import nvimd
-from nvimd.command import Words, limit, run  # for the scripts
-from nvimd.program import TOP
+from nvimd.command import Words, run  # for the scripts
 
-CLIENTS = os.path.dirname(os.path.abspath(__file__))
-DOCS = os.path.join(TOP, "docs")
-LONG = 300  # seconds for what ends by itself
-MOST, WIDTH = 10, 300  # failures that are told, and characters of each value in them
+MOST, WIDTH = 10, 300  # findings that are told, and characters of each value in them
 
 
 class Check:
-    """What passed and what failed, of all threads together."""
+    """What passed and what failed, of all threads together; the first findings in words."""
 
     def __init__(self):
         self.lock = threading.Lock()
         self.passed = self.failed = 0
+        self.findings = []
 
     def same(self, what, got, wanted):
         with self.lock:
@@ -31,11 +24,16 @@ class Check:
             self.failed += 1
             if self.failed <= MOST:
                 told = f"{what}: got {repr(got)[:WIDTH]}, not {repr(wanted)[:WIDTH]}"
-                print(told, file=sys.stderr)
+                self.findings.append(told)
+
+    def counts(self):
+        return f"{self.passed} passed, {self.failed} failed"
 
     def end(self):
-        """Tells the counts; the status."""
-        print(f"{self.passed} passed, {self.failed} failed")
+        """Tells the findings and the counts of a script; its status."""
+        for told in self.findings:
+            print(told, file=sys.stderr)
+        print(self.counts())
         return 1 if self.failed else 0
 
 
@@ -44,10 +42,3 @@ def seeded(doc, seed=1):
     words = Words(doc)
     words.add_argument("seed", nargs="?", type=int, default=seed, metavar="SEED")
     return words.parse_args().seed
-
-
-def finished(*words, data=b"", into=subprocess.PIPE):
-    """What the program writes for these words and this input, its status, and its line."""
-    given = {"input": data, "stdout": into, "stderr": subprocess.PIPE, "timeout": LONG}
-    done = subprocess.run([nvimd.program(), *words], **given)
-    return done.stdout, done.returncode, done.stderr.decode().rstrip("\n")

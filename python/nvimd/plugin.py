@@ -12,18 +12,21 @@ test fails.
         \"\"\", A={"bold": True, "reverse": True})
 """
 
+import os
 import re
+import signal
 
 import pytest
 
 from .book import Book
-from .errors import Error
+from .errors import Ended, Error
 from .expect import Expectation
 from .server import Server
 
 TIMEOUT = 10  # seconds that a test waits for an answer
 LONGEST = 200  # letters of a file's name
 SESSIONS = 8  # of a server at once; each costs its start a little
+RIGHT = (0, -signal.SIGKILL, -signal.SIGTERM)  # statuses of a server that was told to end
 
 
 def pytest_addoption(parser):
@@ -32,39 +35,83 @@ def pytest_addoption(parser):
     group.addoption("--snapshot-update", action="store_true", help=told)
 
 
-@pytest.fixture
+@pytest.fixture(scope="session")
 def nvimd_command():
     """What starts the server, up to the word for its address; None is `nvimd serve`. A test may
     put another one in its place."""
     return None
 
 
+class Servers:
+    """The servers of a run, one for each test: the next one starts while a test runs, and the end
+    of one that was killed isn't waited for."""
+
+    def __init__(self, folder):
+        self.folder = folder  # of their books
+        self.count = 0
+        self.next = None
+        self.killed = []  # processes that haven't ended yet
+
+    def start(self):
+        self.count += 1
+        book = str(self.folder / f"{self.count}.book")
+        return Server("--sessions", str(SESSIONS), book=book, wait=False)
+
+    def session(self):
+        """One that nobody has used, and a session of it, which it opens while the next one is
+        started."""
+        server, self.next = self.next or self.start(), None
+        session = server.connect()
+        self.next = self.start()
+        return server, session
+
+    def give_back(self, server):
+        """Kills it; an `Ended` where it, or one before it, had ended otherwise."""
+        server.kill(wait=False)
+        self.killed.append(server.process)
+        self.reap()
+
+    def reap(self):
+        over = [process for process in self.killed if process.poll() is not None]
+        self.killed = [process for process in self.killed if process not in over]
+        for process in over:
+            if process.returncode not in RIGHT:
+                raise Ended(f"the server ended with status {process.returncode}")
+
+    def end(self):
+        if self.next:
+            self.give_back(self.next)
+        for process in self.killed:
+            process.wait()
+        self.reap()
+
+
 @pytest.fixture(scope="session")
-def nvimd_books(tmp_path_factory):
-    """The folder of the books of this run, which pytest keeps for some runs."""
-    return tmp_path_factory.mktemp("nvimd")
+def nvimd_servers(tmp_path_factory):
+    """The servers of this run. Their books are in a folder that pytest keeps for some runs."""
+    servers = Servers(tmp_path_factory.mktemp("nvimd"))
+    yield servers
+    servers.end()
 
 
 @pytest.fixture
-def nvimd_server(request, nvimd_books, nvimd_command):
-    """A fresh server, for many sessions; `nvimd` is one of them."""
-    book, words = None, []
-    if nvimd_command is None:
-        words = ["--sessions", str(SESSIONS)]
-        name = re.sub(r"\W+", "-", request.node.nodeid).strip("-")[-LONGEST:]
-        book = str(nvimd_books / f"{name}.book")
-    server = Server(*words, book=book, command=nvimd_command)
-    request.node.nvimd_server = server
-    yield server
-    server.kill()
-
-
-@pytest.fixture
-def nvimd(nvimd_server):
+def nvimd(request, nvimd_servers, nvimd_command):
     """A session of an editor of its own."""
-    with nvimd_server.connect() as session:
-        session.timeout = TIMEOUT
+    if nvimd_command:
+        server = Server(command=nvimd_command)
+        session = server.connect()
+    else:
+        server, session = nvimd_servers.session()
+    request.node.nvimd_server, session.timeout = server, TIMEOUT
+    with session:
         yield session
+    nvimd_servers.give_back(server)
+
+
+@pytest.fixture
+def nvimd_server(request, nvimd):
+    """The server of `nvimd`, for more sessions."""
+    return request.node.nvimd_server
 
 
 @pytest.fixture
@@ -80,12 +127,17 @@ def pytest_runtest_makereport(item, call):
     report = outcome.get_result()
     server = getattr(item, "nvimd_server", None)
     if report.failed and call.when == "call" and server and server.book:
-        report.sections.append(("nvimd", kept(server)))
+        report.sections.append(("nvimd", kept(server, item.nodeid)))
 
 
-def kept(server):
-    """What is told of the book of a server, which ends by that."""
+def kept(server, test):
+    """What is told of the book of a server, which ends by that, and has the test's name then."""
     status = server.quit(TIMEOUT)
+    if os.path.exists(server.book):
+        name = re.sub(r"\W+", "-", test).strip("-")[-LONGEST:]
+        path = os.path.join(os.path.dirname(server.book), f"{name}.book")
+        os.replace(server.book, path)
+        server.book = path
     try:
         entry = last_entry(Book(server.book))
     except Error as error:

@@ -46,8 +46,8 @@ class Screen:
 
     @property
     def rows(self):
-        """Its rows as texts."""
-        return ["".join(text for text, _ in map(known, row)) for row in self.cells]
+        """Its rows as texts; a cell that isn't known is a space."""
+        return ["".join([cell[0] if cell else " " for cell in row]) for row in self.cells]
 
     def __str__(self):
         return "\n".join(row.rstrip() for row in self.rows)
@@ -70,13 +70,16 @@ class Screen:
     # ---- of a session
 
     def attach(self, width, height):
-        """Attaches it as a UI of this size."""
+        """Attaches it as a UI of this size, and waits until it is drawn."""
+        before = self.flushes
         try:
             self.session.call("nvim_ui_attach", *clamped(width, height), OPTIONS)
         except Fault:
             self.session.listeners.remove(self._hears)
             raise
-        return self.settle()
+        while self.flushes == before:
+            self.session.read()
+        return self
 
     def resize(self, width, height):
         self.session.call("nvim_ui_try_resize", *clamped(width, height))

@@ -85,7 +85,9 @@ class Session:
 
     def post(self, method, *params):
         """Sends a request; its number, for `answer`."""
-        return self.post_all([(method, params)])[0]
+        self.msgid += 1
+        self.send(packed([0, self.msgid, method, params]))
+        return self.msgid
 
     def post_all(self, calls):
         """Sends requests in one piece, each a name and its arguments; their numbers."""
@@ -303,19 +305,22 @@ def socket_at(address):
 
 def connect(address, ext_hook=handle):
     """A session of the server at an address: the path of a Unix socket, or `host:port`."""
-    connection = socket_at(address)
+    return session_over(socket_at(address), ext_hook)
+
+
+def session_over(connection, ext_hook=handle):
     session = Session(connection.fileno(), connection.fileno(), ext_hook)
     session.connection = connection
     return session
 
 
-def connect_soon(address, process, timeout):
-    """The same, of a server that has just been started, once it listens."""
+def socket_soon(address, process, timeout):
+    """A socket that is connected to a server which was started as this process, once it listens."""
     late = time.monotonic() + timeout
     pause = 0.0002
     while True:
         try:
-            return connect(address)
+            return socket_at(address)
         except Ended as ended:
             if process.poll() is not None:
                 raise Ended(f"the server ended with status {process.returncode}") from None

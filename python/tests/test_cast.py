@@ -2,13 +2,14 @@
 
 import json
 
-import pyte
 import pytest
-from PIL import Image
 
 import nvimd as package
 from nvimd.book import frames
 from nvimd.cast import Film, cast
+
+pyte = pytest.importorskip("pyte")
+Image = pytest.importorskip("PIL.Image")
 
 
 def folded(lines):

@@ -29,7 +29,7 @@ def test_it_ends_with_its_buffer(nvimd):
     assert text.lines is None
 
 
-@pytest.mark.parametrize("seed", [1, 2, 3])
+@pytest.mark.seeds(1, 2, 3)
 def test_it_is_the_text_through_random_changes(nvimd, seed):
     draw, text = random.Random(seed), nvimd.follow()
     for n in range(100):

@@ -1,5 +1,6 @@
 """The plugin for pytest: its fixtures, expected screens, snapshots, the book of a failed test."""
 
+import os
 import re
 import time
 
@@ -72,6 +73,45 @@ def test_an_editor_is_fresh_and_soon_there():
         server.kill()
     print(f"the fastest of 20: {min(times) * 1e3:.1f} ms")
     assert min(times) < 0.1
+
+
+def test_the_next_server_starts_while_a_test_runs(pytester):
+    pytester.makepyfile(
+        """
+        import pytest
+
+        @pytest.mark.parametrize("number", range(3))
+        def test_it(nvimd, nvimd_server, nvimd_servers, number):
+            assert nvimd.api.buf_get_lines(0, 0, -1, True) == [""]
+            nvimd.api.buf_set_lines(0, 0, -1, True, ["mine"])
+            print("now", nvimd_server.process.pid, "next", nvimd_servers.next.process.pid)
+        """
+    )
+    result = pytester.runpytest("-p", "nvimd.plugin", "-s")
+    result.assert_outcomes(passed=3)
+    pairs = re.findall(r"now (\d+) next (\d+)", result.stdout.str())
+    first, second, third = pairs
+    assert (first[1], second[1]) == (second[0], third[0])
+    pids = {pid for pair in pairs for pid in pair}
+    assert len(pids) == 4 and not any(os.path.exists(f"/proc/{pid}") for pid in pids)
+
+
+def test_a_server_that_ends_by_itself_fails_its_test(pytester):
+    pytester.makepyfile(
+        """
+        import signal
+
+        def test_it(nvimd_server):
+            nvimd_server.process.send_signal(signal.SIGSEGV)
+            nvimd_server.process.wait()
+
+        def test_the_next_one(nvimd):
+            assert nvimd.api.buf_line_count(0) == 1
+        """
+    )
+    result = pytester.runpytest("-p", "nvimd.plugin")
+    result.assert_outcomes(passed=2, errors=1)
+    assert "the server ended with status -11" in result.stdout.str()
 
 
 def test_a_failed_test_leaves_its_book(pytester):

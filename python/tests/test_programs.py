@@ -1,6 +1,7 @@
 """Every script and program: `--help`, words that are wrong, and what isn't there, in one line."""
 
 import os
+import pathlib
 import socket
 import sys
 
@@ -12,11 +13,10 @@ PROGRAMS = {
     "nvimd.call": [sys.executable, "-m", "nvimd.call"],
     "nvimd.cast": [sys.executable, "-m", "nvimd.cast"],
 }
-for folder in ("clients", "bench"):
-    for name in sorted(os.listdir(os.path.join(TOP, folder))):
-        path = os.path.join(TOP, folder, name)
-        if name.endswith(".py") and os.access(path, os.X_OK):
-            PROGRAMS[f"{folder}/{name}"] = ["/usr/bin/python3", path]
+for folder in ("clients", "bench", "examples"):
+    for path in sorted(pathlib.Path(TOP, folder).rglob("*.py")):
+        if os.access(path, os.X_OK):
+            PROGRAMS[f"{folder}/{path.name}"] = ["/usr/bin/python3", str(path)]
 
 
 @pytest.mark.parametrize("name", PROGRAMS)
@@ -69,6 +69,9 @@ def cut(tmp_path, book):
         ("clients/picture.py", ["/dev/null", "ADDRESS"]),
         ("clients/typist.py", ["ADDRESS"]),
         ("clients/marker.py", ["ADDRESS"]),
+        ("examples/checker.py", ["ADDRESS"]),
+        ("examples/front_end.py", ["ADDRESS"]),
+        ("examples/todo_plugin.py", ["ADDRESS"]),
     ],
 )
 @pytest.mark.parametrize("what", ["nowhere", "deaf"])

@@ -29,7 +29,7 @@ def test_it_follows_its_size_and_goes(nvimd):
         screen.resize(20, 5)
 
 
-@pytest.mark.parametrize("seed", [1, 2])
+@pytest.mark.seeds(1, 2)
 def test_the_next_reply_settles_it(nvimd, seed):
     draw, screen = random.Random(seed), nvimd.screen(40, 12)
     for n in range(200):

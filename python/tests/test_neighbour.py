@@ -1,25 +1,22 @@
-#!/usr/bin/python3
-"""Has a Neovim attach to a buffer of a server by a channel of its own: what the server tells it it
+"""A Neovim attaches to a buffer of a server by a channel of its own: what the server tells it it
 doesn't know, and says so by nvim_error_event each time.
 
 For ten seconds behind some edits the server's memory stays flat, and the channel still answers. The
-book has what Neovim said once for each event, and some entries for each edit and no more. Wants
-Debian's python3-msgpack and neovim.
+book has what Neovim said once for each event, and some entries for each edit and no more.
 """
 
-import os
-import tempfile
+import shutil
 import time
 
+import pytest
+
 import nvimd
-from check import Check, Words, limit, run
 
-
+SECONDS = 10
 NEOVIM = ["nvim", "--clean", "--headless", "--embed"]
 EDITS = 20
 MOST_MEMORY = 1  # MB that the server may grow by
 MOST_ENTRIES = 10  # of the book for each edit: a call, what of it is taken, an answer of each side
-MOST_SECONDS = 60  # besides those that are waited
 
 
 def remote(neovim, channel, method, *params):
@@ -53,21 +50,12 @@ def recorded(check, book):
     check.same("the book is short", len(book.entries) < EDITS * MOST_ENTRIES, True)
 
 
-def main():
-    words = Words(__doc__)
-    words.add_argument("--seconds", type=int, default=10, metavar="N", help="behind the edits")
-    seconds = words.parse_args().seconds
-    limit(seconds + MOST_SECONDS)
-    check = Check()
-    with tempfile.TemporaryDirectory() as folder:
-        path = os.path.join(folder, "book")
-        with nvimd.Server(book=path) as server, nvimd.start(NEOVIM) as neovim:
-            beside(check, server, neovim, seconds)
-            neovim.kill()
-            check.same("status", server.quit(), 0)
-        recorded(check, nvimd.Book(path))
-    return check.end()
-
-
-if __name__ == "__main__":
-    run(main)
+@pytest.mark.skipif(shutil.which("nvim") is None, reason="no neovim")
+def test_a_neovim_that_is_told_what_it_does_not_know(request, check, tmp_path):
+    path = str(tmp_path / "book")
+    seconds = request.config.getoption("seconds") or SECONDS
+    with nvimd.Server(book=path) as server, nvimd.start(NEOVIM) as neovim:
+        beside(check, server, neovim, seconds)
+        neovim.kill()
+        check.same("status", server.quit(), 0)
+    recorded(check, nvimd.Book(path))

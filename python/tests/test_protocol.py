@@ -1,11 +1,10 @@
-#!/usr/bin/python3
-"""Holds docs/PROTOCOL.md against the program: its methods are those that the program answers, each
-with the parameters and the type of result that nvim_get_api_info tells; each example of calls gives
-what stands behind it, is refused by it, tells these events, or draws this batch; each example of a
+"""docs/PROTOCOL.md beside the program: its methods are those that the program answers, each with
+the parameters and the type of result that nvim_get_api_info tells; each example of calls gives what
+stands behind it, is refused by it, tells these events, or draws this batch; each example of a
 message, an input or a book is answered by the messages, or by the status and the line, that stand
 behind it; and the limits that some thousand calls reach are where the page has them.
 
-Each method, fault, event and status must have an example. Wants Debian's python3-msgpack.
+Each method, fault, event and status must have an example.
 """
 
 import os
@@ -13,11 +12,12 @@ import re
 import subprocess
 import tempfile
 
+import pytest
+
 import nvimd
-from check import DOCS, Check, Words, finished, run
 from examples import calls_in, handle, value_in
 from nvimd.values import packed, unpacker
-
+from runs import DOCS, finished
 
 ENTRY = re.compile(r"\[`(nvim_\w+)`\]\([^)]*\)`\(([^)]*)\)` (\w+)")
 EXAMPLE = re.compile(r"`(nvim_\w+\([^`]*)` gives `([^`]*)`")
@@ -89,11 +89,11 @@ def events(calls):
     return told
 
 
-class Page(Check):
+class Page:
     """docs/PROTOCOL.md, each paragraph in one line."""
 
-    def __init__(self):
-        super().__init__()
+    def __init__(self, check):
+        self.same = check.same
         with open(os.path.join(DOCS, "PROTOCOL.md"), encoding="utf-8") as file:
             self.text = file.read().partition("\n### Call by call\n")[0]
         self.lines = re.sub(r"\s*\n\s+", " ", self.text)
@@ -219,15 +219,6 @@ class Page(Check):
             self.same(f"the limit of {name}", given[-2:], [None, refusal])
 
 
-def main():
-    Words(__doc__).parse_args()
-    page = Page()
-    page.methods()
-    page.examples()
-    page.messages()
-    page.limits()
-    return page.end()
-
-
-if __name__ == "__main__":
-    run(main)
+@pytest.mark.parametrize("part", [Page.methods, Page.examples, Page.messages, Page.limits])
+def test_it_is_as_the_page_tells_it(check, part):
+    part(Page(check))

@@ -1,39 +1,25 @@
-#!/usr/bin/python3
-"""Runs the stories of docs/rows (docs/rows/README.md) through the program, and compares what
-sessions are sent byte by byte.
+"""Runs stories of docs/rows (docs/rows/README.md) through the program, and compares what sessions
+are sent byte by byte.
 
 A story of one session goes through `embed`, its input whole and then byte by byte; one of several
 sessions through `serve`, one call after another. Each story without raw bytes is also made into a
 book with the outputs that the rows have, which `replay --check` judges.
-
-Wants Debian's python3-msgpack.
 """
 
 import difflib
-import glob
 import os
 import select
-import shutil
-import signal
 import subprocess
 import tempfile
 import time
-from concurrent.futures import ThreadPoolExecutor
 
 import nvimd
-from check import DOCS, LONG, TOP, Check, Words, run
 from examples import packed, unpacker, written
 from nvimd.book import cut as pieces_of
 from nvimd.session import socket_at
-from row_file import Wrong, stories_in
+from runs import LONG
 
-
-ROWS = os.path.join(DOCS, "rows")
-BOOKS = os.path.join(TOP, "crates", "book_check")
-CODEC = "codec.rows"  # has forms of its own
-AT_ONCE = 4
 PATIENCE = 60  # seconds for an answer
-MOST_BYTES = 1 << 16  # of a book in the gate
 SINGLE = 1 << 16  # bytes that are written one by one; what is after them is written at once
 MOST_TOLD = 6  # differences of a story
 WIDTH = 400
@@ -517,53 +503,6 @@ def replayed(program, story):
     return run
 
 
-# ---- the books of the gate
-
-
-def files_of_books():
-    """The files of crates/book_check that the rows give: name and bytes."""
-    found, names, lines = {}, [], []
-    for path in files_of([]):
-        subject = os.path.basename(path).removesuffix(".rows")
-        for number, story in enumerate(stories_in(path), 1):
-            book = Written(story) if has_book(story) else None
-            if book and len(book.data) <= MOST_BYTES:
-                name = f"{subject}-{number:02}.book"
-                found[f"data/{name}"] = book.data
-                names.append(name)
-                lines.append(f"{name}\n{book.line}\n")
-    found["args"] = "".join(f"{name}\n" for name in names).encode()
-    found["stdout"] = "".join(lines).encode()
-    return found
-
-
-def write_books():
-    shutil.rmtree(os.path.join(BOOKS, "data"), ignore_errors=True)
-    os.mkdir(os.path.join(BOOKS, "data"))
-    found = files_of_books()
-    for name, data in found.items():
-        with open(os.path.join(BOOKS, name), "wb") as file:
-            file.write(data)
-    print(f"{len(found) - 2} books, {sum(map(len, found.values()))} bytes")
-    return 0
-
-
-def check_books():
-    """Whether the books are those of the rows."""
-    wanted, there = files_of_books(), {}
-    books = os.listdir(os.path.join(BOOKS, "data"))
-    for name in ["args", "stdout", *(f"data/{name}" for name in books)]:
-        with open(os.path.join(BOOKS, name), "rb") as file:
-            there[name] = file.read()
-    check = Check()
-    for name in sorted({*wanted, *there}):
-        same = name in wanted and wanted.get(name) == there.get(name)
-        check.same(f"{name} is that of its story (or else --books)", same, True)
-    if len(wanted) == 2:
-        raise nvimd.Error("no story has a book")
-    return check.end()
-
-
 # ---- all
 
 
@@ -578,54 +517,3 @@ def runs_of(program, story):
         yield lambda: served(program, story)
     if has_book(story):
         yield lambda: replayed(program, story)
-
-
-def files_of(names):
-    """The files that the words name, or all."""
-    found = names or sorted(glob.glob(os.path.join(ROWS, "*.rows")))
-    return [os.path.relpath(name) for name in found if os.path.basename(name) != CODEC]
-
-
-def asked_runs(program, asked):
-    """Each story that the words ask for, with its runs; files that can't be read fail."""
-    runs, wrong = [], []
-    for path in files_of(asked.files):
-        try:
-            stories = stories_in(path)
-        except (Wrong, OSError, UnicodeDecodeError) as error:
-            wrong.append(error)
-            continue
-        for story in stories:
-            if asked.only in (None, story.title):
-                runs.append((story, list(runs_of(program, story))))
-    return runs, wrong
-
-
-def main():
-    words = Words(__doc__)
-    words.add_argument("files", nargs="*", metavar="FILE", help="all of docs/rows without any")
-    words.add_argument("--only", metavar="TITLE", help="this story alone")
-    told = "write the books of crates/book_check, and nothing else"
-    words.add_argument("--books", action="store_true", help=told)
-    told = "with --books: look whether they are those of the rows"
-    words.add_argument("--check", action="store_true", help=told)
-    asked = words.parse_args()
-    if asked.books:
-        return check_books() if asked.check else write_books()
-    signal.signal(signal.SIGPIPE, signal.SIG_IGN)
-    runs, wrong = asked_runs(nvimd.program(), asked)
-    passed, failed = 0, len(wrong)
-    print(*wrong, sep="\n", end="\n" if wrong else "")
-    with ThreadPoolExecutor(AT_ONCE) as pool:
-        begun = [[pool.submit(run) for run in several] for _, several in runs]
-        for several in begun:
-            wrong = [text for run in several for text in run.result().wrong]
-            print(*wrong, sep="\n", end="\n" if wrong else "")
-            failed += bool(wrong)
-            passed += not wrong
-    print(f"{passed} passed, {failed} failed")
-    return 1 if failed or not passed else 0
-
-
-if __name__ == "__main__":
-    run(main)

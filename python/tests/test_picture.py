@@ -1,27 +1,26 @@
-#!/usr/bin/python3
-"""Looks at the pictures of clients/picture.py cell by cell: each has the background and the text's
-colour of the screen that a client of its own folds, and a text where that has one. The same screen
-gives the same bytes, whether from a child, a socket, a book or what `replay` writes of one; and
-what can't be drawn is named in one line.
-
-Wants Debian's python3-msgpack, python3-pil and fonts-dejavu-core.
+"""The pictures of clients/picture.py cell by cell: each has the background and the text's colour of
+the screen that a client of its own folds, and a text where that has one. The same screen gives the
+same bytes, whether from a child, a socket, a book or what `replay` writes of one; and what can't
+be drawn is named in one line.
 """
 
 import os
 import subprocess
-import tempfile
 
-from PIL import Image
+import pytest
 
 import nvimd
-from check import CLIENTS, DOCS, Words, run
 from nvimd.screen import OPTIONS
 from nvimd.values import packed
-from picture import screen_of_server
+from runs import CLIENTS, DOCS
 from scenes import FIRST, FLAGS, SECOND, Bridge, Scenes, flags_in, write_calls
+
+Image = pytest.importorskip("PIL.Image")
+from nvimd.picture import FONTS
+from picture import screen_of_server  # of the clients
 from ui import calls_in
 
-
+pytestmark = pytest.mark.skipif(not os.path.exists(FONTS.format("")), reason="no fonts-dejavu-core")
 SIZES = [(80, 24), (33, 9)]
 README_SIZE = (72, 18)
 SEEN = 0.4  # of the way from the background to the text's colour, in some pixel of each text
@@ -131,6 +130,10 @@ def ran_picture(*words):
 class Pictures(Scenes):
     """What pictures the program's screens make."""
 
+    def __init__(self, check, folder):
+        super().__init__(check, folder)
+        self.first = write_calls(self.path("first"), FIRST)
+
     def run(self, name, *words):
         """A picture: its path; the program's status and lines are kept."""
         path = self.path(name)
@@ -147,12 +150,11 @@ class Pictures(Scenes):
 
     def cells(self):
         """Pictures of two sizes and moments, over a child and over a socket."""
-        first = write_calls(self.path("first"), FIRST)
         bridge = Bridge(self.embed, self.path("socket"))
         for size in SIZES:
             word = "{}x{}".format(*size)
             for name, path, calls in [
-                ("early", first, FIRST),
+                ("early", self.first, FIRST),
                 ("late", self.calls, FIRST + SECOND),
             ]:
                 made = [
@@ -178,7 +180,11 @@ class Pictures(Scenes):
         book = Book(recorded(SIZES[0], FIRST + SECOND))
         pairs = [("book", book.values), ("replayed", book.replayed)]
         files = [book.write(self.path(name), values) for name, values in pairs]
-        word = "{}x{}".format(*SIZES[0])
+        given = "--size", "{}x{}".format(*SIZES[0]), "--calls"
+        shown = {
+            name: self.picture(name, *given, path, self.child)
+            for name, path in (("early", self.first), ("late", self.calls))
+        }
         early = str(book.entry_of[len(FIRST)])
         for number, path in enumerate(files):
             for name, words in [
@@ -187,8 +193,7 @@ class Pictures(Scenes):
                 ("early", ["--entry", early]),
             ]:
                 made = self.picture(f"book {number} {name}", "--book", path, *words, [])
-                with open(self.path(f"{name} {word} 0"), "rb") as file:
-                    self.same(f"{name} of {path}", made == file.read(), True)
+                self.same(f"{name} of {path}", made == shown[name], True)
         self.bad_books(*files, book)
 
     def bad_books(self, path, replayed, book):
@@ -242,14 +247,9 @@ class Pictures(Scenes):
         self.same("no folder", (ran.returncode, ran.stderr), (1, said))
 
 
-def main():
-    Words(__doc__).parse_args()
-    with tempfile.TemporaryDirectory() as folder:
-        check = Pictures(folder)
-        for part in (check.cells, check.readme, check.books, check.bad_words):
-            part()
-    return check.end()
+PARTS = [Pictures.cells, Pictures.readme, Pictures.books, Pictures.bad_words]
 
 
-if __name__ == "__main__":
-    run(main)
+@pytest.mark.parametrize("part", PARTS)
+def test_pictures(check, tmp_path, part):
+    part(Pictures(check, str(tmp_path)))

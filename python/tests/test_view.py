@@ -1,7 +1,6 @@
-#!/usr/bin/python3
-"""Looks at clients/view.py under pseudo-terminals: what stands on them, read by pyte, is the screen
-that a client of its own folds, at each size; and however it ends, there is one line that says why,
-and the terminal is as it was. Wants Debian's python3-msgpack and python3-pyte.
+"""clients/view.py under pseudo-terminals: what stands on them, read by pyte, is the screen that a
+client of its own folds, at each size; and however it ends, there is one line that says why, and the
+terminal is as it was.
 """
 
 import fcntl
@@ -11,19 +10,20 @@ import select
 import signal
 import struct
 import subprocess
-import tempfile
 import termios
 import time
 import unicodedata
 
-import pyte
+import pytest
 
 import nvimd
-from check import CLIENTS, Words, run
 from nvimd.screen import OPTIONS
-from picture import screen_of_server
+from runs import CLIENTS
 from scenes import FIRST, FLAGS, SECOND, Bridge, Scenes, flags_in, write_calls
 
+pyte = pytest.importorskip("pyte")
+pytest.importorskip("PIL")
+from picture import screen_of_server  # of the clients
 
 SIZES = [(80, 24), (47, 13)]
 OTHER_SIZES = [(63, 17), (90, 30)]
@@ -274,14 +274,9 @@ class Views(Scenes):
         self.same("the server's status", served.process.wait(PATIENCE), 0)
 
 
-def main():
-    Words(__doc__).parse_args()
-    with tempfile.TemporaryDirectory() as folder:
-        check = Views(folder)
-        for part in (check.sizes, check.cuts, check.bad_words, check.bad_terminals, check.several):
-            part()
-    return check.end()
+PARTS = [Views.sizes, Views.cuts, Views.bad_words, Views.bad_terminals, Views.several]
 
 
-if __name__ == "__main__":
-    run(main)
+@pytest.mark.parametrize("part", PARTS)
+def test_views(check, tmp_path, part):
+    part(Views(check, str(tmp_path)))

@@ -1,4 +1,3 @@
-#!/usr/bin/python3
 """Sessions of `nvimd serve` on a machine that has no time for their threads, or no room.
 
 Beside twice as many busy processes as there are processors, which go first, many sessions come at
@@ -8,8 +7,6 @@ and then the end of the bytes.
 
 Then the address space of a server is made so small that few threads more can be had: each session
 is served, or has none and ends at once, and the next ones are served once there is room again.
-
-Wants Debian's python3-msgpack.
 """
 
 import os
@@ -21,9 +18,8 @@ import threading
 import time
 
 import nvimd
-from check import LONG, Check, Words, run
+from runs import LONG
 
-MOST_SECONDS = 600
 PAUSE = 7  # seconds in which a session does nothing
 CALLS = 5  # of a session before its pause, and behind it
 LANES = 16
@@ -122,15 +118,9 @@ def without_threads(check):
     return server.quit(LONG)
 
 
-def main():
-    words = Words(__doc__)
-    words.add_argument("--sessions", type=int, default=64, metavar="N", help="at once")
-    asked = words.parse_args()
-    check = Check()
-    check.same("status", without_time(check, asked.sessions), 0)
+def test_sessions_without_time_are_served_to_their_end(request, check):
+    check.same("status", without_time(check, request.config.getoption("sessions")), 0)
+
+
+def test_sessions_without_threads_end_at_once(check):
     check.same("status", without_threads(check), 0)
-    return check.end()
-
-
-if __name__ == "__main__":
-    run(main, MOST_SECONDS)

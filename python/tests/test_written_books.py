@@ -1,33 +1,28 @@
-#!/usr/bin/python3
-"""Books of `nvimd` beside a reader of their own (python/nvimd/book.py): those that `generate` and
-`serve --book` write.
+"""Books of `nvimd` beside a reader of their own (nvimd/book.py): those that `generate` and `serve
+--book` write.
 
 Each is spelled as it must be, `replay --check` finds it right and counts its entries, and `replay`
 gives each session what it was sent. What `generate` has its sessions ask is what the rules give
-(clients/script.py). A session isn't heard while half an outbox waits for it, and ends where its
-outbox runs over. Values in their longest spellings are read as well. What is no book is refused
-with the place of the value that is wrong, a changed output is found, and so is what can't be read
-or written: each by its status and its line, and nothing else is written.
-
-Wants Debian's python3-msgpack.
+(script.py). A session isn't heard while half an outbox waits for it, and ends where its outbox runs
+over. Values in their longest spellings are read as well. What is no book is refused with the place
+of the value that is wrong, a changed output is found, and so is what can't be read or written: each
+by its status and its line, and nothing else is written.
 """
 
 import bisect
 import hashlib
 import os
 import subprocess
-import tempfile
 
 import msgpack
+import pytest
 
 import nvimd
-from check import LONG, Check, Words, finished, run
 from held import held, held_by_sessions, spelled
 from nvimd.book import PIECE, Values
+from runs import LONG, finished
 from script import script
 
-
-MOST_SECONDS = 300
 MOST_BYTES = 67_109_120  # of a value of a book
 # of a number, the bytes of what is generated, and their sum
 GENERATED = {
@@ -183,11 +178,11 @@ def laid(path):
     return [*places, len(values.data)]
 
 
-class Books(Check):
+class Books:
     """What is said of the books in a folder."""
 
-    def __init__(self, folder):
-        super().__init__()
+    def __init__(self, check, folder):
+        self.same = check.same
         self.folder = folder
 
     def write(self, name, data):
@@ -388,25 +383,17 @@ class Books(Check):
             self.same(f"the words {words}", finished(*words), wanted)
 
 
-def main():
-    Words(__doc__).parse_args()
-    with tempfile.TemporaryDirectory() as folder:
-        books = Books(folder)
-        for part in (
-            books.generated,
-            books.small,
-            books.outboxes,
-            books.greatest,
-            books.served,
-            books.devices,
-            books.bad_words,
-        ):
-            try:
-                part()
-            except nvimd.Error as error:
-                books.same(part.__name__, str(error), "no fault")
-    return books.end()
-
-
-if __name__ == "__main__":
-    run(main, MOST_SECONDS)
+@pytest.mark.parametrize(
+    "part",
+    [
+        Books.generated,
+        Books.small,
+        Books.outboxes,
+        Books.greatest,
+        Books.served,
+        Books.devices,
+        Books.bad_words,
+    ],
+)
+def test_books(check, tmp_path, part):
+    part(Books(check, str(tmp_path)))

@@ -1,34 +1,26 @@
-#!/usr/bin/python3
-"""Compares docs/rows/codec.rows with msgpack for Python, with the input of the program `bench`, and
-with what `nvimd embed` says.
-
-1. Each row beside msgpack for Python, which reads the value and packs it in its shortest form.
-2. crates/bench is run (by `rt ci`) on the bytes of each row, and has to write what the row says,
-   and then what it drew and what it did with marks: its files stdin and stdout are the ones that
-   the rows make.
-3. The program ends as the row says for the bytes of each flaw, in one piece and, where they are
-   few, byte by byte.
-
-Wants Debian's python3-msgpack.
+"""The rows of docs/rows/codec.rows beside msgpack for Python, the input of the program `bench`, and
+what `nvimd embed` says.
 """
 
 import os
 import subprocess
+from concurrent.futures import ProcessPoolExecutor, ThreadPoolExecutor
 
 import msgpack
+import pytest
 
 import nvimd
-from check import DOCS, TOP, Words, run
 from examples import Unwritten, packed, unpacker, value_in
 from row_file import Wrong, bytes_in, lines_of
-
+from runs import CRATES, DOCS, of_repository
 
 ROWS = os.path.join(DOCS, "rows", "codec.rows")
-CRATE = os.path.join(TOP, "crates", "bench")
+CRATE = os.path.join(CRATES, "bench")
 # what it writes behind what it read: the cells of a screen, and the sums of works on 300 marks
 BEHIND = b"3388 cells\nset: 300\nset again: 300\nedit: 1001\nlist: 103750\nfind: 105505\n"
 WORDS = ("bad", "deep", "long", "cut")
 FEW = 1000
+AT_ONCE = 4
 LONG = 60  # seconds
 
 
@@ -79,7 +71,7 @@ def rows_of(number, text):
     return rows
 
 
-def rows():
+def all_rows():
     found = []
     for number, text in lines_of(ROWS):
         if text and not text.startswith("#"):
@@ -147,39 +139,31 @@ def written(found):
     }
 
 
-def is_there(name, data):
-    try:
-        with open(os.path.join(CRATE, name), "rb") as file:
-            return file.read() == data
-    except FileNotFoundError:
-        return False
+@pytest.fixture(scope="module")
+def rows():
+    return all_rows()
 
 
-def unlike(files):
-    """The names of the files that are others."""
-    return [name for name, data in files.items() if not is_there(name, data)]
+def test_python_reads_each_value_and_packs_it_as_short(check, rows):
+    """In a process of its own: msgpack never frees the lists of millions that a cut value began,
+    through which each collection of garbage would go from then on."""
+    with ProcessPoolExecutor(1) as pool:
+        found = pool.map(is_as_python_says, rows, chunksize=len(rows))
+        for row, is_right in zip(rows, found):
+            check.same(f"line {row.line}", is_right, True)
 
 
-def main():
-    words = Words(__doc__)
-    words.add_argument("--write", action="store_true", help="write these files, and nothing else")
-    asked = words.parse_args()
-    found = rows()
-    files = written(found)
-    if asked.write:
-        for name, data in files.items():
-            with open(os.path.join(CRATE, name), "wb") as file:
-                file.write(data)
-        return 0
-    flaws = [row for row in found if row.flaw]
-    wrong = [f"line {row.line}: Python" for row in found if not is_as_python_says(row)]
-    wrong += [f"crates/bench/{name}, or else --write" for name in unlike(files)]
-    wrong += [f"line {row.line}: the program" for row in flaws if not is_as_the_program_says(row)]
-    for line in wrong:
-        print(f"another answer: {line}")
-    print(f"{len(found) - len(flaws)} values, {len(flaws)} flaws, {len(wrong)} failed")
-    return 1 if wrong else 0
+@of_repository
+def test_the_bytes_and_the_answers_of_bench_are_those_of_the_rows(holds, rows):
+    """`rt ci` runs it on these bytes, and has it write these answers, then what it drew and what it
+    did with marks."""
+    for name, data in written(rows).items():
+        holds(os.path.join(CRATE, name), data)
 
 
-if __name__ == "__main__":
-    run(main)
+def test_the_program_ends_as_the_row_of_each_flaw_says(check, rows):
+    """In one piece and, where they are few, byte by byte."""
+    flaws = [row for row in rows if row.flaw]
+    with ThreadPoolExecutor(AT_ONCE) as pool:
+        for row, is_right in zip(flaws, pool.map(is_as_the_program_says, flaws)):
+            check.same(f"line {row.line}", is_right, True)

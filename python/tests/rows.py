@@ -1,5 +1,5 @@
-"""The table of differences.py: calls to a fresh server, one after another, and what the last of
-them is answered.
+"""The table of test_differences.py: calls to a fresh server, one after another, and what the last
+of them is answered.
 
 A row of two is the calls and the answer of both programs; a row of four a title, the calls, the
 answer of `nvimd` and that of Neovim. Calls behind `AT_ONCE` are sent without waiting for replies.

@@ -1,4 +1,3 @@
-#!/usr/bin/python3
 """Hostile sessions of `nvimd serve` beside honest ones, seeded: what the honest ones are sent is
 right all the time.
 
@@ -8,8 +7,6 @@ read one byte now and then, open and close at once, begin values that never end,
 outbox run over. Each of these ends as it must: closed by the server, or by itself. Behind it all
 the server has the descriptors that it had, and ends when it is asked to. The book that it recorded
 is right, by `nvimd replay --check`, and gives each honest session what its client read.
-
-Wants Debian's python3-msgpack.
 """
 
 import os
@@ -17,22 +14,22 @@ import random
 import select
 import socket
 import subprocess
-import tempfile
 import threading
 import time
 
+import pytest
+
 import nvimd
-from check import LONG, Check, Words, limit, run
-from crowd import SHARED, Editor, Owner, is_there, settled
+from crowd import PATIENCE, SHARED, Editor, Owner, is_there, settled
 from held import Replayed, held_by_sessions
 from nvimd.session import socket_at
 from nvimd.values import packed
+from runs import LONG
 
-
+SECONDS = 20
 OUTBOX = 256
 PIECE = 1 << 16
 LATE = 0.25  # seconds between two bytes that a slow reader takes
-PATIENCE = 30
 
 
 class Honest:
@@ -252,33 +249,17 @@ def beside(server, check, seed, seconds):
     return {part.number_of_session: (bytes(part.session.kept), False) for part in honest}
 
 
-def attempt(check, seed, seconds, path):
-    """Hostile sessions beside honest ones for one seed, and what the book of it says."""
-    server = nvimd.Server("--sessions", "64", "--outbox", str(OUTBOX), book=path)
-    at_first, memory = settled(server)
-    read = beside(server, check, seed, seconds)
-    descriptors, later = settled(server)
-    check.same("descriptors behind it", descriptors, at_first)
-    check.same("status", server.quit(LONG), 0)
+@pytest.mark.seeds(1)
+def test_honest_sessions_beside_hostile_ones_and_their_book(request, check, tmp_path, seed):
+    path = str(tmp_path / "book")
+    seconds = request.config.getoption("seconds") or SECONDS
+    with nvimd.Server("--sessions", "64", "--outbox", str(OUTBOX), book=path) as server:
+        at_first, memory = settled(server)
+        read = beside(server, check, seed, seconds)
+        descriptors, later = settled(server)
+        check.same("descriptors behind it", descriptors, at_first)
+        check.same("status", server.quit(LONG), 0)
     book = Replayed(check, path)
     held_by_sessions(check, book, read)
     size = f"the book, {os.path.getsize(path) / 1e6:.1f} MB"
     print(f"{memory:.1f} MB before, {later:.1f} MB behind it; {size}: {book.summary()}", end="")
-
-
-def main():
-    words = Words(__doc__)
-    words.add_argument("seed", nargs="?", type=int, default=1, metavar="SEED")
-    words.add_argument("--seeds", type=int, default=1, metavar="N", help="how many, from SEED on")
-    words.add_argument("--seconds", type=int, default=20, metavar="N", help="of each seed")
-    asked = words.parse_args()
-    limit(asked.seeds * (asked.seconds + 10 * PATIENCE))
-    check = Check()
-    for seed in range(asked.seed, asked.seed + asked.seeds):
-        with tempfile.TemporaryDirectory() as folder:
-            attempt(check, seed, asked.seconds, os.path.join(folder, "book"))
-    return check.end()
-
-
-if __name__ == "__main__":
-    run(main)

@@ -1,26 +1,25 @@
-#!/usr/bin/python3
-"""Makes the same calls to Neovim and to `nvimd embed`, and compares what they are answered.
+"""The same calls to Neovim and to `nvimd embed`, and what they are answered.
 
 Each row of the table in rows.py is calls to a fresh server and what the last of them is answered:
 its result, or its error, and the events that it tells. Rows with two answers are the part "Call by
-call" of docs/PROTOCOL.md, which is printed.
+call" of docs/PROTOCOL.md, which `--snapshot-update` writes.
 
-It starts `nvim` on the path. Without Neovim, or beside another release of it, `nvimd` alone is
-compared. Wants Debian's python3-msgpack and neovim.
+Neovim is `nvim` on the path. Without it, or beside another release of it, `nvimd` alone is
+compared.
 """
 
 import os
 import shutil
 import subprocess
-import tempfile
 import textwrap
 from concurrent.futures import ThreadPoolExecutor
 
+import pytest
+
 import nvimd
-from check import DOCS, Check, Words, run
 from examples import calls_in, handle, written
 from rows import AT_ONCE, ROWS
-
+from runs import DOCS
 
 RELEASE = "0.7.2"
 PAGE = os.path.join(DOCS, "PROTOCOL.md")
@@ -65,9 +64,9 @@ def part():
     opening = (
         f"Beside Debian's `neovim` {RELEASE}: of {len(rows)} examples, each some calls to a fresh "
         f"server, {alike} are answered alike, and {len(rows) - alike} aren't. "
-        "`clients/differences.py` makes them to both programs; what the last call of those that "
-        "differ is answered stands here, `error` before the kind and the message of a fault, "
-        "`told` before events."
+        "`python/tests/test_differences.py` makes them to both programs; what the last call of "
+        "those that differ is answered stands here, `error` before the kind and the message of a "
+        "fault, `told` before events."
     )
     parts = [HEADING, textwrap.fill(opening, 100)]
     for name, group in ROWS.items():
@@ -84,53 +83,36 @@ def filled(title, calls, ours, theirs):
     return textwrap.fill(text, 100, **indents, break_long_words=False, break_on_hyphens=False)
 
 
-def page():
-    """docs/PROTOCOL.md, and what stands in it before this part, as this part, and behind it."""
-    with open(PAGE, encoding="utf-8") as file:
-        text = file.read()
-    before, heading, behind = text.partition(HEADING + "\n")
-    held, next_heading, rest = behind.partition("\n## ")
-    return before, heading + held, next_heading + rest
-
-
-def compare(check, program, words, place):
+def compare(check, words, place):
     """Compares what is answered with what the table says."""
     rows = [row for group in ROWS.values() for row in group]
     rows = [row if len(row) == 2 else (row[1], row[place]) for row in rows]
     with ThreadPoolExecutor(4) as pool:
         answers = pool.map(lambda row: answer(words, row[0]), rows)
         for (calls, wanted), got in zip(rows, answers):
-            check.same(f"{program}, {calls}", got, wanted)
+            check.same(calls, got, wanted)
 
 
-def main():
-    words = Words(__doc__)
-    told = words.add_mutually_exclusive_group()
-    told.add_argument("--check", action="store_true", help="look whether docs/PROTOCOL.md has it")
-    told.add_argument("--write", action="store_true", help="put it there")
-    asked = words.parse_args()
-    check = Check()
+@pytest.fixture(autouse=True)
+def folder(monkeypatch, tmp_path):
+    """What Neovim leaves behind stays in a folder of the test."""
+    monkeypatch.setenv("TMPDIR", str(tmp_path))
+
+
+def test_what_nvimd_answers(check):
+    compare(check, [nvimd.program(), "embed"], 2)
+
+
+def test_what_neovim_answers(check):
     found = release()
-    with tempfile.TemporaryDirectory() as folder:
-        os.environ["TMPDIR"] = folder
-        compare(check, "nvimd", [nvimd.program(), "embed"], 2)
-        if found == RELEASE:
-            compare(check, "Neovim", NEOVIM, 3)
-        elif found is None:
-            print("skipped: no nvim")
-        else:
-            print(f"skipped: nvim is {found}, and the table is of {RELEASE}")
-    before, held, after = page()
-    if asked.write:
-        with open(PAGE, "w", encoding="utf-8") as file:
-            file.write(before + part() + after)
-    elif asked.check:
-        same = part() in (held, held + "\n")
-        check.same("docs/PROTOCOL.md has the table (or else --write)", same, True)
-    else:
-        print(part())
-    return check.end()
+    if found != RELEASE:
+        pytest.skip(f"nvim is {found}, and the table is of {RELEASE}")
+    compare(check, NEOVIM, 3)
 
 
-if __name__ == "__main__":
-    run(main)
+def test_the_page_has_what_differs(holds):
+    with open(PAGE, encoding="utf-8") as file:
+        text = file.read()
+    before, _, after = text.partition(HEADING + "\n")
+    _, next_heading, rest = after.partition("\n## ")
+    holds(PAGE, (before + part() + next_heading + rest).encode())

@@ -1,5 +1,4 @@
-#!/usr/bin/python3
-"""Refuses each call for memory of `nvimd` in turn, one a run, and judges how the run ends.
+"""Each call for memory of `nvimd` is refused in turn, one a run, and how the run ends is judged.
 
 With `embed` a run ends with status 0 and all that it writes otherwise, or with status 1, the line
 that tells it and a front of that. With `serve` a session is sent all of it or a front, and the
@@ -7,11 +6,14 @@ server goes on and serves the next session whole, or ends with status 1; where a
 are refused too, it ends with status 1, or ends each session. Nothing hangs, and nothing ends by a
 signal.
 
-It takes half a minute at most, and skips calls evenly where there are too many. Wants Debian's
-python3-msgpack and gcc, whose work is the file of this name that ends in .c.
+It takes half a minute at most, and skips calls evenly where there are too many; `--each-call` skips
+none, and refuses each with all that come behind it too. It wants gcc, whose work is
+refused_memory.c.
 """
 
 import os
+import pathlib
+import shutil
 import socket
 import subprocess
 import sys
@@ -19,11 +21,11 @@ import tempfile
 import time
 from concurrent.futures import ThreadPoolExecutor
 
+import pytest
+
 import nvimd
-from check import CLIENTS, Words, limit, run
 from nvimd.server import running
 from nvimd.values import packed, unpacker
-
 
 LINE = b"nvimd: out of memory\n"
 PATIENCE = 30  # seconds that one run may take
@@ -89,12 +91,12 @@ def requests(calls):
 
 
 class Trial:
-    """Runs of one command over one stream; `findings` has what was wrong, a line each."""
+    """Runs of one command over one stream, and how they ended."""
 
     def __init__(self, program, shim, folder, name):
         self.program, self.shim, self.folder, self.name = program, shim, folder, name
         self.stream = requests(STREAMS[name])
-        self.ends, self.findings = {}, []
+        self.ends = {}
 
     def environment(self, number, goes_on):
         count = os.path.join(self.folder, f"{number}-{goes_on:d}-{id(self)}")
@@ -120,15 +122,15 @@ class Trial:
             self.calls = int.from_bytes(file.read(), sys.byteorder)
 
     def refuse(self, number, goes_on):
+        """A run: what is refused in it, and how it ends."""
         environment, _ = self.environment(number, goes_on)
         try:
             end = self.judged(*self.run(environment), goes_on)
         except (subprocess.TimeoutExpired, TimeoutError):
             end = "hangs"
         self.ends[end] = self.ends.get(end, 0) + 1
-        if end not in self.right:
-            refused = f"call {number}{' and all behind it are' if goes_on else ' is'} refused"
-            self.findings.append(f"{self.name}, {self.command}: {end} where {refused}")
+        refused = f"call {number}{' and all behind it are' if goes_on else ' is'} refused"
+        return f"{self.name}, {self.command}, where {refused}", end
 
 
 class Embed(Trial):
@@ -246,38 +248,24 @@ class Serve(Trial):
         return f"status {status}, {got}, {said!r}"
 
 
-def main():
-    words = Words(__doc__)
-    told = "skip no call, and refuse each with all that come behind it too"
-    words.add_argument("--all", action="store_true", help=told)
-    asked = words.parse_args()
-    limit(3_600 if asked.all else 120)
-    program = nvimd.program()
-    findings = []
-    with tempfile.TemporaryDirectory(prefix="nvimd") as folder, ThreadPoolExecutor(AT_ONCE) as pool:
-        shim = os.path.join(folder, "refused_memory.so")
-        source = os.path.join(CLIENTS, "refused_memory.c")
-        subprocess.run(["cc", "-O2", "-shared", "-fPIC", "-o", shim, source], check=True)
-        trials = [kind(program, shim, folder, name) for name in STREAMS for kind in (Embed, Serve)]
+@pytest.mark.skipif(shutil.which("cc") is None, reason="no cc")
+def test_each_run_ends_as_it_may(request, check, tmp_path):
+    is_whole = request.config.getoption("each_call")
+    shim = str(tmp_path / "refused_memory.so")
+    source = pathlib.Path(__file__).with_name("refused_memory.c")
+    subprocess.run(["cc", "-O2", "-shared", "-fPIC", "-o", shim, source], check=True)
+    given = nvimd.program(), shim, str(tmp_path)
+    trials = [kind(*given, name) for name in STREAMS for kind in (Embed, Serve)]
+    for trial in trials:
+        trial.begin()
+    wanted = sum(trial.calls * trial.seconds for trial in trials) / AT_ONCE
+    step = 1 if is_whole else max(1, round(wanted / SECONDS + 0.5))
+    ways = (False, True) if is_whole else (False,)
+    with ThreadPoolExecutor(AT_ONCE) as pool:
         for trial in trials:
-            trial.begin()
-        wanted = sum(trial.calls * trial.seconds for trial in trials) / AT_ONCE
-        step = 1 if asked.all else max(1, round(wanted / SECONDS + 0.5))
-        for trial in trials:
-            numbers = range(1, trial.calls + 1, step)
-            ways = (False, True) if asked.all else (False,)
-            runs = [(number, goes_on) for number in numbers for goes_on in ways]
-            list(pool.map(lambda run: trial.refuse(*run), runs))
+            runs = [(n, goes_on) for n in range(1, trial.calls + 1, step) for goes_on in ways]
+            for refused, end in pool.map(lambda run: trial.refuse(*run), runs):
+                check.same(refused, end if end not in trial.right else "right", "right")
             ends = ", ".join(f"{end}: {count}" for end, count in sorted(trial.ends.items()))
             told = f"{len(runs)} runs over {trial.calls} calls for memory: {ends}"
             print(f"{trial.name}, {trial.command}: {told}", flush=True)
-            findings += trial.findings
-    for finding in findings[:20]:
-        print(finding, file=sys.stderr)
-    if findings:
-        raise nvimd.Error(f"{len(findings)} runs ended otherwise than they may")
-    return 0
-
-
-if __name__ == "__main__":
-    run(main)

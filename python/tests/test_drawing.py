@@ -1,19 +1,17 @@
-#!/usr/bin/python3
-"""Shows the editor's screen over a child process: a UI folds the redraw events through a thousand
-seeded calls (edits, undos, cursors, windows, tabpages, sizes, UIs that go and come), and after each
-its screen is compared with what the text, the windows and their status lines look like by Neovim's
-documentation. Wants Debian's python3-msgpack.
+"""The editor's screen over a child process: a UI folds the redraw events through a thousand seeded
+calls (edits, undos, cursors, windows, tabpages, sizes, UIs that go and come), and after each its
+screen is compared with what the text, the windows and their status lines look like by Neovim's
+documentation.
 """
 
 import random
 
+import pytest
+
 import nvimd
-from check import Check, run, seeded
 from nvimd.screen import OPTIONS
 
-
 STEPS = 1_000
-MOST_SECONDS = 600
 PLAIN, BOLD = {}, {"bold": True}
 CURRENT, OTHER = {"reverse": True, "bold": True}, {"reverse": True}
 WIDE = "世"
@@ -135,11 +133,11 @@ def places(row, col, height, width):
     return {(row + y, col + x) for y in range(height) for x in range(width)}
 
 
-class Drawn(Check):
+class Drawn:
     """The program, and a UI of it."""
 
-    def __init__(self, seed):
-        super().__init__()
+    def __init__(self, check, seed):
+        self.same = check.same
         self.random = random.Random(seed)
         self.nvim = nvimd.start()
         self.screen = nvimd.Screen()
@@ -280,23 +278,19 @@ class Drawn(Check):
         return ("nvim_ui_detach",)
 
 
-def main():
-    check = Drawn(seeded(__doc__))
-    (second,) = check.results(("nvim_create_buf", [True, False]))
-    check.results(("nvim_buf_set_name", [second, f"a{WIDE}second"]))
-    _, numbers = check.do("nvim_ui_attach", 40, 12, OPTIONS)
-    check.compare("nvim_ui_attach", numbers)
+@pytest.mark.seeds(1, 2)
+def test_the_screen_shows_the_text_after_each_call(check, seed):
+    drawn = Drawn(check, seed)
+    (second,) = drawn.results(("nvim_create_buf", [True, False]))
+    drawn.results(("nvim_buf_set_name", [second, f"a{WIDE}second"]))
+    _, numbers = drawn.do("nvim_ui_attach", 40, 12, OPTIONS)
+    drawn.compare("nvim_ui_attach", numbers)
     for _ in range(STEPS):
-        step = check.step(numbers)
-        _, numbers = check.do(*step)
-        if not check.attached:
-            size = check.random.randint(10, 70), check.random.randint(6, 30)
-            _, numbers = check.do("nvim_ui_attach", *size, OPTIONS)
-        if check.attached:
-            check.compare(step[0], numbers)
-    check.same("status", check.nvim.end(), 0)
-    return check.end()
-
-
-if __name__ == "__main__":
-    run(main, MOST_SECONDS)
+        step = drawn.step(numbers)
+        _, numbers = drawn.do(*step)
+        if not drawn.attached:
+            size = drawn.random.randint(10, 70), drawn.random.randint(6, 30)
+            _, numbers = drawn.do("nvim_ui_attach", *size, OPTIONS)
+        if drawn.attached:
+            drawn.compare(step[0], numbers)
+    check.same("status", drawn.nvim.end(), 0)

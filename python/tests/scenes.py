@@ -1,5 +1,5 @@
-"""What the checks of the view and of the picture stand on: calls that draw much, and a socket
-before a program. Wants Debian's python3-msgpack.
+"""What the tests of the view and of the picture stand on: calls that draw much, and a socket
+before a program.
 """
 
 import json
@@ -10,7 +10,6 @@ import sys
 import threading
 
 import nvimd
-from check import Check
 
 PIECE = 1 << 16
 LINES = ["plain", "a\ttab", "wide 世界 and 世", "e\u0301 and é", "\x01 control", "", "x" * 130]
@@ -68,11 +67,11 @@ def write_calls(path, calls):
     return path
 
 
-class Scenes(Check):
-    """The program, and a folder for what the checks write, with the calls of both scenes."""
+class Scenes:
+    """The program, and a folder for what the tests write, with the calls of both scenes."""
 
-    def __init__(self, folder):
-        super().__init__()
+    def __init__(self, check, folder):
+        self.same = check.same
         self.embed = [nvimd.program(), "embed"]
         self.child = ["--", *self.embed]
         self.folder = folder

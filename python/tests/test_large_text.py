@@ -1,13 +1,11 @@
-#!/usr/bin/python3
-"""Puts 100,000 lines over a child process, takes nearly all of them out, undoes it and makes it
-again.
+"""100,000 lines are put over a child process, nearly all of them are taken out, and that is undone
+and made again.
 
-Lines, offsets and the changedtick are compared with those of the documented effect of
-nvim_buf_set_lines(), nvim_buf_get_offset() and :undo. Wants Debian's python3-msgpack.
+Lines, offsets and the changedtick are those of the documented effect of nvim_buf_set_lines(),
+nvim_buf_get_offset() and :undo.
 """
 
 import nvimd
-from check import Check, Words, run
 
 COUNT = 100_000
 LEFT = 20
@@ -24,11 +22,11 @@ STEPS = [
 ]
 
 
-class LargeText(Check):
+class LargeText:
     """The program, with each of its answers compared."""
 
-    def __init__(self):
-        super().__init__()
+    def __init__(self, check):
+        self.same = check.same
         self.nvim = nvimd.start()
 
     def answers(self, result, method, *params):
@@ -48,15 +46,9 @@ class LargeText(Check):
         self.answers(text, "nvim_buf_get_lines", 0, 0, -1, True)
 
 
-def main():
-    Words(__doc__).parse_args()
-    check = LargeText()
+def test_it_is_put_and_undone(check):
+    text = LargeText(check)
     for method, params, lines, tick in STEPS:
-        check.answers(None, method, *params)
-        check.holds(lines, tick)
-    check.same("status", check.nvim.end(), 0)
-    return check.end()
-
-
-if __name__ == "__main__":
-    run(main)
+        text.answers(None, method, *params)
+        text.holds(lines, tick)
+    check.same("status", text.nvim.end(), 0)

@@ -1,5 +1,4 @@
-#!/usr/bin/python3
-"""Compares the codec with Debian's python3-msgpack on 1,000 seeded values, both ways.
+"""The codec beside Debian's python3-msgpack on 1,000 seeded values, both ways.
 
 Each value is packed by Python in its shortest form, and once more by hand in longer forms;
 `bench codec copy` reads both streams and writes each value in its shortest spelling, which must be
@@ -12,12 +11,12 @@ import struct
 import subprocess
 
 import msgpack
+import pytest
 
-from check import TOP, Check, run, seeded
 from nvimd.values import unpacker
+from runs import CRATES, of_repository
 
-
-CRATE = os.path.join(TOP, "crates", "bench")
+CRATE = os.path.join(CRATES, "bench")
 PROGRAM = os.path.join(CRATE, "out", "bench")
 SMALL = [0, 1, 31, 32, 127, 128, 255, 256, 32767, 32768, 65535, 65536]
 EDGES = [*SMALL, 2**31 - 1, 2**31, 2**32 - 1, 2**32, 2**63 - 1]
@@ -78,22 +77,17 @@ def clamped(v):
     return min(max(v, -(2**63)), 2**64 - 1) if is_number else v
 
 
-def main():
-    draw = random.Random(seeded(__doc__, 7))
+@of_repository
+@pytest.mark.seeds(7)
+def test_values_go_through_it(check, seed):
+    draw = random.Random(seed)
     if not os.path.exists(PROGRAM):
         words = {"stdin": subprocess.DEVNULL, "stdout": subprocess.DEVNULL, "check": True}
         subprocess.run(["rt", "run"], cwd=CRATE, **words)
     values = [clamped(value(draw, 4)) for _ in range(1000)]
     shortest = b"".join(map(msgpack.packb, values))
-    check = Check()
     check.same("the same bytes", copied(shortest) == shortest, True)
     check.same("longer forms", copied(b"".join(map(longer, values))) == shortest, True)
     reader = unpacker(msgpack.ExtType, most=0)
     reader.feed(copied(shortest))
     check.same("read back", list(reader) == values, True)
-    print(f"{len(values)} values, {len(shortest)} bytes")
-    return check.end()
-
-
-if __name__ == "__main__":
-    run(main)

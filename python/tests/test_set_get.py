@@ -1,13 +1,8 @@
-#!/usr/bin/python3
-"""Sets and gets lines over a child process, and compares each reply with what Neovim's API says.
-
-Wants Debian's python3-msgpack.
-"""
+"""Lines are set and got over a child process, each reply as Neovim's API says it."""
 
 import msgpack
 
 import nvimd
-from check import Check, Words, run
 
 # method, parameters, error, result
 CALLS = [
@@ -33,9 +28,7 @@ CALLS = [
 ]
 
 
-def main():
-    Words(__doc__).parse_args()
-    check = Check()
+def test_each_reply(check):
     nvim = nvimd.start()
     for method, params, error, result in CALLS:
         check.same(f"{method}{params}", nvim.ask(method, *params), (error, result))
@@ -47,8 +40,3 @@ def main():
     events = [("nvim_error_event", [0, "Invalid method: nvim_nope"])]
     check.same("notifications", nvim.pending(), events)
     check.same("status", nvim.process.wait(), 0)
-    return check.end()
-
-
-if __name__ == "__main__":
-    run(main)

@@ -1,21 +1,17 @@
-#!/usr/bin/python3
-"""Writes docs/rows/by_chance.rows: edits, undos and visits that are drawn from a number, with what
-a plain model in Python gives.
+"""What docs/rows/by_chance.rows has: edits, undos and visits that are drawn from a number, with
+what a plain model in Python gives.
 """
 
-import os
 import textwrap
 from itertools import groupby
 
-from check import DOCS, Check, Words, run
 from undo_tree import Model
 
-
-FILE = os.path.join(DOCS, "rows", "by_chance.rows")
 HEAD = """\
-# Edits, undos and visits of changes, drawn from a number by clients/by_chance.py, which wrote this
-# file: what is answered is what a plain list of lines, and a list of the changes, gives. A visit
-# goes to a change by its number; undo and redo are as in Neovim's help (undo-tree, :undo, :redo).
+# Edits, undos and visits of changes, drawn from a number by python/tests/by_chance.py, which wrote
+# this file: what is answered is what a plain list of lines, and a list of the changes, gives. A
+# visit goes to a change by its number; undo and redo are as in Neovim's help (undo-tree, :undo,
+# :redo).
 """
 EDITS, CHANGES, VISITS, STEPS = 60, 40, 80, 100
 
@@ -149,20 +145,5 @@ def steps():
     return story.rows
 
 
-def main():
-    words = Words(__doc__)
-    words.add_argument("--check", action="store_true", help="look whether it is what is there")
-    asked = words.parse_args()
-    text = HEAD + "\n".join(edits() + changes() + steps()) + "\n"
-    if not asked.check:
-        with open(FILE, "w", encoding="utf-8") as file:
-            file.write(text)
-        return 0
-    check = Check()
-    with open(FILE, encoding="utf-8") as file:
-        check.same("docs/rows/by_chance.rows is what would be written", file.read() == text, True)
-    return check.end()
-
-
-if __name__ == "__main__":
-    run(main)
+def text_of_file():
+    return HEAD + "\n".join(edits() + changes() + steps()) + "\n"

@@ -1,8 +1,8 @@
 """Holds a recorded book against the program, and against what the clients of its sessions read."""
 
 import nvimd
-from check import finished
 from nvimd.values import packed, unpacker
+from runs import finished
 
 
 def spelled(values):

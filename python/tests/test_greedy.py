@@ -1,4 +1,3 @@
-#!/usr/bin/python3
 """Clients of `nvimd serve` that ask for much and read nothing: what each costs the server, and that
 it is given back once the client is gone.
 
@@ -10,18 +9,16 @@ honest client beside them is answered all the time, and one that waits for its c
 processor busy.
 
 What counts as rest is what the server holds once honest clients, one in each lane, have read the
-text and were told all of it. Wants Debian's python3-msgpack.
+text and were told all of it.
 """
 
 import subprocess
 import time
 
 import nvimd
-from check import Check, Words, run
 from nvimd.process import forget_peak
 from nvimd.session import socket_at
 from nvimd.values import packed
-
 
 LINES = 60_000
 TIMES = 500  # that a client asks for the text
@@ -37,7 +34,6 @@ STILL = 0.5  # seconds without work, after which the server waits for its client
 WATCHED = 2  # seconds that a server is watched while clients keep it waiting
 BUSY = 0.002  # seconds of a processor that it may take then
 PATIENCE = 60
-MOST_SECONDS = 300
 
 GETS = ["nvim_buf_get_lines", [1, 0, -1, True]]
 ATTACHES = [["nvim_buf_attach", [1, True, {}]], ["nvim_buf_detach", [1]]]
@@ -157,26 +153,18 @@ def waits(check, server, data):
     check.same("a call that waits doesn't keep a processor busy", busy <= BUSY, True)
 
 
-def main():
-    Words(__doc__).parse_args()
-    check = Check()
-    server = Watched()
+def test_what_they_cost_is_given_back(check):
     gets, attaches = calls(*[GETS] * TIMES), calls(*ATTACHES * TIMES)
     one = calls(["nvim_call_atomic", [[GETS] * TIMES]])
-    attempt(check, server, f"{len(gets) / 1000:.0f} kB of calls, and it closes", Closing, gets)
-    attempt(check, server, "the same, and it is killed", Dying, gets)
-    attempt(
-        check, server, f"{ROUNDS} that are killed one after another", Dying, gets, rounds=ROUNDS
-    )
-    attempt(check, server, "the same calls in one, and it closes", Closing, one)
-    attempt(check, server, f"all lines told {TIMES} times", Closing, attaches)
     greatest = f"a UI of {SCREEN[0]:,} by {SCREEN[1]:,}, and it closes"
-    attempt(check, server, greatest, Closing, calls(UI), most=None)
-    attempt(check, server, "the same, and it is killed", Dying, calls(UI), most=None)
-    waits(check, server, gets)
-    check.same("status", server.quit(), 0)
-    return check.end()
-
-
-if __name__ == "__main__":
-    run(main, MOST_SECONDS)
+    in_turn = f"{ROUNDS} that are killed one after another"
+    with Watched() as server:
+        attempt(check, server, f"{len(gets) / 1000:.0f} kB of calls, and it closes", Closing, gets)
+        attempt(check, server, "the same, and it is killed", Dying, gets)
+        attempt(check, server, in_turn, Dying, gets, rounds=ROUNDS)
+        attempt(check, server, "the same calls in one, and it closes", Closing, one)
+        attempt(check, server, f"all lines told {TIMES} times", Closing, attaches)
+        attempt(check, server, greatest, Closing, calls(UI), most=None)
+        attempt(check, server, "the same, and it is killed", Dying, calls(UI), most=None)
+        waits(check, server, gets)
+        check.same("status", server.quit(), 0)

@@ -1,29 +1,26 @@
-#!/usr/bin/python3
-"""Has nvim-qt, an old GUI, show a text of a server on a display without a screen, and looks at its
-picture cell by cell.
+"""nvim-qt, an old GUI, shows a text of a server on a display without a screen: its picture, cell by
+cell.
 
 Cells of two colours tell where each cell stands, so nothing is said of the font: the cells of a
 letter are alike, those of two letters differ, and a blank is of one colour. Then the text is
 changed, and looked at again. By the book the size of the UI is the last that nvim-qt asked for.
-Wants Debian's python3-msgpack, python3-pil, neovim-qt, xvfb and fonts-dejavu-core.
 """
 
 import os
+import shutil
 import subprocess
 import tempfile
 import time
 from contextlib import contextmanager
 
-from PIL import ImageGrab
+import pytest
 
 import nvimd
-from check import Check, Words, run
 from nvimd.errors import words_of
 
-
+ImageGrab = pytest.importorskip("PIL.ImageGrab")
 NEOVIM = ["nvim", "--clean", "--headless", "--listen"]
 PATIENCE = 30  # seconds for a picture
-MOST_SECONDS = 300
 RED, GREEN = (255, 0, 0), (0, 255, 0)
 RULER = 20  # cells of two colours in turn
 
@@ -56,9 +53,8 @@ def display():
             yield f":{told.readline().strip()}"
 
 
-def gui(server, shown):
+def gui(server, shown, home):
     """nvim-qt, attached to a server, on a display."""
-    home = server.folder.name
     environment = {**os.environ, "DISPLAY": shown, "XDG_RUNTIME_DIR": home, "HOME": home}
     words = ["nvim-qt", "--nofork", "--server", server.address]
     return started(*words, env=environment, stdout=subprocess.DEVNULL)
@@ -153,17 +149,9 @@ def look(check, image, texts):
     check.same("different letters", len(set(seen.values())), len(seen))
 
 
-def save(image, path):
-    try:
-        image.save(path)
-    except (OSError, ValueError) as error:
-        raise nvimd.Error(f"no picture in {path}: {words_of(error)}") from None
-
-
-def shows(check, server, path):
-    """Two texts as nvim-qt shows them, one after the other; the size of its UI. The last picture
-    goes to a file, where that is named."""
-    with display() as shown, server.connect() as session, gui(server, shown):
+def shows(check, server, home):
+    """Two texts as nvim-qt shows them, one after the other; the size of its UI."""
+    with display() as shown, server.connect() as session, gui(server, shown, home):
         check.same("attached", attached(session.api), True)
         before = b""
         for texts in (TEXTS, [f"{text} x" for text in reversed(TEXTS)]):
@@ -173,9 +161,8 @@ def shows(check, server, path):
             if not image:
                 return None
             look(check, image, texts)
+            image.save(os.path.join(home, "picture.png"))
             before = image.tobytes()
-        if path:
-            save(image, path)
         return [[ui["width"], ui["height"]] for ui in session.api.list_uis()]
 
 
@@ -185,21 +172,14 @@ def resized(check, book, size):
     check.same("the size that was asked for", size, sizes[-1:])
 
 
-def main():
-    words = Words(__doc__)
-    words.add_argument("--neovim", action="store_true", help="a text of nvim on the path instead")
-    words.add_argument("--picture", metavar="FILE", help="where the last picture goes")
-    asked = words.parse_args()
-    check = Check()
-    with tempfile.TemporaryDirectory() as folder:
-        book = None if asked.neovim else os.path.join(folder, "book")
-        with nvimd.Server(command=NEOVIM if asked.neovim else None, book=book) as server:
-            size = shows(check, server, asked.picture)
-            check.same("status", server.quit(), 0)
-        if book:
-            resized(check, nvimd.Book(book), size)
-    return check.end()
-
-
-if __name__ == "__main__":
-    run(main, MOST_SECONDS)
+@pytest.mark.parametrize("command", [None, NEOVIM], ids=["nvimd", "Neovim"])
+def test_each_letter_looks_like_itself_alone(check, tmp_path, command):
+    missing = [name for name in ("nvim-qt", "Xvfb", "nvim") if shutil.which(name) is None]
+    if missing:
+        pytest.skip(f"no {missing[0]}")
+    book = None if command else str(tmp_path / "book")
+    with nvimd.Server(command=command, book=book) as server:
+        size = shows(check, server, str(tmp_path))
+        check.same("status", server.quit(), 0)
+    if book:
+        resized(check, nvimd.Book(book), size)

@@ -1,17 +1,17 @@
-#!/usr/bin/python3
-"""Moves a thousand ranges by two thousand random edits, undos and redos over a child process,
+"""A thousand ranges are moved by two thousand random edits, undos and redos over a child process,
 beside a plain model in Python.
 
 The model has the text, each change as the list of its splices, and each mark as two offsets; a
 splice goes over all marks. After each step all ranges are listed, now and then with their details,
 and compared with the model. None may have its end before its start: a range whose start goes along
 with text that is put there has an end that does so too. Some are set anew on the way, or removed,
-and some calls make more than one edit. Wants Debian's python3-msgpack.
+and some calls make more than one edit.
 """
 
 import bisect
 
-from check import run, seeded
+import pytest
+
 from undo_tree import Beside
 
 MARKS = 1_000
@@ -297,22 +297,18 @@ class RestoredMarks(Beside):
             self.remove_mark(self.random.randint(1, MARKS))
 
 
-def main():
-    check = RestoredMarks(seeded(__doc__), Model())
-    check.answers(1, "nvim_create_namespace", "ranges")
-    text = [check.string(40).replace("\n", "-") for _ in range(ROWS)]
-    check.answers(None, "nvim_buf_set_lines", 0, 0, -1, True, text)
-    check.model.edit(0, 1, "".join(line + "\n" for line in text))
-    check.model.close()
+@pytest.mark.seeds(1)
+def test_ranges_are_where_the_model_has_them(check, seed):
+    marks = RestoredMarks(check, seed, Model())
+    marks.answers(1, "nvim_create_namespace", "ranges")
+    text = [marks.string(40).replace("\n", "-") for _ in range(ROWS)]
+    marks.answers(None, "nvim_buf_set_lines", 0, 0, -1, True, text)
+    marks.model.edit(0, 1, "".join(line + "\n" for line in text))
+    marks.model.close()
     for number in range(1, MARKS + 1):
-        check.set_mark(number)
+        marks.set_mark(number)
     for step in range(STEPS):
-        check.step()
-        check.look(step % DETAILS == 0)
-    check.answers(check.model.lines(), "nvim_buf_get_lines", 0, 0, -1, True)
-    check.same("status", check.nvim.end(), 0)
-    return check.end()
-
-
-if __name__ == "__main__":
-    run(main)
+        marks.step()
+        marks.look(step % DETAILS == 0)
+    marks.answers(marks.model.lines(), "nvim_buf_get_lines", 0, 0, -1, True)
+    check.same("status", marks.nvim.end(), 0)
