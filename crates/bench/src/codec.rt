@@ -1,5 +1,5 @@
 // Decodes and encodes the MessagePack values on standard input: what bench/run.py measures and
-// clients/codec.py compares.
+// python/tests/test_codec.py compares.
 ghost use Rattle.std.specs.Prelude.{IfOk};
 ghost use Rattle.nv_value.specs.View.{contents};
 ghost use Rattle.nv_msgpack.specs.Shortest.{HaveSpellings};
