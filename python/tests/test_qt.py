@@ -115,17 +115,17 @@ def picture(shown, wanted):
 
 
 def put(api, texts):
-    """Puts a ruler of two colours and these lines below it, between two empty lines for the cursor,
-    which may leave a trace."""
-    api.buf_set_lines(0, 0, -1, True, ["", " " * RULER, *texts, ""])
+    """Puts a ruler of two colours and these lines below it, between lines for the cursor, which may
+    leave a trace there and in the line beside."""
+    api.buf_set_lines(0, 0, -1, True, ["", "", " " * RULER, *texts, "", ""])
     space = api.create_namespace("ruler")
     groups = {"Odd": RED, "Even": GREEN}
     for group, colour in groups.items():
         api.set_hl(0, group, {"bg": "#" + bytes(colour).hex()})
     for n, group in enumerate([*groups] * (RULER // 2)):
-        api.buf_set_extmark(0, space, 1, n, {"end_col": n + 1, "hl_group": group})
+        api.buf_set_extmark(0, space, 2, n, {"end_col": n + 1, "hl_group": group})
     api.win_set_cursor(0, [1, 0])  # which is where the window begins
-    api.win_set_cursor(0, [3 + len(texts), 0])
+    api.win_set_cursor(0, [5 + len(texts), 0])
 
 
 def attached(api):
