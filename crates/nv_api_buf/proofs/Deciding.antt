@@ -22,7 +22,7 @@ use Rattle.nv_editor.specs.Doing.{Does, GivesAnswer, GivesResult, ReadsAnswer, R
 use Rattle.nv_model.specs.declared.parts.Limits.{Limits}
 use Rattle.nv_api_buf.specs.Excerpts.{ReadsLines}
 use Rattle.nv_api_buf.specs.Texts.{event_passes}
-use Rattle.nv_api_buf.specs.inside.Deciding.{IsRefused, unless_barred}
+use Rattle.nv_api_buf.specs.inside.Deciding.{IsRefused, Leaves, unless_barred}
 use Rattle.nv_api_buf.proofs.TextLemmas.{strings_are}
 
 -- a refusal as is answered
@@ -41,6 +41,11 @@ pub barred_limit : (limits : Limits) (b : SeenBuffer) (s : Splice) (a : Answer) 
     → unless_barred limits b s a ≡ refused limit_reached
 barred_limit limits b s a e m p =
     (λ i. cond (not (e i) && not (m i)) (refused not_modifiable) (cond (not (e i) && p i) (refused limit_reached) a))
+
+-- a step that refused
+pub leaves_refused : {A : Type 0} (answer between : Answer) (rest : A → Answer) (fail : Fail) → answer ≡ between → IsRefused between fail → Leaves answer rest (Err fail)
+leaves_refused answer between rest (Api fault) is refuses = (is ∙ refuses.0, refuses.1)
+leaves_refused answer between rest NoMemory is refuses = tt
 
 -- what was answered of a call that reads
 pub reads_refused : (answer between : Answer) (fail : Fail) → answer ≡ between → IsRefused between fail → ReadsAnswer answer (Err fail)

@@ -1,9 +1,10 @@
 -- Lemmas on splices that pass no limit.
-use Rattle.std.proofs.Common.{◌≡◌, ℕ, pos, ◌+◌, ◌-◌, ◌^◌, ◌<◌, ◌≤◌, Bool, true, false, ◌||◌, List, length, All, sym, ap, ◌∙◌, arith}
+use Rattle.std.proofs.Common.{◌≡◌, ℕ, ℤ, pos, ◌+◌, ◌-◌, ◌^◌, ◌<◌, ◌≤◌, ◌+ℤ◌, Bool, true, false, ◌||◌, List, length, All, sym, ap, subst, ◌∙◌, arith}
 use Rattle.std.proofs.lemmas.Bool.Decides.{nat_tests}
-use Rattle.std.specs.Prelude.{nat_lt, int_lt}
+use Rattle.std.specs.Prelude.{◌≤ℤ◌, nat_lt, int_lt}
 use Rattle.std.specs.List.{list_any}
 use Rattle.nv_places.specs.Flat.{flat, lines_of}
+use Rattle.nv_buffer.specs.Content.{Content}
 use Rattle.nv_buffer.specs.Splices.{IsNarrowLine}
 use Rattle.nv_model.specs.Answering.{event_of_splice}
 use Rattle.nv_model.specs.Buffers.{Splice, text_after}
@@ -41,3 +42,8 @@ free most bytes lines new from to kept many false false tick few short order wit
     record { count = omega arith; columns = short-narrow bytes new short (sym l) }
 free most bytes lines new from to kept many true long tick few short order within k m c l e = absurd (cc)
 free most bytes lines new from to kept many false true tick few short order within k m c l e = absurd (cc)
+
+-- a tick that may rise so far is that of the buffer that was found
+pub moved_there : (most : ℤ) (found there : Content) (splices cost : ℕ) → found ≡ there → splices ≡ cost → (found.tick +ℤ pos splices) ≤ℤ most
+    → (there.tick +ℤ pos cost) ≤ℤ most
+moved_there most found there splices cost same count fits = subst (λ (q : Content × ℕ). (q.0.tick +ℤ pos q.1) ≤ℤ most) (λ i. (same i, count i)) fits

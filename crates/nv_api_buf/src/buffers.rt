@@ -16,11 +16,11 @@ ghost use Rattle.nv_model.specs.Editors.{handles_of};
 ghost use Rattle.nv_model.specs.Seen.{is_name_of};
 ghost use Rattle.nv_model.specs.Standing.{seen_now, seen_buffer_now};
 ghost use Rattle.nv_editor.specs.Doing.{GivesAnswer, ReadsAnswer};
-ghost use Rattle.nv_editor.specs.Sound.{content_at, is_live_buffer};
+ghost use Rattle.nv_editor.specs.Sound.{is_live_buffer};
 ghost use Rattle.nv_api_buf.specs.BufferRows.{nvim_list_bufs, nvim_get_current_buf, nvim_set_current_buf, nvim_create_buf, nvim_buf_delete, nvim_buf_is_valid, nvim_buf_get_name, nvim_buf_set_name, buffers_are_full};
 ghost use Rattle.nv_api_buf.specs.inside.Deciding.{Leaves, delete_answer, unless_unnamed, unless_kept, unless_full};
 
-use crate::finding::{Live, buffer_at, found_given, live_given};
+use crate::finding::{Live, found_given};
 use nv_args::{
     Args, Fail, Rule, flag_or, limit_reached, map_fault, name_in_use, newline_inside, no_id_left,
     unsaved_changes,
@@ -29,7 +29,7 @@ use nv_buffer::{Buffer, Line};
 use nv_editor::{Editor, Fact, Happened};
 use nv_lines::is_line;
 use nv_msgpack::handle;
-use nv_value::{Items, Value};
+use nv_value::{Items, Value, spelled_length};
 use std::alloc::{AllocError, Global};
 
 /// The type of a buffer's handle as an extension value (Neovim help `api-types`).
@@ -64,9 +64,7 @@ pub fn nvim_list_bufs(editor: &Editor, args: &Args) -> Result<Value, Fail>
     ensures spelled { IfOk result (λ value. HasSpelling (content value)) }
 {
     let _ = args;
-    if editor.buffer_count() > u32::MAX as usize {
-        return Err(Fail::NoMemory);
-    }
+    let _ = spelled_length(editor.buffer_count())?;
     let items = handle_values(editor)?;
     Ok(Value::List(items))
 }
@@ -93,7 +91,8 @@ pub fn nvim_set_current_buf(
     ensures spelled { IfOk result (λ value. HasSpelling (content value)) }
 {
     let _ = happened.len();
-    let live = live_given(editor, args)?;
+    let found = found_given(editor, args)?;
+    let live = found.live;
     let window = editor.windows().current_window();
     editor.known();
     editor.show(window, live.handle);
@@ -104,6 +103,7 @@ pub fn nvim_set_current_buf(
 fn may_make_buffer(editor: &Editor) -> Result<(), Fail>
     ensures row { (answer : Answer) → Leaves (unless_full (seen_now editor.now) answer)
         (λ _. answer) result }
+    ensures room { IfOk result (λ _. no_buffer_left editor.now.stage ≡ false) }
 {
     if !editor.handle_left() {
         return Err(no_id_left(editor.alloc()));
@@ -133,29 +133,24 @@ pub fn nvim_create_buf(
 {
     let _ = happened.len();
     may_make_buffer(editor)?;
-    match editor.make_buffer(args.flag(0))? {
-        Some(n) => {
-            let value = handle_value(editor.alloc(), n)?;
-            Ok(value)
-        }
-        None => Err(Fail::NoMemory),
-    }
+    let n = editor.make_buffer(args.flag(0))?;
+    let value = handle_value(editor.alloc(), n)?;
+    Ok(value)
 }
 
 // Refuses to delete a buffer where another one would have to be made and no handle is left, and a
 // modified one that isn't forced.
-fn may_delete(editor: &Editor, live: Live, forced: bool) -> Result<(), Fail>
-    requires { is_live_buffer editor.now live.handle ≡ true }
+fn may_delete(editor: &Editor, buffer: &Buffer, forced: bool) -> Result<(), Fail>
     ensures row { (answer : Answer) → Leaves
-        (unless_kept (seen_now editor.now) (seen_buffer_now (content_at editor.now live.handle))
-        forced answer) (λ _. answer) result }
+        (unless_kept (seen_now editor.now) (seen_buffer_now buffer.now) forced answer)
+        (λ _. answer) result }
     ensures room { IfOk result (λ _. (length (handles_of editor.now.buffers) == 1
         && no_buffer_left editor.now.stage) ≡ false) }
 {
     if editor.buffer_count() == 1 && !editor.handle_left() {
         return Err(no_id_left(editor.alloc()));
     }
-    if buffer_at(editor, live).modified() && !forced {
+    if buffer.modified() && !forced {
         return Err(unsaved_changes(editor.alloc()));
     }
     Ok(())
@@ -171,10 +166,11 @@ pub fn nvim_buf_delete(
         (typed_arguments args.now)) result editor.old editor.new happened.old happened.new }
     ensures spelled { IfOk result (λ value. HasSpelling (content value)) }
 {
-    let live = live_given(editor, args)?;
+    let found = found_given(editor, args)?;
+    let live = found.live;
     let pairs = args.pairs(1);
     map_fault(editor.alloc(), &[Rule::flag("force")], pairs)?;
-    may_delete(editor, live, flag_or(pairs, "force", false))?;
+    may_delete(editor, found.buffer, flag_or(pairs, "force", false))?;
     delete(editor, live, happened)
 }
 
@@ -187,9 +183,7 @@ fn delete(editor: &mut Editor, live: Live, happened: &mut Happened) -> Result<Va
         editor.old editor.new happened.old happened.new }
     ensures spelled { IfOk result (λ value. HasSpelling (content value)) }
 {
-    if !editor.drop_buffer(live.handle)? {
-        return Err(Fail::NoMemory);
-    }
+    editor.drop_buffer(live.handle)?;
     happened.push(Fact::Deleted {
         buffer: live.handle,
     })?;
@@ -211,9 +205,6 @@ fn name_value(buffer: &Buffer) -> Result<Value, Fail>
     ensures row { ReadsAnswer (reply_of (text (seen_buffer_now buffer.now).name)) result }
     ensures spelled { IfOk result (λ value. HasSpelling (content value)) }
 {
-    if buffer.name().len() > u32::MAX as usize {
-        return Err(Fail::NoMemory);
-    }
     let name = buffer.name().share()?;
     Ok(Value::Text(name.into_bytes()))
 }
@@ -265,7 +256,8 @@ pub fn nvim_buf_set_name(
     ensures spelled { IfOk result (λ value. HasSpelling (content value)) }
 {
     let _ = happened.len();
-    let live = live_given(editor, args)?;
+    let found = found_given(editor, args)?;
+    let live = found.live;
     let name = args.bytes(editor.alloc(), 1)?;
     may_name(editor, live, name.as_slice())?;
     editor.put_name(live.handle, Line::from_bytes(name));

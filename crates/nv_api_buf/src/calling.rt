@@ -5,7 +5,6 @@ ghost use Rattle.nv_rpc.specs.Outcomes.{outcome_content};
 ghost use Rattle.nv_args.specs.Args.{typed_arguments};
 ghost use Rattle.nv_model.specs.Standing.{seen_now};
 ghost use Rattle.nv_editor.specs.Doing.{GivesResult};
-ghost use Rattle.nv_editor.specs.Light.{AreLightArgs};
 ghost use Rattle.nv_api_buf.specs.Rows.{buffer_row};
 
 use crate::buffers::{
@@ -31,7 +30,6 @@ pub fn call(
     args: &Args,
     happened: &mut Happened,
 ) -> Result<Outcome, Fail>
-    requires light { AreLightArgs (typed_arguments args.now) }
     ensures row { GivesResult (buffer_row method (seen_now editor.old) session
         (typed_arguments args.now)) result editor.old editor.new happened.old happened.new }
     ensures spelled { IfOk result (λ outcome. HasSpelling (outcome_content outcome)) }

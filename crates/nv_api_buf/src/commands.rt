@@ -1,29 +1,24 @@
 //! The commands, and the method that runs one (help: nvim_command()).
-ghost use Rattle.std.specs.Prelude.{◌≡◌, ◌≤◌, ◌≤ℤ◌, ◌+ℤ◌, ℕ, ℤ, pos, [], ◌∷◌, ◌^◌, ◌<◌, true, false, nat_lt, length, option_map, IfOk, IfSome};
+ghost use Rattle.std.specs.Prelude.{◌≡◌, ◌≤ℤ◌, ◌+ℤ◌, ℕ, pos, false, option_map, IfOk};
 ghost use Rattle.nv_value.specs.View.{content};
 ghost use Rattle.nv_msgpack.specs.Shortest.{HasSpelling};
-ghost use Rattle.nv_undo.specs.Tree.{last};
-ghost use Rattle.nv_undo.specs.Ways.{undo_legs, redo_legs, legs_to};
 ghost use Rattle.nv_args.specs.Args.{typed_arguments};
 ghost use Rattle.nv_args.specs.Texts.{decimal_number};
 ghost use Rattle.nv_model.specs.Answers.{Answer};
-ghost use Rattle.nv_model.specs.Seen.{sealed_undo};
 ghost use Rattle.nv_model.specs.Standing.{seen_now, seen_buffer_now};
 ghost use Rattle.nv_editor.specs.Doing.{GivesAnswer};
-ghost use Rattle.nv_editor.specs.Light.{AreLightArgs};
-ghost use Rattle.nv_editor.specs.Sound.{content_at, is_live_buffer};
 ghost use Rattle.nv_api_buf.specs.Commands.{command_of, undo_number, undo, redo, undo_to, tabnew, tabclose, quit_all};
-ghost use Rattle.nv_api_buf.specs.CommandRows.{command_answer, legs_answer, nvim_command, no_tab_left, tabs_are_full};
+ghost use Rattle.nv_api_buf.specs.CommandRows.{command_answer, nvim_command, no_tab_left};
 ghost use Rattle.nv_api_buf.specs.inside.Deciding.{Leaves};
 ghost use Rattle.nv_api_buf.specs.inside.Orders.{command_told, unless_moved, unless_tabs_full};
 
 use crate::buffers::are_full;
-use crate::finding::{Live, buffer_at, live_of};
+use crate::finding::found_of;
 use crate::limits::tick_passes;
-use crate::options::name_given;
 use nv_args::{
     Args, Fail, last_one, limit_reached, no_id_left, not_modifiable, out_of_bounds, unknown_name,
 };
+use nv_buffer::Buffer;
 use nv_editor::{Editor, Fact, Happened};
 use nv_value::Value;
 
@@ -96,14 +91,11 @@ pub(crate) fn order_of(words: &[u8]) -> Option<Order>
 
 // Refuses so many splices of undo commands where the buffer isn't modifiable, and where they would
 // pass the greatest changedtick. No splice is never refused.
-fn may_move(editor: &Editor, live: Live, splices: u64) -> Result<(), Fail>
-    requires { is_live_buffer editor.now live.handle ≡ true }
+fn may_move(editor: &Editor, buffer: &Buffer, splices: u64) -> Result<(), Fail>
     ensures row { (answer : Answer) → Leaves (unless_moved editor.now.stage.limits
-        (seen_buffer_now (content_at editor.now live.handle)) splices answer) (λ _. answer) result }
-    ensures tick { IfOk result
-        (λ _. ((content_at editor.now live.handle).tick +ℤ pos splices) ≤ℤ i64.MAX) }
+        (seen_buffer_now buffer.now) splices answer) (λ _. answer) result }
+    ensures tick { IfOk result (λ _. (buffer.now.tick +ℤ pos splices) ≤ℤ i64.MAX) }
 {
-    let buffer = buffer_at(editor, live);
     let _tick = buffer.tick();
     if splices == 0 {
         return Ok(());
@@ -115,50 +107,6 @@ fn may_move(editor: &Editor, live: Live, splices: u64) -> Result<(), Fail>
         return Err(limit_reached(editor.alloc()));
     }
     Ok(())
-}
-
-fn go_back(editor: &mut Editor, live: Live, happened: &mut Happened) -> Result<Value, Fail>
-    requires { is_live_buffer editor.old live.handle ≡ true }
-    ensures row { let b = seen_buffer_now (content_at editor.old live.handle) in
-        GivesAnswer (legs_answer (seen_now editor.old) live.handle b (undo_legs (sealed_undo b)))
-        result editor.old editor.new happened.old happened.new }
-    ensures spelled { IfOk result (λ value. HasSpelling (content value)) }
-{
-    may_move(editor, live, editor.cost_back(live.handle))?;
-    editor.undo(live.handle, happened)?;
-    Ok(Value::Nil)
-}
-
-fn go_ahead(editor: &mut Editor, live: Live, happened: &mut Happened) -> Result<Value, Fail>
-    requires { is_live_buffer editor.old live.handle ≡ true }
-    ensures row { let b = seen_buffer_now (content_at editor.old live.handle) in
-        GivesAnswer (legs_answer (seen_now editor.old) live.handle b (redo_legs (sealed_undo b)))
-        result editor.old editor.new happened.old happened.new }
-    ensures spelled { IfOk result (λ value. HasSpelling (content value)) }
-{
-    may_move(editor, live, editor.cost_ahead(live.handle))?;
-    editor.redo(live.handle, happened)?;
-    Ok(Value::Nil)
-}
-
-// Goes to a change by its number, which is one of the buffer.
-fn go_to(
-    editor: &mut Editor,
-    live: Live,
-    number: u64,
-    happened: &mut Happened,
-) -> Result<Value, Fail>
-    requires live { is_live_buffer editor.old live.handle ≡ true }
-    requires within { number
-        ≤ last (sealed_undo (seen_buffer_now (content_at editor.old live.handle))) }
-    ensures row { let b = seen_buffer_now (content_at editor.old live.handle) in
-        GivesAnswer (legs_answer (seen_now editor.old) live.handle b
-        (legs_to number (sealed_undo b))) result editor.old editor.new happened.old happened.new }
-    ensures spelled { IfOk result (λ value. HasSpelling (content value)) }
-{
-    may_move(editor, live, editor.cost_to(live.handle, number))?;
-    editor.undo_to(live.handle, number, happened)?;
-    Ok(Value::Nil)
 }
 
 // Refuses a further tabpage where a handle is wanting, and where it would pass a limit.
@@ -185,9 +133,7 @@ fn make_tab(editor: &mut Editor, happened: &mut Happened) -> Result<Value, Fail>
 {
     let _ = happened.len();
     may_make_tab(editor)?;
-    let Some(buffer) = editor.make_buffer(true)? else {
-        return Err(Fail::NoMemory);
-    };
+    let buffer = editor.make_buffer(true)?;
     editor.make_tab(buffer)?;
     Ok(Value::Nil)
 }
@@ -223,8 +169,11 @@ fn undo_current(editor: &mut Editor, happened: &mut Happened) -> Result<Value, F
         editor.old editor.new happened.old happened.new }
     ensures spelled { IfOk result (λ value. HasSpelling (content value)) }
 {
-    let live = live_of(editor, 0)?;
-    go_back(editor, live, happened)
+    let found = found_of(editor, 0)?;
+    let handle = found.live.handle;
+    may_move(editor, found.buffer, editor.cost_back(handle))?;
+    editor.undo(handle, happened)?;
+    Ok(Value::Nil)
 }
 
 fn redo_current(editor: &mut Editor, happened: &mut Happened) -> Result<Value, Fail>
@@ -232,8 +181,11 @@ fn redo_current(editor: &mut Editor, happened: &mut Happened) -> Result<Value, F
         editor.old editor.new happened.old happened.new }
     ensures spelled { IfOk result (λ value. HasSpelling (content value)) }
 {
-    let live = live_of(editor, 0)?;
-    go_ahead(editor, live, happened)
+    let found = found_of(editor, 0)?;
+    let handle = found.live.handle;
+    may_move(editor, found.buffer, editor.cost_ahead(handle))?;
+    editor.redo(handle, happened)?;
+    Ok(Value::Nil)
 }
 
 fn undo_current_to(editor: &mut Editor, number: u64, happened: &mut Happened) -> Result<Value, Fail>
@@ -241,11 +193,14 @@ fn undo_current_to(editor: &mut Editor, number: u64, happened: &mut Happened) ->
         editor.old editor.new happened.old happened.new }
     ensures spelled { IfOk result (λ value. HasSpelling (content value)) }
 {
-    let live = live_of(editor, 0)?;
-    if number > editor.changes(live.handle) {
+    let found = found_of(editor, 0)?;
+    let handle = found.live.handle;
+    if number > editor.changes(handle) {
         return Err(out_of_bounds(editor.alloc()));
     }
-    go_to(editor, live, number, happened)
+    may_move(editor, found.buffer, editor.cost_to(handle, number))?;
+    editor.undo_to(handle, number, happened)?;
+    Ok(Value::Nil)
 }
 
 // Runs a command.
@@ -274,13 +229,12 @@ pub fn nvim_command(
     args: &Args,
     happened: &mut Happened,
 ) -> Result<Value, Fail>
-    requires { AreLightArgs (typed_arguments args.now) }
     ensures row { (session : ℕ) → GivesAnswer (nvim_command (seen_now editor.old) session
         (typed_arguments args.now)) result editor.old editor.new happened.old happened.new }
     ensures spelled { IfOk result (λ value. HasSpelling (content value)) }
 {
     let _ = happened.len();
-    let words = name_given(args);
+    let words = args.string(0);
     match order_of(words) {
         Some(order) => obey(editor, order, happened),
         None => Err(unknown_name(editor.alloc(), words)),

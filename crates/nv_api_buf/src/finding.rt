@@ -18,20 +18,6 @@ pub struct Live {
     pub handle: i64,
 }
 
-/// The live buffer of a handle, 0 being the current one. Without it the call is refused (help:
-/// api-types).
-pub fn live_of(editor: &Editor, n: i64) -> Result<Live, Fail>
-    ensures row { (next : ℤ → SeenBuffer → Answer) → Leaves (on_buffer (seen_now editor.now) n next)
-        (λ live. next live.handle (seen_buffer_now (content_at editor.now live.handle))) result }
-    ensures live { IfOk result (λ live. is_live_buffer editor.now live.handle ≡ true) }
-{
-    let handle = editor.named_buffer(n);
-    match editor.buffer(handle) {
-        Some(_) => Ok(Live { handle }),
-        None => Err(no_buffer(editor.alloc(), n)),
-    }
-}
-
 /// The live buffer that a call names, with its handle.
 #[derive(Clone, Copy)]
 pub struct Found<'a> {
@@ -39,8 +25,9 @@ pub struct Found<'a> {
     pub buffer: &'a Buffer,
 }
 
-// The live buffer of a handle, lent, as `live_of` finds it.
-fn found_of(editor: &Editor, n: i64) -> Result<Found<'_>, Fail>
+/// The live buffer of a handle, lent, 0 being the current one. Without it the call is refused
+/// (help: api-types).
+pub fn found_of(editor: &Editor, n: i64) -> Result<Found<'_>, Fail>
     ensures row { (next : ℤ → SeenBuffer → Answer) → Leaves (on_buffer (seen_now editor.now) n next)
         (λ found. next found.live.handle
         (seen_buffer_now (content_at editor.now found.live.handle))) result }
@@ -69,25 +56,4 @@ pub fn found_given<'a>(editor: &'a Editor, args: &Args) -> Result<Found<'a>, Fai
         (λ found. found.buffer.now ≡ content_at editor.now found.live.handle) }
 {
     found_of(editor, args.number(0))
-}
-
-/// The live buffer that the first argument names.
-pub fn live_given(editor: &Editor, args: &Args) -> Result<Live, Fail>
-    ensures row { (next : ℤ → SeenBuffer → Answer)
-        → Leaves (on_buffer (seen_now editor.now) (number_at (typed_arguments args.now) 0) next)
-        (λ live. next live.handle (seen_buffer_now (content_at editor.now live.handle))) result }
-    ensures live { IfOk result (λ live. is_live_buffer editor.now live.handle ≡ true) }
-{
-    live_of(editor, args.number(0))
-}
-
-/// A live buffer, lent.
-pub fn buffer_at(editor: &Editor, live: Live) -> &Buffer
-    requires { is_live_buffer editor.now live.handle ≡ true }
-    ensures { result.now ≡ content_at editor.now live.handle }
-{
-    match editor.buffer(live.handle) {
-        Some(buffer) => buffer,
-        None => unreachable!(),
-    }
 }

@@ -7,7 +7,7 @@ ghost use Rattle.nv_model.specs.Standing.{seen_now, seen_buffer_now};
 ghost use Rattle.nv_editor.specs.Doing.{GivesAnswer};
 ghost use Rattle.nv_api_buf.specs.BufferRows.{nvim_buf_attach, nvim_buf_detach};
 
-use crate::finding::{found_given, live_given};
+use crate::finding::found_given;
 use nv_args::{Args, Fail, map_fault};
 use nv_buffer::{Buffer, LineList};
 use nv_editor::{Editor, Fact, Happened};
@@ -50,7 +50,8 @@ pub fn nvim_buf_detach(editor: &Editor, args: &Args, happened: &mut Happened) ->
         (typed_arguments args.now)) result editor.now editor.now happened.old happened.new }
     ensures spelled { IfOk result (λ value. HasSpelling (content value)) }
 {
-    let live = live_given(editor, args)?;
+    let found = found_given(editor, args)?;
+    let live = found.live;
     happened.push(Fact::Detached {
         buffer: live.handle,
     })?;

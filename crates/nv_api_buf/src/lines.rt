@@ -1,31 +1,30 @@
 //! The methods on whole lines.
-ghost use Rattle.std.specs.Prelude.{◌≡◌, ◌≤◌, ℕ, List, true, length, slice_range, IfOk};
+ghost use Rattle.std.specs.Prelude.{◌≡◌, ◌+◌, ◌^◌, ◌<◌, ◌≤◌, ◌<ℤ◌, ℕ, List, [], All, length, slice_range, IfOk};
 ghost use Rattle.nv_value.specs.Content.{list};
 ghost use Rattle.nv_value.specs.View.{content};
 ghost use Rattle.nv_msgpack.specs.Shortest.{HasSpelling};
 ghost use Rattle.nv_rpc.specs.Outcomes.{outcome_content};
 ghost use Rattle.nv_buffer.specs.Content.{next_part};
-ghost use Rattle.nv_buffer.specs.Splices.{IsNarrowText};
+ghost use Rattle.nv_buffer.specs.Splices.{IsNarrowLine, IsNarrowText};
 ghost use Rattle.nv_args.specs.Args.{typed_arguments};
 ghost use Rattle.nv_args.specs.Texts.{lines_put, strings};
 ghost use Rattle.nv_model.specs.Answers.{Answer, Fact};
-ghost use Rattle.nv_model.specs.Answering.{splice_answer};
 ghost use Rattle.nv_model.specs.Buffers.{rows_splice};
 ghost use Rattle.nv_model.specs.Standing.{PresentEditor, seen_now, seen_buffer_now};
 ghost use Rattle.nv_editor.specs.Doing.{GivesAnswer, GivesResult};
-ghost use Rattle.nv_editor.specs.Sound.{content_at, is_live_buffer};
 ghost use Rattle.nv_api_buf.specs.Excerpts.{ReadsLines};
 ghost use Rattle.nv_api_buf.specs.TextRows.{nvim_buf_get_lines, nvim_buf_set_lines};
 ghost use Rattle.nv_api_buf.specs.inside.Deciding.{Leaves, unless_barred, unless_outside, lines_answer};
 ghost use Rattle.nv_api_buf.specs.inside.Ranges.{range_rows, ordered_rows};
 ghost use Rattle.nv_api_buf.specs.declared.lines.Rows.{Rows};
 
-use crate::finding::{Live, buffer_at, found_given};
+use crate::finding::found_given;
 use crate::replacement::{left_with, may_put_rows, new_lines};
 use nv_args::{Args, Fail, leaves_text, out_of_bounds, row_of_index, start_after_end};
 use nv_buffer::{Buffer, LineList, Lines};
 use nv_editor::{Editor, Happened};
 use nv_lines::Excerpt;
+use nv_model::Limits;
 use nv_rpc::{CallResult, Outcome};
 use nv_value::Value;
 use std::alloc::{AllocError, Global};
@@ -105,32 +104,33 @@ pub(crate) fn as_lines(given: Result<Excerpt, Fail>) -> Result<Outcome, Fail>
     }
 }
 
-// Puts lines in place of rows, where that is allowed.
-fn put_rows(
-    editor: &mut Editor,
-    live: Live,
+// The lines that come in the place of rows: those that are given, or one empty line where the text
+// would have none. They are refused where they may not be put.
+fn rows_to_put(
+    alloc: Global,
+    limits: Limits,
+    buffer: &Buffer,
     rows: Rows,
-    new: LineList,
-    happened: &mut Happened,
-) -> Result<Value, Fail>
-    requires live { is_live_buffer editor.old live.handle ≡ true }
+    given: LineList,
+) -> Result<LineList, Fail>
     requires order { rows.from ≤ rows.to }
-    requires within { rows.to ≤ length (content_at editor.old live.handle).text }
-    ensures row { let b = content_at editor.old live.handle in
-        let put = lines_put rows.from rows.to new b.text in
-        let splice = rows_splice (next_part b) b.text rows.from rows.to put in
-        GivesAnswer (unless_barred editor.old.stage.limits (seen_buffer_now b) splice
-        (splice_answer live.handle (seen_buffer_now b) splice)) result editor.old editor.new
-        happened.old happened.new }
-    ensures spelled { IfOk result (λ value. HasSpelling (content value)) }
+    requires within { rows.to ≤ length buffer.now.text }
+    ensures row { (answer : Answer) → Leaves (unless_barred limits (seen_buffer_now buffer.now)
+        (rows_splice (next_part buffer.now) buffer.now.text rows.from rows.to
+        (lines_put rows.from rows.to given buffer.now.text)) answer) (λ _. answer) result }
+    ensures same { IfOk result (λ new. new ≡ lines_put rows.from rows.to given buffer.now.text) }
+    ensures left { IfOk result (λ new. rows.to < rows.from + length new
+        + length buffer.now.text) }
+    ensures count { IfOk result (λ new. rows.from + length new + length buffer.now.text
+        < rows.to + 2 ^ 32) }
+    ensures columns { IfOk result (λ new. All IsNarrowLine new) }
+    ensures tick { IfOk result (λ new. ¬ ((rows.from ≡ rows.to) × (new ≡ []))
+        → buffer.now.tick <ℤ i64.MAX) }
 {
     let (from, to) = (rows.from, rows.to);
-    let alloc = editor.alloc();
-    let buffer = buffer_at(editor, live);
-    let new = left_with(alloc, buffer.text(), from, to, new)?;
-    may_put_rows(alloc, editor.limits(), buffer, from, to, &new)?;
-    editor.put_lines(live.handle, from, to, new, happened)?;
-    Ok(Value::Nil)
+    let new = left_with(alloc, buffer.text(), from, to, given)?;
+    may_put_rows(alloc, limits, buffer, from, to, &new)?;
+    Ok(new)
 }
 
 // The rows of a range of a buffer. An end before the start is refused.
@@ -158,9 +158,12 @@ pub fn nvim_buf_set_lines(
     ensures spelled { IfOk result (λ value. HasSpelling (content value)) }
 {
     let found = found_given(editor, args)?;
-    let live = found.live;
-    let rows = rows_in_order(editor.alloc(), found.buffer, args)?;
+    let handle = found.live.handle;
+    let alloc = editor.alloc();
+    let rows = rows_in_order(alloc, found.buffer, args)?;
     let strings = args.lines(4);
-    let new = new_lines(editor.alloc(), strings)?;
-    put_rows(editor, live, rows, new, happened)
+    let given = new_lines(alloc, strings)?;
+    let new = rows_to_put(alloc, editor.limits(), found.buffer, rows, given)?;
+    editor.put_lines(handle, rows.from, rows.to, new, happened)?;
+    Ok(Value::Nil)
 }

@@ -1,26 +1,25 @@
 //! The options of a buffer (help: options).
-ghost use Rattle.std.specs.Prelude.{◌≡◌, ◌∷◌, [], ℕ, ℤ, pos, ◌^◌, ◌<◌, true, length, map, bytes_eq, option_map, option_and_then, ◌≤◌, IfOk, IfSome};
+ghost use Rattle.std.specs.Prelude.{◌≡◌, ◌∷◌, [], ℕ, ℤ, true, map, bytes_eq, option_map, option_and_then, ◌≤◌, IfOk, IfSome};
 ghost use Rattle.nv_value.specs.Content.{nil};
 ghost use Rattle.nv_value.specs.View.{content, pair_content};
 ghost use Rattle.nv_msgpack.specs.Shortest.{HasSpelling};
 ghost use Rattle.nv_msgpack.specs.Handle.{integer_of};
 ghost use Rattle.nv_args.specs.Args.{typed_arguments};
 ghost use Rattle.nv_args.specs.Arguments.{last_pairs};
-ghost use Rattle.nv_args.specs.Reading.{object_at, string_at};
+ghost use Rattle.nv_args.specs.Reading.{object_at};
 ghost use Rattle.nv_args.specs.Refusals.{Finds};
 ghost use Rattle.nv_args.specs.Rules.{key_of};
 ghost use Rattle.nv_model.specs.Answers.{Answer, on_buffer};
 ghost use Rattle.nv_model.specs.Seen.{SeenBuffer};
 ghost use Rattle.nv_model.specs.Standing.{seen_now, seen_buffer_now};
 ghost use Rattle.nv_editor.specs.Doing.{Does, GivesAnswer, ReadsAnswer};
-ghost use Rattle.nv_editor.specs.Light.{AreLightArgs};
 ghost use Rattle.nv_editor.specs.Sound.{content_at, is_live_buffer};
 ghost use Rattle.nv_api_buf.specs.OptionRows.{nvim_get_option_value, nvim_set_option_value, option_keys, option_named, option_buffer, tabstop_of, value_fault};
 ghost use Rattle.nv_api_buf.specs.inside.Deciding.{Leaves};
 ghost use Rattle.nv_api_buf.specs.inside.Settings.{option_of, operation_of, IsPuttable};
 ghost use Rattle.nv_api_buf.specs.inside.Optioning.{value_answer};
 
-use crate::finding::{Live, buffer_at, live_of};
+use crate::finding::{Found, Live, found_of};
 use nv_args::{
     Args, Fail, Rule, Takes, buffer_at as handle_at, invalid_value, map_fault, truth_of,
     unknown_key, unknown_name, wrong_value,
@@ -77,7 +76,6 @@ fn setting_named(name: &[u8]) -> Option<Setting>
 impl Setting {
     fn name(self) -> &'static str
         ensures name { result.now ≡ (option_of self).name }
-        ensures short { length result.now < 2 ^ 31 }
     {
         match self {
             Setting::Modifiable => "modifiable",
@@ -159,29 +157,22 @@ fn option_rules() -> [Rule; 2]
     ]
 }
 
-// The live buffer whose option is meant.
-fn live_by(editor: &Editor, pairs: &[Pair]) -> Result<Live, Fail>
+// The live buffer whose option is meant, lent.
+fn found_by<'a>(editor: &'a Editor, pairs: &[Pair]) -> Result<Found<'a>, Fail>
     ensures row { (next : ℤ → SeenBuffer → Answer)
         → Leaves (on_buffer (seen_now editor.now)
         (option_buffer (last_pairs (map pair_content pairs.now))) next)
-        (λ live. next live.handle (seen_buffer_now (content_at editor.now live.handle))) result }
-    ensures live { IfOk result (λ live. is_live_buffer editor.now live.handle ≡ true) }
+        (λ found. next found.live.handle
+        (seen_buffer_now (content_at editor.now found.live.handle))) result }
+    ensures live { IfOk result (λ found. is_live_buffer editor.now found.live.handle ≡ true) }
+    ensures buffer { IfOk result
+        (λ found. found.buffer.now ≡ content_at editor.now found.live.handle) }
 {
-    live_of(editor, handle_at(pairs, "buf").unwrap_or(0))
-}
-
-/// The name in the first argument, which a fault can tell.
-pub fn name_given<'a>(args: &'a Args) -> &'a [u8]
-    requires { AreLightArgs (typed_arguments args.now) }
-    ensures name { result.now ≡ string_at (typed_arguments args.now) 0 }
-    ensures short { length result.now < 2 ^ 31 }
-{
-    args.string(0)
+    found_of(editor, handle_at(pairs, "buf").unwrap_or(0))
 }
 
 // The value of the option of a name.
 fn option_value(alloc: Global, buffer: &Buffer, name: &[u8]) -> Result<Value, Fail>
-    requires { length name.now < 2 ^ 31 }
     ensures row { ReadsAnswer (value_answer (seen_buffer_now buffer.now) name.now) result }
     ensures spelled { IfOk result (λ value. HasSpelling (content value)) }
 {
@@ -193,17 +184,16 @@ fn option_value(alloc: Global, buffer: &Buffer, name: &[u8]) -> Result<Value, Fa
 
 /// `nvim_get_option_value`: the value of a buffer's option.
 pub fn nvim_get_option_value(editor: &Editor, args: &Args) -> Result<Value, Fail>
-    requires { AreLightArgs (typed_arguments args.now) }
     ensures row { (session : ℕ) → ReadsAnswer (nvim_get_option_value (seen_now editor.now) session
         (typed_arguments args.now)) result }
     ensures spelled { IfOk result (λ value. HasSpelling (content value)) }
 {
-    let name = name_given(args);
+    let name = args.string(0);
     let pairs = args.pairs(1);
-    let live = live_by(editor, pairs)?;
+    let found = found_by(editor, pairs)?;
     let rules = option_rules();
     map_fault(editor.alloc(), &rules, pairs)?;
-    option_value(editor.alloc(), buffer_at(editor, live), name)
+    option_value(editor.alloc(), found.buffer, name)
 }
 
 // The Object in the second argument, and nil where there is none.
@@ -255,15 +245,15 @@ pub fn nvim_set_option_value(
     args: &Args,
     happened: &mut Happened,
 ) -> Result<Value, Fail>
-    requires { AreLightArgs (typed_arguments args.now) }
     ensures row { (session : ℕ) → GivesAnswer (nvim_set_option_value (seen_now editor.old) session
         (typed_arguments args.now)) result editor.old editor.new happened.old happened.new }
     ensures spelled { IfOk result (λ value. HasSpelling (content value)) }
 {
     let _ = happened.len();
-    let name = name_given(args);
+    let name = args.string(0);
     let pairs = args.pairs(2);
-    let live = live_by(editor, pairs)?;
+    let found = found_by(editor, pairs)?;
+    let live = found.live;
     let rules = option_rules();
     unknown_key(editor.alloc(), &rules, pairs)?;
     let none = Value::Nil;

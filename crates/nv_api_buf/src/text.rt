@@ -1,5 +1,5 @@
 //! The methods on text between two places.
-ghost use Rattle.std.specs.Prelude.{◌≡◌, ◌≤◌, ◌<◌, ◌∷◌, [], ℕ, Some, true, false, length, option_map, IfOk, IfSome};
+ghost use Rattle.std.specs.Prelude.{◌≡◌, ◌+◌, ◌^◌, ◌≤◌, ◌<◌, ◌<ℤ◌, ◌∷◌, [], ℕ, All, Some, false, length, option_map, IfOk, IfSome};
 ghost use Rattle.nv_value.specs.Content.{list};
 ghost use Rattle.nv_value.specs.View.{content};
 ghost use Rattle.nv_msgpack.specs.Shortest.{HasSpelling};
@@ -7,30 +7,29 @@ ghost use Rattle.nv_places.specs.Flat.{line_at};
 ghost use Rattle.nv_places.specs.Places.{is_before};
 ghost use Rattle.nv_places.specs.declared.place.Pos.{Pos};
 ghost use Rattle.nv_buffer.specs.Content.{next_part};
-ghost use Rattle.nv_buffer.specs.Splices.{IsInLine, IsNarrowText};
+ghost use Rattle.nv_buffer.specs.Splices.{IsInLine, IsNarrowLine, IsNarrowText, lines_between};
 ghost use Rattle.nv_args.specs.Args.{typed_arguments};
 ghost use Rattle.nv_args.specs.Arguments.{text_row};
 ghost use Rattle.nv_args.specs.Reading.{number_at};
 ghost use Rattle.nv_args.specs.Texts.{or_empty, strings, text_between};
 ghost use Rattle.nv_model.specs.Answers.{Answer};
-ghost use Rattle.nv_model.specs.Answering.{splice_answer};
 ghost use Rattle.nv_model.specs.Buffers.{text_splice};
 ghost use Rattle.nv_model.specs.Standing.{seen_now, seen_buffer_now};
 ghost use Rattle.nv_editor.specs.Doing.{GivesAnswer};
-ghost use Rattle.nv_editor.specs.Sound.{content_at, is_live_buffer};
 ghost use Rattle.nv_api_buf.specs.Excerpts.{ReadsLines};
 ghost use Rattle.nv_api_buf.specs.Texts.{place_in_row};
 ghost use Rattle.nv_api_buf.specs.TextRows.{nvim_buf_get_text, nvim_buf_set_text, on_places};
 ghost use Rattle.nv_api_buf.specs.inside.Deciding.{Leaves, unless_barred, text_answer};
 ghost use Rattle.nv_api_buf.specs.inside.Parts.{IsRowOf, part_of};
 
-use crate::finding::{Live, buffer_at, found_given};
+use crate::finding::found_given;
 use crate::joining::may_put_text;
 use crate::replacement::new_lines;
 use nv_args::{Args, Fail, map_fault, out_of_bounds, start_after_end, text_col, text_row};
 use nv_buffer::{Buffer, Line, LineList, Lines, Pos};
 use nv_editor::{Editor, Happened};
 use nv_lines::Excerpt;
+use nv_model::Limits;
 use nv_value::{Bytes, Value};
 use std::alloc::{AllocError, Global};
 
@@ -224,31 +223,33 @@ pub fn nvim_buf_get_text(editor: &Editor, args: &Args) -> Result<Excerpt, Fail>
     text_answer(editor.alloc(), found.buffer, args)
 }
 
-// Puts lines between two places, where that is allowed.
-fn put_between(
-    editor: &mut Editor,
-    live: Live,
+// The lines that come between two places: those that are given, or an empty one where there is
+// none. They are refused where they may not be put.
+fn text_to_put(
+    alloc: Global,
+    limits: Limits,
+    buffer: &Buffer,
     span: Span,
-    new: LineList,
-    happened: &mut Happened,
-) -> Result<Value, Fail>
-    requires live { is_live_buffer editor.old live.handle ≡ true }
-    requires start { IsInLine (content_at editor.old live.handle).text span.start }
-    requires stop { IsInLine (content_at editor.old live.handle).text span.stop }
+    given: LineList,
+) -> Result<LineList, Fail>
+    requires start { IsInLine buffer.now.text span.start }
+    requires stop { IsInLine buffer.now.text span.stop }
     requires order { is_before span.stop span.start ≡ false }
-    ensures row { let b = content_at editor.old live.handle in
-        let splice = text_splice (next_part b) b.text span.start span.stop (or_empty new) in
-        GivesAnswer (unless_barred editor.old.stage.limits (seen_buffer_now b) splice
-        (splice_answer live.handle (seen_buffer_now b) splice)) result editor.old editor.new
-        happened.old happened.new }
-    ensures spelled { IfOk result (λ value. HasSpelling (content value)) }
+    ensures row { (answer : Answer) → Leaves (unless_barred limits (seen_buffer_now buffer.now)
+        (text_splice (next_part buffer.now) buffer.now.text span.start span.stop (or_empty given))
+        answer) (λ _. answer) result }
+    ensures same { IfOk result (λ new. new ≡ or_empty given) }
+    ensures some { IfOk result (λ new. 0 < length new) }
+    ensures count { IfOk result (λ new. span.start.row + length new + length buffer.now.text
+        < span.stop.row + 1 + 2 ^ 32) }
+    ensures columns { IfOk result (λ new. All IsNarrowLine
+        (lines_between buffer.now.text span.start span.stop new)) }
+    ensures tick { IfOk result (λ new. ¬ ((span.start ≡ span.stop) × (new ≡ [] ∷ []))
+        → buffer.now.tick <ℤ i64.MAX) }
 {
-    let alloc = editor.alloc();
-    let buffer = buffer_at(editor, live);
-    let new = or_empty(alloc, new)?;
-    may_put_text(alloc, editor.limits(), buffer, span.start, span.stop, &new)?;
-    editor.put_text(live.handle, span.start, span.stop, new, happened)?;
-    Ok(Value::Nil)
+    let new = or_empty(alloc, given)?;
+    may_put_text(alloc, limits, buffer, span.start, span.stop, &new)?;
+    Ok(new)
 }
 
 /// `nvim_buf_set_text`: puts lines between two places, the end column exclusive.
@@ -263,9 +264,11 @@ pub fn nvim_buf_set_text(
 {
     let alloc = editor.alloc();
     let found = found_given(editor, args)?;
-    let live = found.live;
+    let handle = found.live.handle;
     let span = span_of(alloc, found.buffer, args)?;
     let strings = args.lines(5);
-    let new = new_lines(alloc, strings)?;
-    put_between(editor, live, span, new, happened)
+    let given = new_lines(alloc, strings)?;
+    let new = text_to_put(alloc, editor.limits(), found.buffer, span, given)?;
+    editor.put_text(handle, span.start, span.stop, new, happened)?;
+    Ok(Value::Nil)
 }

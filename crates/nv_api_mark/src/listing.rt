@@ -30,7 +30,7 @@ use nv_buffer::{Buffer, Mark, Pos, Query};
 use nv_editor::Editor;
 use nv_hl::Groups;
 use nv_rpc::{CallResult, Outcome, Triple};
-use nv_value::{Pair, Value};
+use nv_value::{Pair, Value, spelled_length};
 use std::alloc::{AllocError, Global};
 
 /// Where marks are listed: those of one namespace, or all, from one place to another.
@@ -190,9 +190,7 @@ fn listed_marks(
         ≡ array_of (map (listed_mark groups.now details) marks.now)) }
     ensures spelled { IfOk result (λ outcome. HasSpelling (outcome_content outcome)) }
 {
-    if marks.len() > u32::MAX as usize {
-        return Err(AllocError);
-    }
+    let _ = spelled_length(marks.len())?;
     if details {
         let value = detailed_marks(alloc, groups, marks)?;
         return Ok(Outcome::One(CallResult::Value(value)));

@@ -1,5 +1,5 @@
 //! The methods on namespaces, and the namespaces that numbers name.
-ghost use Rattle.std.specs.Prelude.{◌≡◌, ℕ, List, map, IfOk};
+ghost use Rattle.std.specs.Prelude.{◌≡◌, ◌^◌, ◌<◌, ℕ, List, length, map, IfOk};
 ghost use Rattle.nv_value.specs.Content.{text};
 ghost use Rattle.nv_value.specs.View.{content, pair_content};
 ghost use Rattle.nv_msgpack.specs.Shortest.{HasSpelling};
@@ -77,13 +77,11 @@ fn entry(alloc: Global, name: &[u8], ns: u32) -> Result<Pair, AllocError>
 
 // Names with their ids.
 fn entries(alloc: Global, names: &[(&[u8], u32)]) -> Result<Value, AllocError>
+    requires { length names.now < 2 ^ 32 }
     ensures value { IfOk result (λ value. content value
         ≡ dict_of (map (λ e. (text e.0.now, natural e.1)) names.now)) }
     ensures spelled { IfOk result (λ value. HasSpelling (content value)) }
 {
-    if names.len() > u32::MAX as usize {
-        return Err(AllocError);
-    }
     let mut fields = Vec::with_capacity(alloc, names.len())?;
     for (name, ns) in names {
         fields.push(entry(alloc, name, *ns)?)?;

@@ -161,19 +161,9 @@ fn unknown_group(alloc: Global, number: Option<i64>) -> Fail
         return unknown_name(alloc, &[]);
     };
     match format!(in alloc; "{number}") {
-        Ok(words) => unknown_named(alloc, words.as_bytes()),
+        Ok(words) => unknown_name(alloc, words.as_bytes()),
         Err(_) => Fail::NoMemory,
     }
-}
-
-// No group has this name.
-fn unknown_named(alloc: Global, words: &[u8]) -> Fail
-    ensures { Refuses result (unknown_name words.now) }
-{
-    if words.len() > i32::MAX as usize {
-        return Fail::NoMemory;
-    }
-    unknown_name(alloc, words)
 }
 
 // How many groups are made for a mark.

@@ -20,10 +20,8 @@ pub fn natural_value(number: u32) -> Value
 pub fn text_value(alloc: Global, bytes: &[u8]) -> Result<Value, AllocError>
     ensures value { IfOk result (λ value. content value ≡ text bytes.now) }
     ensures spelled { IfOk result (λ value. HasSpelling (content value)) }
+    ensures short { OnOk result (length bytes.now < 2 ^ 32) }
 {
-    if bytes.len() > u32::MAX as usize {
-        return Err(AllocError);
-    }
     Ok(Value::Text(Bytes::from_slice(alloc, bytes)?))
 }
 
@@ -88,9 +86,6 @@ pub fn put_text(
         ≡ map pair_content fields.old.items ++ (text key.now, text bytes.now) ∷ rest) }
     ensures short { OnOk result (length bytes.now < 2 ^ 32) }
 {
-    if bytes.len() > u32::MAX as usize {
-        return Err(AllocError);
-    }
     let value = text_value(alloc, bytes)?;
     put(alloc, fields, key, value)
 }

@@ -13,9 +13,6 @@ use nv_model::Ui;
 use nv_value::{Pair, Value};
 use std::alloc::Global;
 
-/// The longest string that a call is taken to hold. (A message has far fewer bytes.)
-pub const LONGEST: usize = 2_147_483_647;
-
 // The options, of which the first must be given.
 fn ui_rules() -> [Rule; 15]
     ensures { map key_of result ≡ ui_keys }
@@ -82,9 +79,6 @@ fn ui_rule(name: &[u8]) -> Option<Rule>
 pub fn check_option(alloc: Global, name: &[u8], value: &Value) -> Result<(), Fail>
     ensures { Finds result (ui_option_fault name.now (content value.now)) }
 {
-    if name.len() > LONGEST {
-        return Err(Fail::NoMemory);
-    }
     match ui_rule(name) {
         Some(rule) => {
             if rule.takes.takes(value) {

@@ -9,7 +9,6 @@ ghost use Rattle.nv_model.specs.Standing.{seen_now};
 ghost use Rattle.nv_editor.specs.Doing.{ReadsAnswer};
 ghost use Rattle.nv_api_ui.specs.UiRows.{nvim_list_uis, nvim_strwidth};
 
-use crate::options::LONGEST;
 use crate::values::{ui_list, unsigned_value};
 use nv_args::{Args, Fail};
 use nv_editor::Editor;
@@ -31,9 +30,5 @@ pub fn nvim_strwidth(args: &Args) -> Result<Value, Fail>
         → ReadsAnswer (nvim_strwidth s session (typed_arguments args.now)) result }
     ensures spelled { IfOk result (λ value. HasSpelling (content value)) }
 {
-    let text = args.string(0);
-    if text.len() > LONGEST {
-        return Err(Fail::NoMemory);
-    }
-    Ok(unsigned_value(strwidth(text)))
+    Ok(unsigned_value(strwidth(args.string(0))))
 }

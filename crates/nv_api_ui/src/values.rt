@@ -8,11 +8,8 @@ ghost use Rattle.nv_model.specs.Answering.{array_of};
 ghost use Rattle.nv_api_ui.specs.UiRows.{ui_dict};
 
 use nv_model::Ui;
-use nv_value::{Bytes, Pair, Value};
+use nv_value::{Bytes, Pair, Value, spelled_length};
 use std::alloc::{AllocError, Global};
-
-// The most values that a list of a reply holds.
-const MOST_VALUES: usize = 4_294_967_295;
 
 /// A number of at least 0.
 pub fn unsigned_value(number: u64) -> Value
@@ -53,9 +50,7 @@ pub fn ui_list(alloc: Global, uis: &[Ui]) -> Result<Value, AllocError>
     ensures value { IfOk result (λ value. content value ≡ array_of (map ui_dict uis.now)) }
     ensures spelled { IfOk result (λ value. HasSpelling (content value)) }
 {
-    if uis.len() > MOST_VALUES {
-        return Err(AllocError);
-    }
+    let _ = spelled_length(uis.len())?;
     let mut items = Vec::with_capacity(alloc, uis.len())?;
     for ui in uis {
         items.push(ui_value(alloc, *ui)?)?;

@@ -8,7 +8,7 @@ ghost use Rattle.nv_api_win.specs.Windows.{tabpage_handle, window_handle};
 
 use nv_layout::Rect;
 use nv_msgpack::handle;
-use nv_value::Value;
+use nv_value::{Value, spelled_length};
 use nv_windows::{Window, Windows};
 use std::alloc::{AllocError, Global};
 
@@ -18,9 +18,6 @@ const BUFFER: i8 = 0;
 const WINDOW: i8 = 1;
 
 const TABPAGE: i8 = 2;
-
-// The most values that a list of a reply holds.
-const MOST_VALUES: usize = 4_294_967_295;
 
 /// The handle of a buffer.
 pub fn buffer_value(alloc: Global, number: i64) -> Result<Value, AllocError>
@@ -52,9 +49,7 @@ pub fn window_list(alloc: Global, numbers: &[i64]) -> Result<Value, AllocError>
         (λ value. content value ≡ array_of (map window_handle numbers.now)) }
     ensures spelled { IfOk result (λ value. HasSpelling (content value)) }
 {
-    if numbers.len() > MOST_VALUES {
-        return Err(AllocError);
-    }
+    let _ = spelled_length(numbers.len())?;
     let mut items = Vec::with_capacity(alloc, numbers.len())?;
     for number in numbers {
         items.push(window_value(alloc, *number)?)?;
@@ -69,9 +64,7 @@ pub fn tabpage_list(alloc: Global, windows: &Windows) -> Result<Value, AllocErro
     ensures spelled { IfOk result (λ value. HasSpelling (content value)) }
 {
     let tabpages = windows.tabpages();
-    if tabpages.len() > MOST_VALUES {
-        return Err(AllocError);
-    }
+    let _ = spelled_length(tabpages.len())?;
     let mut items = Vec::with_capacity(alloc, tabpages.len())?;
     for tabpage in tabpages {
         items.push(tabpage_value(alloc, tabpage.handle)?)?;

@@ -10,4 +10,3 @@ pub mod Pairs
 pub mod ReadLemmas
 pub mod Refusing
 pub mod Spelled
-pub mod Words

@@ -1,6 +1,5 @@
 -- What private contracts alone cite.
 pub mod Held
-pub mod Telling
 pub mod Colours
 pub mod Looking
 pub mod Lookup

@@ -1,5 +1,5 @@
 //! The arguments of a call, each of the kind that its method's parameter takes.
-ghost use Rattle.std.specs.Prelude.{◌≡◌, false, [], length, map, slice_get, Some, option_map, unwrap_or, IfOk, IfSome, ◌<◌};
+ghost use Rattle.std.specs.Prelude.{◌≡◌, false, [], length, map, slice_get, Some, option_map, unwrap_or, IfOk, IfSome, ◌^◌, ◌<◌};
 ghost use Rattle.nv_value.specs.Content.{Trees, nil};
 ghost use Rattle.nv_value.specs.View.{content, contents, pair_content};
 ghost use Rattle.nv_args.specs.Arguments.{truth_in, string_in, strings_in, pairs_in};
@@ -113,7 +113,8 @@ impl<'a> Args<'a> {
 
     /// The String at a place, from 0, lent. Empty where the argument is none.
     pub fn string(&self, place: usize) -> &'a [u8]
-        ensures { result.now ≡ string_at (typed_arguments self.now) place }
+        ensures bytes { result.now ≡ string_at (typed_arguments self.now) place }
+        ensures few { length result.now < 2 ^ 32 }
     {
         if !is_string_kind(self.kind(place)) {
             return &[];
@@ -211,7 +212,8 @@ fn is_true(value: &Value) -> bool
 }
 
 fn string_in(value: &Value) -> &[u8]
-    ensures { result.now ≡ unwrap_or (string_in (content value.now)) [] }
+    ensures bytes { result.now ≡ unwrap_or (string_in (content value.now)) [] }
+    ensures few { length result.now < 2 ^ 32 }
 {
     match value {
         Value::Text(bytes) | Value::Bin(bytes) => bytes.as_slice(),

@@ -6,19 +6,16 @@ ghost use Rattle.nv_args.specs.Arguments.{string_in, last_pairs};
 ghost use Rattle.nv_args.specs.Faults.{invalid_key, invalid_value};
 ghost use Rattle.nv_args.specs.Maps.{has_name, value_of, unknown_key, wrong_value, missing_key, map_fault, takes_value, known_key};
 ghost use Rattle.nv_args.specs.Naming.{is_group_name, is_one_of, names_group, wrong_value_of, naming_fault};
-ghost use Rattle.nv_args.specs.Refusals.{Finds, Refuses};
+ghost use Rattle.nv_args.specs.Refusals.{Finds};
 ghost use Rattle.nv_args.specs.Rules.{key_of};
 ghost use Rattle.nv_args.specs.inside.Looking.{are_faultless, are_known, is_faultless, is_known, stands_in, is_key_among, stands_among, fault_after, misnames, pair_fault, fault_that_counts};
 
-use crate::faults::{self, Fail};
+use crate::faults::{Fail, invalid_key, invalid_value};
 use crate::reading::name_in;
 use crate::rules::{Rule, rule_of};
 use nv_value::{Pair, Value};
 use std::alloc::{AllocError, Global};
 use std::collections::BTreeSet;
-
-// The longest name that a fault tells.
-const LONGEST_NAME: usize = 2_147_483_647;
 
 // The longest name that a highlight group may have, in bytes.
 const LONGEST_GROUP_NAME: usize = 200;
@@ -69,7 +66,7 @@ pub fn unknown_key(alloc: Global, rules: &[Rule], pairs: &[Pair]) -> Result<(), 
         return Ok(());
     }
     match first_unknown(alloc, rules, pairs)? {
-        Some(name) => Err(unknown_fault(alloc, name)),
+        Some(name) => Err(invalid_key(alloc, name)),
         None => Ok(()),
     }
 }
@@ -135,24 +132,6 @@ fn first_after<'a>(
     }
 }
 
-fn unknown_fault(alloc: Global, name: &[u8]) -> Fail
-    ensures { Refuses result (invalid_key name.now) }
-{
-    if name.len() > LONGEST_NAME {
-        return Fail::NoMemory;
-    }
-    faults::invalid_key(alloc, name)
-}
-
-fn value_fault_of(alloc: Global, name: &[u8]) -> Fail
-    ensures { Refuses result (invalid_value name.now) }
-{
-    if name.len() > LONGEST_NAME {
-        return Fail::NoMemory;
-    }
-    faults::invalid_value(alloc, name)
-}
-
 /// Refuses the first value that its key doesn't take.
 pub fn wrong_value(alloc: Global, rules: &[Rule], pairs: &[Pair]) -> Result<(), Fail>
     ensures { Finds result (wrong_value (map key_of rules.now)
@@ -173,7 +152,7 @@ pub fn wrong_value_of(
         (map key_of rules.now) (last_pairs (map pair_content pairs.now))) }
 {
     match first_wrong_value(naming, rules, pairs) {
-        Some(name) => Err(value_fault_of(alloc, name)),
+        Some(name) => Err(invalid_value(alloc, name)),
         None => Ok(()),
     }
 }
@@ -327,7 +306,7 @@ pub fn missing_key(alloc: Global, rules: &[Rule], pairs: &[Pair]) -> Result<(), 
         (last_pairs (map pair_content pairs.now))) }
 {
     match first_missing(rules, pairs) {
-        Some(name) => Err(value_fault_of(alloc, name.as_bytes())),
+        Some(name) => Err(invalid_value(alloc, name.as_bytes())),
         None => Ok(()),
     }
 }

@@ -1,8 +1,7 @@
 //! The faults that a call is refused with.
-ghost use Rattle.std.specs.Prelude.{◌≡◌, ◌+◌, ◌++◌, ◌^◌, ◌<◌, length, string_bytes};
+ghost use Rattle.std.specs.Prelude.{◌≡◌, ◌++◌, string_bytes};
 ghost use Rattle.nv_args.specs.declared.faults.Fail.TheVariants.{NoMemory};
 ghost use Rattle.nv_args.specs.Refusals.{Refuses};
-ghost use Rattle.nv_args.specs.inside.Telling.{TellsFault};
 ghost use Rattle.nv_args.specs.Faults.{unknown_method, wrong_count, wrong_type, no_buffer, invalid_key, invalid_value, out_of_bounds, start_after_end, newline_inside, not_modifiable, unknown_name, limit_reached, no_window, no_tabpage, no_id_left, no_room, last_one, name_in_use, unsaved_changes, not_attached, already_attached};
 
 use nv_value::{ApiFault, Bytes};
@@ -27,7 +26,7 @@ impl From<AllocError> for Fail {
 
 // A fault with these words, whose memory it takes over.
 fn fault(kind: u8, code: u16, words: String) -> Fail
-    ensures { TellsFault result (record { kind = kind; code = code; words = string_bytes words }) }
+    ensures { Refuses result (record { kind = kind; code = code; words = string_bytes words }) }
 {
     match Bytes::from_vec(words.into_bytes()) {
         Ok(words) => Fail::Api(ApiFault { kind, code, words }),
@@ -36,7 +35,6 @@ fn fault(kind: u8, code: u16, words: String) -> Fail
 }
 
 fn fixed(alloc: Global, kind: u8, code: u16, words: &str) -> Fail
-    requires { length words.now < 2 ^ 32 }
     ensures { Refuses result (record { kind = kind; code = code; words = words.now }) }
 {
     match Bytes::from_slice(alloc, words.as_bytes()) {
@@ -47,7 +45,6 @@ fn fixed(alloc: Global, kind: u8, code: u16, words: &str) -> Fail
 
 // A fault whose words end in bytes that were given.
 fn named(alloc: Global, kind: u8, code: u16, front: &str, name: &[u8]) -> Fail
-    requires { length front.now + length name.now < 2 ^ 32 }
     ensures { Refuses result (record { kind = kind; code = code; words = front.now ++ name.now }) }
 {
     let Ok(mut words) = Vec::from_slice(alloc, front.as_bytes()) else {
@@ -64,7 +61,6 @@ fn named(alloc: Global, kind: u8, code: u16, front: &str, name: &[u8]) -> Fail
 
 /// No method has this name.
 pub fn unknown_method(alloc: Global, name: &[u8]) -> Fail
-    requires { length name.now < 2 ^ 31 }
     ensures { Refuses result (unknown_method name.now) }
 {
     named(alloc, 0, 1, "Invalid method: ", name)
@@ -82,7 +78,6 @@ pub fn wrong_count(alloc: Global, expected: usize, found: usize) -> Fail
 
 /// The argument of this number, from 1, isn't of its parameter's type.
 pub fn wrong_type(alloc: Global, number: u8, method: &str, kind: &str) -> Fail
-    requires short { length method.now + length kind.now < 2 ^ 16 }
     ensures { Refuses result (wrong_type number method.now kind.now) }
 {
     match format!(in alloc;
@@ -105,7 +100,6 @@ pub fn no_buffer(alloc: Global, handle: i64) -> Fail
 
 /// The method takes no such key. The key is empty where it is no string.
 pub fn invalid_key(alloc: Global, key: &[u8]) -> Fail
-    requires { length key.now < 2 ^ 31 }
     ensures { Refuses result (invalid_key key.now) }
 {
     named(alloc, 1, 7, "Invalid key: ", key)
@@ -113,7 +107,6 @@ pub fn invalid_key(alloc: Global, key: &[u8]) -> Fail
 
 /// The value of the key isn't one that it takes, or the key is missing.
 pub fn invalid_value(alloc: Global, key: &[u8]) -> Fail
-    requires { length key.now < 2 ^ 31 }
     ensures { Refuses result (invalid_value key.now) }
 {
     named(alloc, 1, 8, "Invalid value for key: ", key)
@@ -149,7 +142,6 @@ pub fn not_modifiable(alloc: Global) -> Fail
 
 /// No command has this text.
 pub fn unknown_name(alloc: Global, name: &[u8]) -> Fail
-    requires { length name.now < 2 ^ 31 }
     ensures { Refuses result (unknown_name name.now) }
 {
     named(alloc, 0, 18, "Unknown name: ", name)

@@ -1,5 +1,5 @@
 //! The call of a method, and of calls one after another (Neovim help `api`, `nvim_call_atomic()`).
-ghost use Rattle.std.specs.Prelude.{◌<◌, ◌^◌, length, map, IfOk, Ok, OnOk};
+ghost use Rattle.std.specs.Prelude.{◌<◌, map, IfOk, Ok, OnOk};
 ghost use Rattle.nv_value.specs.View.{content, contents};
 ghost use Rattle.nv_msgpack.specs.Shortest.{HasSpelling};
 ghost use Rattle.nv_rpc.specs.Outcomes.{outcome_content};
@@ -35,7 +35,6 @@ fn result_of(
     happened: &mut Happened,
 ) -> Result<Outcome, Fail>
     requires brief { IsBrief signature.now }
-    requires light { AreLight (contents params.now) }
     ensures row { GivesResult (answer_of_method (seen_now editor.old) session
         (signature_of signature.now) (map content params.now))
         result editor.old editor.new happened.old happened.new }
@@ -73,7 +72,6 @@ fn call_method(
     happened: &mut Happened,
 ) -> Result<Done, Fail>
     requires brief { IsBrief signature.now }
-    requires light { AreLight (contents params.now) }
     ensures outcome { GivesOutcome (λ m. outcome_of_method m session (signature_of signature.now)
         (map content params.now)) result editor.old editor.new happened.old happened.new }
     ensures refused { RefusedKeeps result editor.new editor.old }
@@ -96,7 +94,6 @@ fn call_value(
     call: &Value,
     happened: &mut Happened,
 ) -> Result<Done, Fail>
-    requires light { weight (content call.now) < 2 ^ 31 }
     ensures outcome { GivesOutcome (λ m. outcome_of_value m session (content call.now))
         result editor.old editor.new happened.old happened.new }
     ensures refused { RefusedKeeps result editor.new editor.old }
@@ -187,7 +184,6 @@ fn call_unsealed(
     params: &[Value],
     happened: &mut Happened,
 ) -> Result<Done, Fail>
-    requires name { length name.now < 2 ^ 31 }
     requires light { AreLight (contents params.now) }
     ensures outcome { GivesOutcome
         (λ m. outcome_before_seal m session name.now (map content params.now))
@@ -215,7 +211,6 @@ pub fn call(
     params: &[Value],
     happened: &mut Happened,
 ) -> Result<Done, Fail>
-    requires name { length name.now < 2 ^ 31 }
     requires light { AreLight (contents params.now) }
     requires sealed { AllSealed editor.old }
     ensures outcome { GivesOutcome

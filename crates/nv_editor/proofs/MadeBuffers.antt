@@ -1,9 +1,9 @@
 -- An editor with a buffer made.
-use Rattle.std.proofs.Common.{◌≡◌, ℤ, pos, ◌+◌, ◌<◌, ◌≤◌, ◌+ℤ◌, Bool, true, false, cond, List, [], ◌∷◌, ◌++◌, All, Option, Some, None, refl, sym, ap, subst, ◌∙◌, arith}
-use Rattle.std.specs.Prelude.{◌≤ℤ◌, ◌<ℤ◌, is_some}
+use Rattle.std.proofs.Common.{◌≡◌, ℤ, pos, ◌+◌, ◌<◌, ◌≤◌, ◌+ℤ◌, Bool, true, false, cond, List, [], ◌∷◌, ◌++◌, All, Option, Some, None, refl, sym, ap, subst, ◌∙◌, arith, true≢false}
+use Rattle.std.specs.Prelude.{◌≤ℤ◌, ◌<ℤ◌, int_lt, is_some}
 use Rattle.std.specs.Option.{option_or}
 use Rattle.std.specs.Ordering.{int_eq}
-use Rattle.std.proofs.lemmas.Int.{ints}
+use Rattle.std.proofs.lemmas.Int.{ints, by_lt_z}
 use Rattle.std.proofs.lemmas.List.Elements.{All-append, All-cons, All-nil}
 use Rattle.nv_buffer.specs.Content.{Content, fresh_content}
 use Rattle.nv_windows.specs.Rooms.{last_handle}
@@ -33,6 +33,13 @@ still_least n h = omega (arith, ints)
 
 still_most : (n : ℤ) → n ≤ℤ last_handle → (n +ℤ pos 1) ≤ℤ (last_handle +ℤ pos 1)
 still_most n h = omega (arith, ints)
+
+-- the next handle is none above the last
+pub room_left : (n : ℤ) → int_lt last_handle n ≡ false → n ≤ℤ last_handle
+room_left n left = by_lt_z last_handle n (λ less. absurd (true≢false (sym (less_is n less) ∙ left))) (λ most. most)
+  where
+    less_is : (k : ℤ) → last_handle <ℤ k → int_lt last_handle k ≡ true
+    less_is k less = grind (arith, ints)
 
 pub next_sound : (bs : List (ℤ × Content)) (stage : Stage) (listed : Bool) → IsSoundEditor (editor_of bs stage) → stage.next_buffer ≤ℤ last_handle
     → IsSoundEditor (editor_of (bs ++ (stage.next_buffer, fresh_content stage.next_buffer listed) ∷ []) (record stage { next_buffer = stage.next_buffer +ℤ pos 1 }))

@@ -1,5 +1,5 @@
 -- Names and ids by the bytes of the names, as namespaces come.
-use Rattle.std.proofs.Common.{◌≡◌, ℕ, suc, ◌+◌, ◌==◌, List, [], ◌∷◌, ◌++◌, length, map, refl, sym, ap, subst, ◌∙◌, arith, Bool, true, false, cond, Option, Some, None, Vec, Ordering, true≢false}
+use Rattle.std.proofs.Common.{◌≡◌, ◌≤◌, ℕ, suc, ◌+◌, ◌==◌, List, [], ◌∷◌, ◌++◌, length, map, refl, sym, ap, subst, ◌∙◌, arith, Bool, true, false, cond, Option, Some, None, Vec, Ordering, true≢false}
 use Rattle.std.specs.Prelude.{position, bytes_eq, option_map}
 use Rattle.std.specs.List.{position_from}
 use Rattle.std.specs.BTreeMap.{BTreeMap, insert_entry, get_by, is_at}
@@ -260,3 +260,23 @@ module _ {A : Type 0} where
       (ap (λ (n : List ℕ). get_by (λ (k : Vec ℕ A). slice_cmp nat_cmp n k.items) ids) same ∙ id_found ids names name some are ∙ fresh)
       ∙ ap (λ (n : List ℕ). in_name_order (n, id) (ids_kept ids)) same
       ∙ sym (ap (λ (b : Bool). cond b (ids_kept ids) (in_name_order (name, id) (ids_kept ids))) some)
+
+-- ---- how many there are
+one-entry-more : (e : List ℕ × ℕ) (l : List (List ℕ × ℕ)) → length (in_name_order e l) ≡ suc (length l)
+one-entry-more e [] = refl
+one-entry-more e (o ∷ os) = by (is_lt (by_bytes o.0 e.0)) (one-entry-more e os)
+  where
+    by : (t : Bool) → length (in_name_order e os) ≡ suc (length os)
+        → length (cond t (o ∷ in_name_order e os) (e ∷ o ∷ os)) ≡ suc (suc (length os))
+    by true rest = ap suc rest
+    by false rest = refl
+
+-- no more namespaces have a name than there are
+pub named-few : (id : ℕ) (names : List (List ℕ)) → length (named_namespaces id names) ≤ length names
+named-few id [] = omega arith
+named-few id (name ∷ names) = by (length name == 0) (named-few (suc id) names)
+  where
+    by : (t : Bool) → length (named_namespaces (suc id) names) ≤ length names
+        → length (cond t (named_namespaces (suc id) names) (in_name_order (name, id) (named_namespaces (suc id) names))) ≤ suc (length names)
+    by true rest = omega (arith, rest)
+    by false rest = omega (arith, rest, one-entry-more (name, id) (named_namespaces (suc id) names))

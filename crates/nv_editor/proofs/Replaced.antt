@@ -214,24 +214,8 @@ other_there (e ∷ es) n k is = by_case (λ rest. other_there es n k rest) (int_
           (ap (λ (t : Bool). is_some (cond t (Some e.1) (at_handle es e.0))) (int_eq-itself e.0));
     }
 
-two_or_more : (l : ℕ) → eqb (suc (suc l)) 1 ≡ false
-two_or_more l = grind (arith, nat_tests)
-
-no_other : (k : ℤ) → ◌≡◌ {A = Option ℤ} None (Some k) → ⊥
-no_other k e = cc
-
 not_some : false ≡ true → ⊥
 not_some e = cc
-
-pub count_two : (bs : List (ℤ × Content)) (n k : ℤ) → is_some (at_handle bs n) ≡ true → slice_get (other_handles n (handles_of bs)) 0 ≡ Some k
-    → eqb (length (handles_of bs)) 1 ≡ false
-count_two [] n k live is = absurd (not_some live)
-count_two (e ∷ []) n k live is = by_case (int_eq e.0 n) live is
-  where
-    by_case : (t : Bool) → is_some (cond t (Some e.1) None) ≡ true → slice_get (cond t [] (e.0 ∷ [])) 0 ≡ Some k → eqb 1 1 ≡ false
-    by_case true there found = absurd (no_other k found)
-    by_case false there found = absurd (not_some there)
-count_two (e ∷ f ∷ es) n k live is = two_or_more (length (handles_of es))
 
 one_there : eqb 1 1 ≡ true
 one_there = refl
@@ -287,11 +271,3 @@ below_live next (e ∷ es) n below live =
 
 pub next_apart : (next n : ℤ) → n <ℤ next → int_eq next n ≡ false
 next_apart next n h = grind (arith, ints)
-
-pub made_next : (t : Bool) (made next : ℤ) → Some made ≡ cond t None (Some next) → made ≡ next
-made_next true made next is = cc
-made_next false made next is = some_int made next is
-
-pub none_made : (t : Bool) (next : ℤ) → ◌≡◌ {A = Option ℤ} None (cond t None (Some next)) → t ≡ true
-none_made true next is = refl
-none_made false next is = absurd (no_other next is)

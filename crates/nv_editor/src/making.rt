@@ -1,5 +1,5 @@
 //! Making and deleting buffers.
-ghost use Rattle.std.specs.Prelude.{◌≡◌, ◌==◌, ◌&&◌, ◌++◌, ◌+ℤ◌, ◌∷◌, [], pos, true, false, not, length, IfOk, IfSome, None, OnOk, Some, if◌then◌else◌};
+ghost use Rattle.std.specs.Prelude.{◌≡◌, ◌==◌, ◌&&◌, ◌++◌, ◌+ℤ◌, ◌∷◌, [], pos, true, false, length, IfOk, OnOk};
 ghost use Rattle.nv_buffer.specs.Content.{fresh_content};
 ghost use Rattle.nv_model.specs.Deleting.{dropping_operations, least_other, no_buffer_left};
 ghost use Rattle.nv_model.specs.Editors.{handles_of};
@@ -10,59 +10,45 @@ ghost use Rattle.nv_editor.specs.inside.Replacing.{replacing_operations};
 ghost use Rattle.nv_editor.specs.Doing.{Does};
 ghost use Rattle.nv_editor.specs.Sound.{is_live_buffer};
 
-use crate::editor::{Editor, LAST_HANDLE};
+use crate::editor::Editor;
 use std::alloc::AllocError;
 
 impl Editor {
     /// Makes the next buffer, which is empty, and answers its handle (help: nvim_create_buf()).
-    /// `None` comes exactly where no handle is left, and then nothing changes.
-    pub fn make_buffer(&mut self, listed: bool) -> Result<Option<i64>, AllocError>
-        ensures told { IfOk result (λ made. made
-            ≡ (if no_buffer_left self.old.stage then None else Some self.old.stage.next_buffer)) }
-        ensures none { IfOk result (λ made. made ≡ None → self.new ≡ self.old) }
-        ensures done { IfOk result (λ made. IfSome made
-            (λ n. Does (buffer_made listed ∷ []) self.old self.new)) }
-        ensures live { IfOk result (λ made. IfSome made
-            (λ n. is_live_buffer self.new n ≡ true)) }
-        ensures buffers { IfOk result (λ made. IfSome made
-            (λ n. self.new.buffers ≡ self.old.buffers ++ (n, fresh_content n listed) ∷ [])) }
-        ensures stage { IfOk result (λ made. IfSome made
-            (λ n. self.new.stage ≡ record self.old.stage {
-              next_buffer = self.old.stage.next_buffer +ℤ pos 1;
-            })) }
+    pub fn make_buffer(&mut self, listed: bool) -> Result<i64, AllocError>
+        requires room { no_buffer_left self.old.stage ≡ false }
+        ensures handle { IfOk result (λ n. n ≡ self.old.stage.next_buffer) }
+        ensures done { OnOk result (Does (buffer_made listed ∷ []) self.old self.new) }
+        ensures live { IfOk result (λ n. is_live_buffer self.new n ≡ true) }
+        ensures buffers { IfOk result
+            (λ n. self.new.buffers ≡ self.old.buffers ++ (n, fresh_content n listed) ∷ []) }
+        ensures stage { OnOk result (self.new.stage ≡ record self.old.stage {
+          next_buffer = self.old.stage.next_buffer +ℤ pos 1;
+        }) }
     {
         let handle = self.stage.next_buffer();
-        if handle > LAST_HANDLE {
-            return Ok(None);
-        }
         self.buffers.make(self.alloc, handle, listed)?;
         self.stage.count_buffer();
-        Ok(Some(handle))
+        Ok(handle)
     }
 
     /// Deletes a live buffer. The windows that showed it show the least other one, or a new empty
-    /// one where there is none, at row 0. `false` comes exactly where one would have to be made and
-    /// no handle is left, and then nothing changes.
-    pub fn drop_buffer(&mut self, buffer: i64) -> Result<bool, AllocError>
+    /// one where there is none, at row 0.
+    pub fn drop_buffer(&mut self, buffer: i64) -> Result<(), AllocError>
         requires live { is_live_buffer self.old buffer ≡ true }
-        ensures told { IfOk result (λ dropped. dropped
-            ≡ not (length (handles_of self.old.buffers) == 1 && no_buffer_left self.old.stage)) }
-        ensures same { IfOk result (λ dropped. dropped ≡ false → self.new ≡ self.old) }
-        ensures done { IfOk result (λ dropped. dropped ≡ true → Does
+        requires room { (length (handles_of self.old.buffers) == 1
+            && no_buffer_left self.old.stage) ≡ false }
+        ensures done { OnOk result (Does
             (dropping_operations self.old.stage buffer (least_other (seen_now self.old) buffer))
             self.old self.new) }
     {
         if let Some(other) = self.buffers.least_other(buffer) {
             self.replace_buffer(buffer, other);
-            return Ok(true);
+            return Ok(());
         }
-        match self.make_buffer(true)? {
-            None => Ok(false),
-            Some(made) => {
-                self.replace_buffer(buffer, made);
-                Ok(true)
-            }
-        }
+        let made = self.make_buffer(true)?;
+        self.replace_buffer(buffer, made);
+        Ok(())
     }
 
     // Deletes a buffer whose windows show another one, at row 0.

@@ -69,13 +69,24 @@ fn put_name(
     Ok(())
 }
 
-// Makes the next namespace, with a new name or none, and gives its id.
+// The next id, where fewer than so many were given.
+fn next_id(count: usize, most: u32) -> u32
+    requires { count < most }
+    ensures id { result ≡ count + 1 }
+    ensures few { count + 1 < 2 ^ 32 }
+{
+    count as u32 + 1
+}
+
+// Makes the next namespace of at most so many, with a new name or none, and gives its id.
 fn append(
     ids: &mut Ids,
     names: &mut Vec<Name>,
     alloc: Global,
     name: &[u8],
+    most: u32,
 ) -> Result<u32, AllocError>
+    requires few { length names.old.items < most }
     requires ids { AreIdsOf ids.old names.old.items }
     requires fresh { id_of_name name.now names.old.items ≡ None }
     ensures names { OnOk result (names.new.items ≡ names.old.items ++ name.now ∷ []) }
@@ -84,9 +95,7 @@ fn append(
     ensures few { OnOk result (length names.new.items < 2 ^ 32) }
     ensures err { OnErr result (names.new.items ≡ names.old.items) }
 {
-    let Ok(id) = u32::try_from(names.len() + 1) else {
-        return Err(AllocError);
-    };
+    let id = next_id(names.len(), most);
     let kept = Name::new(alloc, name)?;
     names.reserve(1)?;
     put_name(ids, names, alloc, name, id)?;
@@ -145,22 +154,24 @@ impl Namespaces {
         id_in(&self.ids, &self.names, name)
     }
 
-    /// Makes the next namespace and gives its id. Its name is new, or empty for one without. Where
-    /// memory is wanting nothing changes.
-    pub fn make(&mut self, name: &[u8]) -> Result<u32, AllocError>
-        requires { id_of_name name.now self.old ≡ None }
+    /// Makes the next namespace of at most `most`, and gives its id. Its name is new, or empty for
+    /// one without. If out of memory nothing changes.
+    pub fn make(&mut self, name: &[u8], most: u32) -> Result<u32, AllocError>
+        requires few { length self.old < most }
+        requires fresh { id_of_name name.now self.old ≡ None }
         ensures made { OnOk result (self.new ≡ self.old ++ name.now ∷ []) }
         ensures id { IfOk result (λ id. id ≡ length self.old + 1) }
         ensures err { OnErr result (self.new ≡ self.old) }
     {
-        append(&mut self.ids, &mut self.names, self.alloc, name)
+        append(&mut self.ids, &mut self.names, self.alloc, name, most)
     }
 
     /// The namespaces that have a name, with their ids, by the bytes of the names (help:
     /// nvim_get_namespaces()).
     pub fn by_name(&self) -> Result<Vec<(&[u8], u32)>, AllocError>
-        ensures { IfOk result (λ entries.
+        ensures entries { IfOk result (λ entries.
             map (λ e. (e.0.now, e.1)) entries.items ≡ named_namespaces 1 self.now) }
+        ensures few { IfOk result (λ entries. length entries.items < 2 ^ 32) }
     {
         let mut entries = Vec::new(self.alloc);
         for (name, id) in self.ids.iter() {
@@ -173,20 +184,23 @@ impl Namespaces {
 impl Stage {
     // Makes the next namespace.
     fn make_namespace(&mut self, name: &[u8]) -> Result<u32, AllocError>
-        requires { id_of_name name.now self.old.namespaces ≡ None }
+        requires few { length self.old.namespaces < self.old.limits.namespaces }
+        requires fresh { id_of_name name.now self.old.namespaces ≡ None }
         ensures id { IfOk result (λ id. id ≡ length self.old.namespaces + 1) }
         ensures made { OnOk result (self.new
             ≡ record self.old { namespaces = self.old.namespaces ++ name.now ∷ [] }) }
         ensures err { OnErr result (self.new ≡ self.old) }
     {
-        self.namespaces.make(name)
+        let most = self.limits.namespaces;
+        self.namespaces.make(name, most)
     }
 }
 
 impl Editor {
     /// Makes the next namespace, of a new name, or without one where it is empty, and answers its
-    /// id, from 1 (help: nvim_create_namespace()). Where memory is wanting nothing changes.
+    /// id, from 1 (help: nvim_create_namespace()). If out of memory nothing changes.
     pub fn make_namespace(&mut self, name: &[u8]) -> Result<u32, AllocError>
+        requires few { length self.old.stage.namespaces < self.old.stage.limits.namespaces }
         requires fresh { id_of_name name.now self.old.stage.namespaces ≡ None }
         ensures id { IfOk result (λ id. id ≡ length self.old.stage.namespaces + 1) }
         ensures done { OnOk result (Does (namespace_made name.now ∷ []) self.old self.new) }

@@ -2,7 +2,7 @@
 
 ghost use Rattle.nv_hl.specs.Groups.{AreSound, HasGroup, LinksWithin, attr_of, entry_at, group_at, known_id, name_at, was_put_at, with_group};
 ghost use Rattle.nv_hl.specs.inside.Stored.{IsIndex, named};
-ghost use Rattle.std.specs.Prelude.{◌≡◌, ◌<◌, ◌≤◌, ◌-◌, ◌++◌, ◌∷◌, [], IfOk, IfSome, MatchOption, None, OnErr, OnOk, Some, length, true};
+ghost use Rattle.std.specs.Prelude.{◌≡◌, ◌+◌, ◌<◌, ◌≤◌, ◌-◌, ◌++◌, ◌∷◌, [], IfOk, IfSome, MatchOption, None, OnErr, OnOk, Some, length, true};
 
 use crate::attribute::Attr;
 use crate::linking::Group;
@@ -148,6 +148,14 @@ pub fn set(entries: &mut Vec<Entry>, id: u32, group: Group)
     entries[id as usize - 1].put(group);
 }
 
+// The next id, after so many.
+fn next_id(count: usize) -> u32
+    requires { count < 4_294_967_295 }
+    ensures { result ≡ count + 1 }
+{
+    count as u32 + 1
+}
+
 /// Puts a group of a new name at the end, and gives its id.
 pub fn append(
     index: &mut Index,
@@ -157,6 +165,7 @@ pub fn append(
     was_put: bool,
 ) -> Result<u32, AllocError>
     requires index { IsIndex index.old entries.old.items }
+    requires few { length entries.old.items < 4_294_967_295 }
     requires unknown { known_id entries.old.items name.now ≡ None }
     requires sound { AreSound entries.old.items }
     requires linked { LinksWithin (length entries.old.items) group }
@@ -168,9 +177,7 @@ pub fn append(
     ensures sound { AreSound entries.new.items }
     ensures err { OnErr result (entries.new.items ≡ entries.old.items) }
 {
-    let Ok(id) = u32::try_from(entries.len() + 1) else {
-        return Err(AllocError);
-    };
+    let id = next_id(entries.len());
     let alloc = *entries.allocator();
     let entry = Entry::new(alloc, name, group, was_put)?;
     let key = Vec::from_slice(alloc, name)?;

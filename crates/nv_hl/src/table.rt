@@ -66,6 +66,7 @@ impl Groups {
 
     // Puts a group of a new name at the end.
     fn add(&mut self, name: &[u8], group: Group, was_put: bool) -> Result<u32, AllocError>
+        requires few { length self.old < 4_294_967_295 }
         requires unknown { known_id self.old name.now ≡ None }
         requires linked { LinksWithin (length self.old) group }
         ensures groups { OnOk result (self.new ≡ self.old ++ named name.now group was_put ∷ []) }

@@ -3,15 +3,17 @@ ghost use Rattle.std.specs.Prelude.{◌≡◌, [], ◌++◌, length, IfOk, OnOk,
 ghost use Rattle.nv_lines.specs.Excerpts.{list_lines};
 
 use crate::listing::LineList;
+use nv_value::spelled_length;
 use std::alloc::{AllocError, Global};
 use std::marker::Model;
 
 /// Lines in order, as they stand in a text, in lists that share its tables: what it takes of memory
-/// is a few bytes for each 48 lines or more. They stay as they were when the text changes.
+/// is a few bytes for each 48 lines or more. They stay as they were when the text changes. They are
+/// fewer than 2^32, so that a spelling can tell them.
 #[derive(Drop)]
 pub struct Excerpt {
     lists: Vec<LineList>,
-    count: usize,
+    count: u32,
 }
 
 impl Model for Excerpt {
@@ -46,14 +48,13 @@ impl Excerpt {
         })
     }
 
-    /// Adds the lines of a list at the end.
+    /// Adds the lines of a list at the end. `AllocError` also where they would be 2^32 or more.
     pub fn push(&mut self, list: LineList) -> Result<(), AllocError>
         ensures ok { OnOk result (self.new ≡ self.old ++ list) }
         ensures err { OnErr result (self.new ≡ self.old) }
     {
-        let Some(count) = self.count.checked_add(list.len()) else {
-            return Err(AllocError);
-        };
+        let more = spelled_length(list.len())?;
+        let count = spelled_length(self.count as usize + more as usize)?;
         self.lists.push(list)?;
         self.count = count;
         Ok(())
@@ -74,7 +75,7 @@ impl Excerpt {
     pub fn len(&self) -> usize
         ensures { result ≡ length self.now }
     {
-        self.count
+        self.count as usize
     }
 
     /// The lists that the lines stand in, in order.

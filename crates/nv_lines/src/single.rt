@@ -1,5 +1,5 @@
 // One line.
-ghost use Rattle.std.specs.Prelude.{◌≡◌, ◌↔◌, [], length, IsTrue, IfOk, slice_get, option_copied};
+ghost use Rattle.std.specs.Prelude.{◌≡◌, ◌↔◌, ◌^◌, ◌<◌, [], length, IsTrue, IfOk, OnOk, slice_get, option_copied};
 ghost use Rattle.nv_places.specs.Flat.{IsLine};
 
 use memchr::memchr;
@@ -68,7 +68,8 @@ impl Line {
 
     /// The same line, shared: one owner more, and no bytes copied.
     pub fn share(&self) -> Result<Line, AllocError>
-        ensures { IfOk result (λ line. line ≡ self.now) }
+        ensures bytes { IfOk result (λ line. line ≡ self.now) }
+        ensures few { OnOk result (length self.now < 2 ^ 32) }
     {
         let bytes = self.bytes.share()?;
         Ok(Line { bytes })
@@ -78,6 +79,7 @@ impl Line {
     pub fn len(&self) -> usize
         ensures value { result ≡ length self.now }
         ensures line { IsLine self.now }
+        ensures few { result < 2 ^ 32 }
     {
         self.bytes.len()
     }

@@ -6,6 +6,7 @@ pub mod UniqueLemmas
 pub mod EachLemmas
 pub mod WordLemmas
 pub mod PlacesLemmas
+pub mod PuttingLemmas
 pub mod SpreadLemmas
 pub mod SpliceLemmas
 pub mod EditLemmas

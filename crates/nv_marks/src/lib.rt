@@ -10,6 +10,7 @@ mod keeping;
 mod laws;
 mod list;
 mod mark_set;
+mod moving;
 mod parts;
 mod query;
 mod record;

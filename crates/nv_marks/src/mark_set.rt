@@ -13,7 +13,7 @@ ghost use Rattle.nv_marks.specs.inside.Names.{is_indexed, is_one_name};
 ghost use Rattle.nv_marks.specs.inside.Records.{ForEach};
 ghost use Rattle.nv_marks.specs.inside.Restoring.{other_marks, without_all};
 ghost use Rattle.nv_places.specs.Places.{IsNarrow, further};
-ghost use Rattle.std.specs.Prelude.{◌≡◌, ◌+◌, ◌*◌, ◌<◌, ◌≤◌, ◌++◌, ◌∷◌, ◌==◌, ◌&&◌, ◌||◌, ℕ, [], All, IfOk, IfSome, OnErr, OnOk, SomeIff, if◌then◌else◌, false, length, map, max, min, is_some, not, true, option_map, take, filter, vec_capacity, vec_len};
+ghost use Rattle.std.specs.Prelude.{◌≡◌, ◌+◌, ◌*◌, ◌^◌, ◌<◌, ◌≤◌, ◌++◌, ◌∷◌, ◌==◌, ◌&&◌, ◌||◌, ℕ, [], All, IfOk, IfSome, OnErr, OnOk, SomeIff, if◌then◌else◌, false, length, map, max, min, is_some, not, true, option_map, take, filter, vec_capacity, vec_len};
 
 use crate::bands::{Band, bands_reaching, cover, cover_kept, first_band, move_bands};
 use crate::chunk::Chunk;
@@ -154,8 +154,7 @@ impl MarkSet {
     {
         let Mark { ns, id, .. } = mark;
         let found = find_counted(&self.store, &self.index, &self.greatest, ns, id);
-        let room = scratch_room(self.count).ok_or(AllocError)?;
-        self.scratch.reserve(room)?;
+        self.scratch.reserve(scratch_room(self.count))?;
         self.store.reserve()?;
         stock(self.alloc, &mut self.index, &mut self.spare)?;
         let chunk = chunk_for(&self.store, found, &mark);
@@ -532,12 +531,12 @@ fn numbered_mark(settings: u64, mark: Mark) -> Mark
     }
 }
 
-/// Room for the records of one more mark than there are, and for those of a chunk; `None` where no
-/// number says it.
-fn scratch_room(count: usize) -> Option<usize>
-    ensures { IfSome result (λ room. room ≡ 2 * (count + 1) + 64) }
+/// Room for the records of one more mark than there are, and for those of a chunk, or more than an
+/// allocator gives.
+fn scratch_room(count: usize) -> usize
+    ensures { min (2 * (count + 1) + 64) (2 ^ 63) ≤ result }
 {
-    count.checked_add(1)?.checked_mul(2)?.checked_add(64)
+    count.saturating_add(1).saturating_mul(2).saturating_add(64)
 }
 
 /// Makes sure that there are two spare chunks.

@@ -3,6 +3,7 @@
 ghost use Rattle.nv_marks.specs.Marks.{greatest_id, mark_at};
 ghost use Rattle.nv_marks.specs.inside.Chunks.{IsChunkFor, IsLaid, IsSpare, spread_records};
 ghost use Rattle.nv_marks.specs.inside.Names.{IsIndexOf};
+ghost use Rattle.nv_marks.specs.inside.Putting.{IsCleared, IsScratch};
 ghost use Rattle.nv_marks.specs.inside.Records.{ForEach, belongs_to, end_among, has_key, mark_among, mark_with_stop, marks_among, records_of_mark, records_of_marks, same_key, start_record, end_record};
 ghost use Rattle.nv_marks.specs.inside.Stored.{IsEndKnown};
 ghost use Rattle.nv_places.specs.Places.{IsNarrow};
@@ -158,15 +159,11 @@ fn take_key(
 )
     requires laid { IsLaid store.old.chunks.items }
     requires once { IsDistinct same_key (spread_records store.old.chunks.items) }
-    requires none { scratch.old.items ≡ [] }
-    requires empty { vec_len scratch.old ≡ 0 }
-    requires room { 64 ≤ vec_capacity scratch.old }
+    requires scratch { IsScratch 64 scratch.old }
     ensures laid { IsLaid store.new.chunks.items }
     ensures rest { IsPermutation (filter (λ r. not (has_key ns id end r))
         (spread_records store.old.chunks.items)) (spread_records store.new.chunks.items) }
-    ensures none { scratch.new.items ≡ [] }
-    ensures empty { vec_len scratch.new ≡ 0 }
-    ensures room { vec_capacity scratch.new ≡ vec_capacity scratch.old }
+    ensures scratch { IsCleared scratch.old scratch.new }
     ensures place { vec_capacity store.new.chunks ≡ vec_capacity store.old.chunks }
     ensures places { vec_len store.new.chunks ≤ vec_len store.old.chunks }
     ensures index { index.new ≡ index.old }
@@ -190,15 +187,11 @@ pub(crate) fn take_mark(
     requires once { IsDistinct same_key (spread_records store.old.chunks.items) }
     requires end { has_end ≡ false
         → end_among (spread_records store.old.chunks.items) ns id ≡ None }
-    requires none { scratch.old.items ≡ [] }
-    requires empty { vec_len scratch.old ≡ 0 }
-    requires room { 64 ≤ vec_capacity scratch.old }
+    requires scratch { IsScratch 64 scratch.old }
     ensures laid { IsLaid store.new.chunks.items }
     ensures rest { IsPermutation (filter (λ r. not (belongs_to ns id r))
         (spread_records store.old.chunks.items)) (spread_records store.new.chunks.items) }
-    ensures none { scratch.new.items ≡ [] }
-    ensures empty { vec_len scratch.new ≡ 0 }
-    ensures room { vec_capacity scratch.new ≡ vec_capacity scratch.old }
+    ensures scratch { IsCleared scratch.old scratch.new }
     ensures place { vec_capacity store.new.chunks ≡ vec_capacity store.old.chunks }
     ensures places { vec_len store.new.chunks ≤ vec_len store.old.chunks }
     ensures index { index.new ≡ index.old }
@@ -224,15 +217,11 @@ pub(crate) fn take_found(
         (marks_among (spread_records store.old.chunks.items)))
         (spread_records store.old.chunks.items) }
     requires found { found ≡ mark_at (marks_among (spread_records store.old.chunks.items)) ns id }
-    requires none { scratch.old.items ≡ [] }
-    requires empty { vec_len scratch.old ≡ 0 }
-    requires room { 64 ≤ vec_capacity scratch.old }
+    requires scratch { IsScratch 64 scratch.old }
     ensures laid { IsLaid store.new.chunks.items }
     ensures rest { IsPermutation (filter (λ r. not (belongs_to ns id r))
         (spread_records store.old.chunks.items)) (spread_records store.new.chunks.items) }
-    ensures none { scratch.new.items ≡ [] }
-    ensures empty { vec_len scratch.new ≡ 0 }
-    ensures room { vec_capacity scratch.new ≡ vec_capacity scratch.old }
+    ensures scratch { IsCleared scratch.old scratch.new }
     ensures place { vec_capacity store.new.chunks ≡ vec_capacity store.old.chunks }
     ensures places { vec_len store.new.chunks ≤ vec_len store.old.chunks }
     ensures same { found ≡ None → store.new.chunks.items ≡ store.old.chunks.items }
@@ -258,16 +247,12 @@ pub(crate) fn put_mark(
     requires place { vec_len store.old.chunks + 1 < vec_capacity store.old.chunks }
     requires spare { 1 < vec_len spare.old }
     requires spares { ForEach IsSpare spare.old.items }
-    requires none { scratch.old.items ≡ [] }
-    requires empty { vec_len scratch.old ≡ 0 }
-    requires room { 65 ≤ vec_capacity scratch.old }
+    requires scratch { IsScratch 65 scratch.old }
     ensures laid { IsLaid store.new.chunks.items }
     ensures same_records { IsPermutation
         (records_of_mark mark ++ spread_records store.old.chunks.items)
         (spread_records store.new.chunks.items) }
-    ensures none { scratch.new.items ≡ [] }
-    ensures empty { vec_len scratch.new ≡ 0 }
-    ensures room { vec_capacity scratch.new ≡ vec_capacity scratch.old }
+    ensures scratch { IsCleared scratch.old scratch.new }
     ensures spares { ForEach IsSpare spare.new.items }
     ensures index { index.new ≡ index.old }
 {

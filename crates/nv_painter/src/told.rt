@@ -100,6 +100,15 @@ pub struct Sketch<'a> {
     pub known: Vec<Option<(usize, usize)>>,
 }
 
+/// The same, lent.
+#[derive(Clone, Copy)]
+struct LentSketch<'a, 'b> {
+    shifts: &'a [Shift],
+    flags: &'a [bool],
+    known: &'a [Option<(usize, usize)>],
+    drawn: &'a [LentRow<'b>],
+}
+
 fn is_size(size: Option<(u32, u32)>, width: u32, height: u32) -> bool
     ensures { result ≡ is_size size width height }
 {
@@ -202,40 +211,39 @@ fn push_screen(
     rows: &mut Vec<ShownRow>,
     attrs: &mut Vec<Attr>,
     is_resized: bool,
-    shifts: &[Shift],
-    flags: &[bool],
-    known: &[Option<(usize, usize)>],
-    drawn: &[LentRow],
+    sketch: LentSketch,
 ) -> Result<(), AllocError>
-    requires high { length rows.old.items ≡ length drawn.now }
-    requires known { AreKnown known.now attrs.old.items (lent_rows drawn.now) rows.old.items }
-    requires rows { length drawn.now < 2 ^ 32 }
-    requires cells { All (λ row. length row < 2 ^ 32) (lent_rows drawn.now) }
+    requires high { length rows.old.items ≡ length sketch.drawn.now }
+    requires known { AreKnown sketch.known.now attrs.old.items (lent_rows sketch.drawn.now)
+        rows.old.items }
+    requires rows { length sketch.drawn.now < 2 ^ 32 }
+    requires cells { All (λ row. length row < 2 ^ 32) (lent_rows sketch.drawn.now) }
     ensures { OnOk result ((screen : List (List SpecCell))
-        → IsSketch flags.now (lent_rows drawn.now) attrs.old.items rows.old.items screen
-        → TellsScreen is_resized shifts.now screen attrs.old.items attrs.new.items rows.old.items
-        rows.new.items events.old.items events.new.items) }
+        → IsSketch sketch.entry.flags.now (lent_rows sketch.entry.drawn.now) attrs.old.items
+        rows.old.items screen → TellsScreen is_resized sketch.entry.shifts.now screen
+        attrs.old.items attrs.new.items rows.old.items rows.new.items events.old.items
+        events.new.items) }
 {
     let dues = dues_of(
         alloc,
         attrs.as_slice(),
-        flags,
-        known,
-        drawn,
+        sketch.flags,
+        sketch.known,
+        sketch.drawn,
         rows.as_slice(),
     )?;
     let count = attrs.len();
-    add_attrs_of_rows(attrs, dues.as_slice(), drawn)?;
+    add_attrs_of_rows(attrs, dues.as_slice(), sketch.drawn)?;
     push_attrs(events, attrs.as_slice(), count)?;
     push_if(events, is_resized, Redraw::Clear { grid: 1 })?;
-    push_scrolls(events, shifts)?;
+    push_scrolls(events, sketch.shifts)?;
     push_rows(
         alloc,
         events,
         rows,
         attrs.as_slice(),
         dues.as_slice(),
-        drawn,
+        sketch.drawn,
     )?;
     Ok(())
 }
@@ -326,10 +334,12 @@ fn told_screen(
         &mut rows,
         &mut attrs,
         is_resized,
-        shifts,
-        &[],
-        &[],
-        lent.as_slice(),
+        LentSketch {
+            shifts,
+            flags: &[],
+            known: &[],
+            drawn: lent.as_slice(),
+        },
     )?;
     let place = cursor_before(is_resized, old.cursor);
     push_end(&mut events, place, cursor)?;
@@ -371,10 +381,12 @@ fn told_of_sketch(
         &mut rows,
         &mut attrs,
         false,
-        shifts,
-        sketch.flags.as_slice(),
-        sketch.known.as_slice(),
-        sketch.drawn.as_slice(),
+        LentSketch {
+            shifts,
+            flags: sketch.flags.as_slice(),
+            known: sketch.known.as_slice(),
+            drawn: sketch.drawn.as_slice(),
+        },
     )?;
     push_end(&mut events, old.cursor, cursor)?;
     let told = ToldScreen {

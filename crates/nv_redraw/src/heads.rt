@@ -2,6 +2,7 @@
 ghost use Rattle.std.specs.Prelude.{◌≡◌, ◌<◌, ◌++◌, OnOk, OnErr};
 ghost use Rattle.nv_msgpack.specs.Shortest.{text_head, list_head};
 
+use nv_value::spelled_length;
 use std::alloc::AllocError;
 
 /// What goes before the bytes of a string. `AllocError` also where they are 2^32 or more.
@@ -10,9 +11,7 @@ pub fn put_text_head(length: usize, into: &mut Vec<u8>) -> Result<(), AllocError
     ensures err { OnErr result (into.new.items ≡ into.old.items) }
     ensures few { OnOk result (length < 0x100000000) }
 {
-    let Ok(few) = u32::try_from(length) else {
-        return Err(AllocError);
-    };
+    let few = spelled_length(length)?;
     nv_msgpack::put_text_head(few, into)
 }
 
@@ -23,8 +22,6 @@ pub fn put_list_head(count: usize, into: &mut Vec<u8>) -> Result<(), AllocError>
     ensures err { OnErr result (into.new.items ≡ into.old.items) }
     ensures few { OnOk result (count < 0x100000000) }
 {
-    let Ok(few) = u32::try_from(count) else {
-        return Err(AllocError);
-    };
+    let few = spelled_length(count)?;
     nv_msgpack::put_list_head(few, into)
 }

@@ -11,6 +11,7 @@ use crate::naming::{count_named, name_of};
 use nv_hl::Attr;
 use nv_linegrid::{Redraw, Run};
 use nv_msgpack::{put_integer, put_unsigned};
+use nv_value::spelled_length;
 use std::alloc::AllocError;
 
 /// Adds the shortest spelling of a batch's value at the end of `into` (MessagePack specification,
@@ -90,10 +91,8 @@ fn put_entry(name: &[u8], events: &[Redraw], into: &mut Vec<u8>) -> Result<(), A
         ++ shortest (entry_tree (record { name = name.now; events = events.now }))) }
     ensures err { OnErr result (BeginsAs into.old.items into.new.items) }
 {
-    let Some(count) = events.len().checked_add(1) else {
-        return Err(AllocError);
-    };
-    put_list_head(count, into)?;
+    let few = spelled_length(events.len())?;
+    put_list_head(few as usize + 1, into)?;
     put_text(name, into)?;
     put_events(events, into)?;
     Ok(())

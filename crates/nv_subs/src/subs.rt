@@ -34,6 +34,11 @@ impl Subs {
         }
     }
 
+    /// What allocates.
+    pub fn alloc(&self) -> Global {
+        self.alloc
+    }
+
     /// The sessions that are attached to a buffer, in rising order.
     pub fn of(&self, buffer: i64) -> &[u64]
         ensures value { result.now ≡ sessions_of self.now buffer }

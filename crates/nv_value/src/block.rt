@@ -3,6 +3,7 @@
 ghost use Rattle.std.specs.Prelude.{◌≡◌, ◌≤◌, length, IfOk};
 ghost use Rattle.nv_value.specs.inside.Block.{HoldsBytes, block_bytes, block_len, IsInRoom};
 
+use crate::length::spelled_length;
 use std::alloc::{AllocError, Global};
 use std::sync::{Arc, ArcSlice};
 
@@ -71,9 +72,7 @@ fn wide(alloc: Global, items: &[u8]) -> Result<Block, AllocError>
 fn long(alloc: Global, items: &[u8]) -> Result<Block, AllocError>
     ensures { IfOk result (λ block. HoldsBytes block items.now) }
 {
-    let Ok(len) = u32::try_from(items.len()) else {
-        return Err(AllocError);
-    };
+    let len = spelled_length(items.len())?;
     Ok(Block::Long(len, ArcSlice::from_slice(alloc, items)?))
 }
 
@@ -99,9 +98,7 @@ impl Block {
         if items.len() <= 128 {
             return Block::of_slice(*items.allocator(), items.as_slice());
         }
-        let Ok(len) = u32::try_from(items.len()) else {
-            return Err(AllocError);
-        };
+        let len = spelled_length(items.len())?;
         Ok(Block::Long(len, ArcSlice::from_vec(items)?))
     }
 

@@ -1,5 +1,5 @@
 //! Bytes in order, which several owners share.
-ghost use Rattle.std.specs.Prelude.{◌≡◌, ◌==◌, List, ℕ, [], length, IfOk, slice_get};
+ghost use Rattle.std.specs.Prelude.{◌≡◌, ◌==◌, ◌^◌, ◌<◌, List, ℕ, [], length, IfOk, OnOk, slice_get};
 ghost use Rattle.std.specs.Option.{option_copied};
 
 use crate::block::Block;
@@ -34,7 +34,8 @@ impl Bytes {
 
     /// The bytes of a vector. `AllocError` also where they are 2^32 or more.
     pub fn from_vec(items: Vec<u8>) -> Result<Bytes, AllocError>
-        ensures { IfOk result (λ b. b ≡ items.items) }
+        ensures bytes { IfOk result (λ b. b ≡ items.items) }
+        ensures few { OnOk result (length items.items < 2 ^ 32) }
     {
         let block = Block::of_vec(items)?;
         Ok(Bytes { block })
@@ -42,7 +43,8 @@ impl Bytes {
 
     /// The bytes of a slice, in memory of their own. `AllocError` also where they are 2^32 or more.
     pub fn from_slice(alloc: Global, items: &[u8]) -> Result<Bytes, AllocError>
-        ensures { IfOk result (λ b. b ≡ items.now) }
+        ensures bytes { IfOk result (λ b. b ≡ items.now) }
+        ensures few { OnOk result (length items.now < 2 ^ 32) }
     {
         let block = Block::of_slice(alloc, items)?;
         Ok(Bytes { block })
@@ -50,7 +52,8 @@ impl Bytes {
 
     /// The same bytes, shared: one owner more, and no bytes copied.
     pub fn share(&self) -> Result<Bytes, AllocError>
-        ensures { IfOk result (λ b. b ≡ self.now) }
+        ensures bytes { IfOk result (λ b. b ≡ self.now) }
+        ensures few { OnOk result (length self.now < 2 ^ 32) }
     {
         let block = self.block.share()?;
         Ok(Bytes { block })
@@ -58,7 +61,8 @@ impl Bytes {
 
     /// How many bytes there are.
     pub fn len(&self) -> usize
-        ensures { result ≡ length self.now }
+        ensures value { result ≡ length self.now }
+        ensures few { result < 2 ^ 32 }
     {
         self.block.len()
     }
@@ -79,7 +83,8 @@ impl Bytes {
 
     /// All the bytes, lent.
     pub fn as_slice(&self) -> &[u8]
-        ensures { result.now ≡ self.now }
+        ensures bytes { result.now ≡ self.now }
+        ensures few { length result.now < 2 ^ 32 }
     {
         self.block.as_slice()
     }

@@ -4,8 +4,10 @@
 mod block;
 mod bytes;
 mod fault;
+mod length;
 mod value;
 
 pub use bytes::Bytes;
 pub use fault::ApiFault;
+pub use length::spelled_length;
 pub use value::{Fields, Items, Pair, Value};

@@ -1,5 +1,5 @@
 //! The call of a request: what it does to the editor, what it tells, and what answers it.
-ghost use Rattle.std.specs.Prelude.{◌≡◌, ◌<◌, ◌^◌, length, map, IfOk, IfSome, OnOk, option_map};
+ghost use Rattle.std.specs.Prelude.{◌≡◌, IfOk, IfSome, OnOk, option_map};
 ghost use Rattle.nv_value.specs.View.{content, contents};
 ghost use Rattle.nv_rpc.specs.Frames.{call_of_frame};
 ghost use Rattle.nv_rpc.specs.Messages.{IsSendable};
@@ -44,7 +44,6 @@ fn call_method(
     name: &[u8],
     params: &[Value],
 ) -> Result<Called, AllocError>
-    requires name { length name.now < 2 ^ 31 }
     requires light { AreLight (contents params.now) }
     requires sealed { AllSealed editor.old }
     ensures called { IfOk result (λ c. CallsMethod session name.now (contents params.now)

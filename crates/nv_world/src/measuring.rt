@@ -1,7 +1,8 @@
 //! How many bytes messages take that wait.
-ghost use Rattle.std.specs.Prelude.{◌≡◌, ℕ, length, map};
-ghost use Rattle.nv_value.specs.Content.{text, trees_of};
+ghost use Rattle.std.specs.Prelude.{◌≡◌, ◌<◌, ◌^◌, ℕ, IfOk, length, map};
+ghost use Rattle.nv_value.specs.Content.{count, text, trees_of};
 ghost use Rattle.nv_value.specs.View.{content, contents, pair_contents};
+ghost use Rattle.nv_msgpack.specs.Shortest.{HaveSpellings};
 ghost use Rattle.nv_rpc.specs.Messages.{items, reply};
 ghost use Rattle.nv_rpc.specs.MessageView.{sent_of};
 ghost use Rattle.nv_rpc.specs.Outcomes.{atomic_content, call_result_content, outcome_content, triple_content};
@@ -13,7 +14,8 @@ use crate::shared::{LinesEvent, SharedMessage};
 use nv_buffer::{Line, LineList};
 use nv_lines::Excerpt;
 use nv_rpc::{AtomicResults, CallResult, Message, Outcome, Triple};
-use nv_value::{ApiFault, Bytes, Fields, Items, Value};
+use nv_value::{ApiFault, Bytes, Fields, Items, Value, spelled_length};
+use std::alloc::AllocError;
 use std::marker::Model;
 
 /// What a message, a value or a line takes beside the bytes of its string.
@@ -87,14 +89,16 @@ fn size_of_triples(triples: &[Triple]) -> u64
 }
 
 fn size_of_line(line: &Line) -> u64
-    ensures { result ≡ plus 32 (length line.now) }
+    ensures size { result ≡ plus 32 (length line.now) }
+    ensures few { length line.now < 2 ^ 32 }
 {
     EACH.saturating_add(line.len() as u64)
 }
 
 // Of lines, with so many bytes of others.
 fn size_with_lines(before: u64, lines: &[Line]) -> u64
-    ensures { result ≡ memory_with (strings lines.now) before }
+    ensures size { result ≡ memory_with (strings lines.now) before }
+    ensures spelled { HaveSpellings (strings lines.now) }
 {
     let mut size = before;
     for line in lines {
@@ -104,7 +108,8 @@ fn size_with_lines(before: u64, lines: &[Line]) -> u64
 }
 
 fn size_of_lines(list: &LineList) -> u64
-    ensures { result ≡ memory_with (strings list.now) 32 }
+    ensures size { result ≡ memory_with (strings list.now) 32 }
+    ensures spelled { HaveSpellings (strings list.now) }
 {
     size_with_lines(EACH, list.as_slice())
 }
@@ -178,12 +183,15 @@ impl Model for SizedLines {
 }
 
 impl SizedLines {
-    /// These lines.
-    pub fn new(lines: LineList) -> SizedLines
-        ensures { result ≡ lines }
+    /// These lines. `AllocError` also where they are 2^32 or more.
+    pub fn new(lines: LineList) -> Result<SizedLines, AllocError>
+        ensures same { IfOk result (λ sized. sized ≡ lines) }
+        ensures spelled { IfOk result (λ sized. (count (strings sized) < 2 ^ 32)
+            × HaveSpellings (strings sized)) }
     {
+        spelled_length(lines.len())?;
         let size = size_of_lines(&lines);
-        SizedLines { lines, size }
+        Ok(SizedLines { lines, size })
     }
 
     /// The lines, lent.

@@ -1,9 +1,10 @@
 //! Messages as they wait, whose lines are shared by all who are told them.
-ghost use Rattle.std.specs.Prelude.{◌≡◌, ◌<◌, ◌^◌, ◌++◌, ◌↔◌, pos, negsuc, nat_abs, length, map, All, IsTrue, IfOk, IfSome, OnOk, Some, None};
+ghost use Rattle.std.specs.Prelude.{◌≡◌, ◌<◌, ◌^◌, ◌++◌, ◌↔◌, pos, negsuc, nat_abs, length, map, All, IfOk, IfSome, OnOk, Some, None};
 ghost use Rattle.std.specs.Arc.{arc_value};
+ghost use Rattle.nv_value.specs.Content.{count};
 ghost use Rattle.nv_value.specs.View.{contents};
-ghost use Rattle.nv_msgpack.specs.Shortest.{shortest};
-ghost use Rattle.nv_rpc.specs.Messages.{IsSendable, lines_event, message_tree};
+ghost use Rattle.nv_msgpack.specs.Shortest.{HaveSpellings, shortest};
+ghost use Rattle.nv_rpc.specs.Messages.{IsSendable, message_tree};
 ghost use Rattle.nv_rpc.specs.MessageView.{sent_of};
 ghost use Rattle.nv_rpc.specs.Outcomes.{AreSpellable, bytes_left};
 ghost use Rattle.nv_args.specs.Texts.{strings};
@@ -133,29 +134,12 @@ impl Notice {
     }
 }
 
-// Whether a message can count the lines, and the bytes of each.
-fn can_be_counted(lines: &LineList) -> bool
-    ensures { IsTrue result → IsSendable (lines_event (pos 0) (pos 0) (pos 0) (pos 0)
-        (strings lines.now)) }
-{
-    let lines = lines.as_slice();
-    for line in lines {
-        if line.len() > u32::MAX as usize {
-            return false;
-        }
-    }
-    lines.len() <= u32::MAX as usize
-}
-
-// A lines event that all who are told of it share. More lines or bytes than a message can count
-// are more than memory holds.
+// A lines event that all who are told of it share.
 fn shared_lines(alloc: Global, event: LinesEvent) -> Result<Arc<LinesEvent, Global>, AllocError>
+    requires { (count (strings event.lines) < 2 ^ 32) × HaveSpellings (strings event.lines) }
     ensures lines { IfOk result (λ shared. sent_of_lines (arc_value shared) ≡ sent_of_lines event) }
     ensures sendable { IfOk result (λ shared. IsSendable (sent_of_lines (arc_value shared))) }
 {
-    if !can_be_counted(event.lines.lines()) {
-        return Err(AllocError);
-    }
     Ok(Arc::new(alloc, event)?)
 }
 
@@ -171,7 +155,7 @@ pub fn splice_notice(alloc: Global, buffer: i64, spliced: Spliced) -> Result<Not
         tick,
         first: i64::from(edit.first),
         last: i64::from(edit.last),
-        lines: SizedLines::new(edit.lines),
+        lines: SizedLines::new(edit.lines)?,
     };
     Ok(Notice::Lines(shared_lines(alloc, event)?))
 }
@@ -207,7 +191,7 @@ pub fn first_shared(
                 tick,
                 first: 0,
                 last: -1,
-                lines: SizedLines::new(lines),
+                lines: SizedLines::new(lines)?,
             };
             Ok(SharedMessage::Lines(shared_lines(alloc, event)?))
         }

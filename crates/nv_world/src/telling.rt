@@ -188,7 +188,6 @@ fn tell_one(
 // The session of a call attaches to a buffer. Nothing is told where it was attached, nor where it
 // is closed.
 fn tell_attached(
-    alloc: Global,
     subs: &mut Subs,
     sessions: &mut [Session],
     caller: u64,
@@ -209,7 +208,7 @@ fn tell_attached(
     if !subs.attach(caller, buffer)? {
         return Ok(());
     }
-    let message = first_shared(alloc, buffer, tick, whole)?;
+    let message = first_shared(subs.alloc(), buffer, tick, whole)?;
     tell_one(subs, sessions, caller, at, message);
     Ok(())
 }
@@ -253,7 +252,7 @@ fn tell_fact(
             buffer,
             tick,
             whole,
-        } => tell_attached(alloc, subs, sessions, caller, at, buffer, tick, whole),
+        } => tell_attached(subs, sessions, caller, at, buffer, tick, whole),
         Fact::Detached { buffer } => {
             tell_detached(subs, sessions, caller, at, buffer);
             Ok(())

@@ -1,5 +1,5 @@
 -- inside: bytes in place, or in one allocation with the count of their owners.
-use Rattle.std.specs.Prelude.{◌≡◌, ◌≤◌, ℕ, List, length, take, ⊤}
+use Rattle.std.specs.Prelude.{◌≡◌, ◌^◌, ◌<◌, ◌≤◌, ℕ, List, length, take, ⊤}
 use Rattle.std.specs.Arc.{arc_value, arc_slice_items}
 use Rattle.nv_value.specs.declared.block.Block.{Block}
 use Rattle.nv_value.specs.declared.block.Block.TheVariants.{Held, Tiny, Short, Middle, Wide, Long}
@@ -31,8 +31,9 @@ IsInRoom (Middle n room) = n ≤ 96
 IsInRoom (Wide n room) = n ≤ 128
 IsInRoom (Long n items) = ⊤
 
--- The handle holds just these bytes.
+-- The handle holds just these bytes, which a spelling can tell.
 pub record HoldsBytes (block : Block) (all : List ℕ) : Type 0 where
   pub bytes : block_bytes block ≡ all
   pub len : block_len block ≡ length all
   pub room : IsInRoom block
+  pub few : length all < 2 ^ 32

@@ -22,9 +22,6 @@ parts false true e = (refl, refl)
 parts false false e = absurd (cc)
 parts true b e = absurd (cc)
 
-made_is : (left : Bool) (n next : ℤ) → left ≡ false → Some n ≡ cond left None (Some next) → n ≡ next
-made_is left n next e is = let same : Some n ≡ Some next = is ∙ ap (λ (t : Bool). cond t None (Some next)) e in cc
-
 abbrev made_tab : PresentEditor → Answer
 made_tab e = replied nil (buffer_made true ∷ tab_made e.stage.next_buffer ∷ []) []
 
@@ -34,22 +31,24 @@ returns-in_err-may_make_tab-clause-row c =
     let p = err_from_is_err_and c.from_residual.result c.from_residual.ensures.1 in
     rw (p.1, p.2) (gives_refused _ _ c.in_err-may_make_tab.field-0.0 e c.args.happened.now refl (c.in_err-may_make_tab.ensures.row (made_tab e)))
 
+pub make_buffer-requires : goal.make_buffer-requires
+make_buffer-requires c =
+    let e = c.args.editor.now in
+    record { room = (parts (no_buffer_left e.stage) (has_handles_left e.stage.workspace) c.in_ok-may_make_tab.ensures.room).0 }
+
 pub returns-clause-row : goal.returns-clause-row
 returns-clause-row c =
     let e = c.args.editor.now in
     let mid = c.make_buffer.new.self in
     let later = c.make_tab.new.self in
+    let n = c.in_ok-buffer.buffer in
     let room = parts (no_buffer_left e.stage) (has_handles_left e.stage.workspace) c.in_ok-may_make_tab.ensures.room in
-    let told = rw c.in-Some.is at c.in_ok-buffer.ensures.told in
-    let done = rw c.in-Some.is at c.in_ok-buffer.ensures.done in
-    let stage = rw c.in-Some.is at c.in_ok-buffer.ensures.stage in
-    let n : c.in-Some.buffer ≡ e.stage.next_buffer = made_is (no_buffer_left e.stage) c.in-Some.buffer e.stage.next_buffer room.0 told in
-    let fits : FitsSigned w64 c.in-Some.buffer = search rules in
-    let made : to_z w64 (of_z w64 c.in-Some.buffer) ≡ e.stage.next_buffer = to_z-of_z w64 c.in-Some.buffer fits ∙ n in
-    let left : has_handles_left mid.stage.workspace ≡ true = ap (λ (s : Stage). has_handles_left s.workspace) stage ∙ room.1 in
-    let operations : cond (has_handles_left mid.stage.workspace) (tab_made (to_z w64 (of_z w64 c.in-Some.buffer)) ∷ []) [] ≡ tab_made e.stage.next_buffer ∷ [] =
+    let fits : FitsSigned w64 n = search rules in
+    let made : to_z w64 (of_z w64 n) ≡ e.stage.next_buffer = to_z-of_z w64 n fits ∙ c.in_ok-buffer.ensures.handle in
+    let left : has_handles_left mid.stage.workspace ≡ true = ap (λ (s : Stage). has_handles_left s.workspace) c.in_ok-buffer.ensures.stage ∙ room.1 in
+    let operations : cond (has_handles_left mid.stage.workspace) (tab_made (to_z w64 (of_z w64 n)) ∷ []) [] ≡ tab_made e.stage.next_buffer ∷ [] =
     λ i. cond (left i) (tab_made (made i) ∷ []) [] in
     gives_quiet _ (buffer_made true ∷ tab_made e.stage.next_buffer ∷ []) e later c.args.happened.now
     (c.in_ok-may_make_tab.ensures.row (made_tab e))
-    (does_then (buffer_made true) (tab_made e.stage.next_buffer ∷ []) e mid later done
+    (does_then (buffer_made true) (tab_made e.stage.next_buffer ∷ []) e mid later c.in_ok-buffer.ensures.done
     (subst (λ (os : List Operation). Does os mid later) operations c.in_ok-make_tab.ensures.done))

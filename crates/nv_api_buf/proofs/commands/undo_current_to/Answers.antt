@@ -1,12 +1,15 @@
-use Rattle.std.proofs.Common.{◌≡◌, ℕ, ℤ, Bool, true, false, [], ◌∷◌, ap, subst, ◌∙◌, refl, arith, rules, w64, FitsSigned}
+use Rattle.std.proofs.Common.{◌≡◌, ℕ, ℤ, Bool, true, false, [], ◌∷◌, length, ap, sym, subst, ◌∙◌, refl, arith, rules, to_z, of_z, w64, FitsSigned}
 use Rattle.std.proofs.lemmas.Result.{err_from_is_err_and}
 use Rattle.std.proofs.lemmas.Int.{to_z-of_z}
-use Rattle.nv_model.specs.Answers.{Answer}
+use Rattle.nv_value.specs.Content.{nil}
+use Rattle.nv_buffer.specs.Content.{Content}
+use Rattle.nv_model.specs.Answers.{Answer, edits, replied, undo_operations, undo_splices}
 use Rattle.nv_model.specs.Seen.{Seen, SeenBuffer}
 use Rattle.nv_model.specs.Standing.{seen_now, seen_buffer_now}
 use Rattle.nv_editor.specs.Sound.{content_at}
-use Rattle.nv_editor.proofs.Giving.{gives_on}
-use Rattle.nv_api_buf.proofs.Deciding.{refused_by, gives_refused}
+use Rattle.nv_api_buf.specs.inside.Orders.{unless_moved}
+use Rattle.nv_api_buf.proofs.Deciding.{refused_by, gives_refused, gives_done}
+use Rattle.nv_api_buf.proofs.Passing.{moved_there}
 use Rattle.std.specs.Prelude.{nat_lt}
 use Rattle.std.proofs.lemmas.Bool.Decides.{nat_tests}
 use Rattle.nv_undo.specs.Tree.{last}
@@ -23,31 +26,67 @@ tested past s k n b = unless ((past, out_of_bounds) ∷ []) (legs_answer s n b (
 abbrev next : Seen → ℕ → ℤ → SeenBuffer → Answer
 next s k n b = tested (nat_lt (last (sealed_undo b)) k) s k n b
 
-pub returns-in_err-live-clause-row : goal.returns-in_err-live-clause-row
-returns-in_err-live-clause-row c =
+pub returns-in_err-found-clause-row : goal.returns-in_err-found-clause-row
+returns-in_err-found-clause-row c =
     let p = err_from_is_err_and c.from_residual.result c.from_residual.ensures.1 in
-    rw (p.1, p.2) (gives_refused _ _ c.in_err-live.field-0.0 c.args.editor.now c.args.happened.now refl (c.in_err-live.ensures.row (next (seen_now c.args.editor.now) c.args.number)))
+    rw (p.1, p.2) (gives_refused _ _ c.in_err-found.field-0.0 c.args.editor.now c.args.happened.now refl (c.in_err-found.ensures.row (next (seen_now c.args.editor.now) c.args.number)))
 
 pub returns-then-number-changes-clause-row : goal.returns-then-number-changes-clause-row
 returns-then-number-changes-clause-row c =
     let e = c.args.editor.now in
-    let n = c.in_ok-live.live.handle in
+    let n = c.in_ok-found.found.live.handle in
     let b = seen_buffer_now (content_at e n) in
     let fits : FitsSigned w64 n = search rules in
     let count : c.changes.result ≡ last (sealed_undo b) = subst (λ (z : ℤ). c.changes.result ≡ last (sealed_undo (seen_buffer_now (content_at e z)))) (to_z-of_z w64 n fits) c.changes.ensures in
     let past : nat_lt (last (sealed_undo b)) c.args.number ≡ true = grind (arith, nat_tests) in
     gives_refused _ _ c.out_of_bounds.result e c.args.happened.now
-    (c.in_ok-live.ensures.row (next (seen_now e) c.args.number) ∙ ap (λ (t : Bool). tested t (seen_now e) c.args.number n b) past)
+    (c.in_ok-found.ensures.row (next (seen_now e) c.args.number) ∙ ap (λ (t : Bool). tested t (seen_now e) c.args.number n b) past)
     (refused_by _ c.out_of_bounds.result out_of_bounds c.out_of_bounds.ensures refl)
 
-pub returns-clause-row : goal.returns-clause-row
-returns-clause-row c =
+pub returns-in_err-may_move-clause-row : goal.returns-in_err-may_move-clause-row
+returns-in_err-may_move-clause-row c =
     let e = c.args.editor.now in
-    let n = c.in_ok-live.live.handle in
+    let n = c.in_ok-found.found.live.handle in
     let b = seen_buffer_now (content_at e n) in
     let fits : FitsSigned w64 n = search rules in
     let count : c.changes.result ≡ last (sealed_undo b) = subst (λ (z : ℤ). c.changes.result ≡ last (sealed_undo (seen_buffer_now (content_at e z)))) (to_z-of_z w64 n fits) c.changes.ensures in
     let within : nat_lt (last (sealed_undo b)) c.args.number ≡ false = grind (arith, nat_tests) in
-    gives_on _ _ c.go_to.result e c.go_to.new.editor c.args.happened.now c.go_to.new.happened
-    (c.in_ok-live.ensures.row (next (seen_now e) c.args.number) ∙ ap (λ (t : Bool). tested t (seen_now e) c.args.number n b) within)
-    c.go_to.ensures.row
+    let legs = legs_to c.args.number (sealed_undo b) in
+    let cost : length (undo_splices b legs) ≡ c.cost_to.result = sym (subst (λ (z : ℤ). let b = seen_buffer_now (content_at e z) in c.cost_to.result ≡ length (undo_splices b (legs_to c.args.number (sealed_undo b)))) (to_z-of_z w64 n fits) c.cost_to.ensures) in
+    let answer : Answer = replied nil (undo_operations n b legs) (edits n b (undo_splices b legs)) in
+    let p = err_from_is_err_and c.from_residual-in_err-may_move.result c.from_residual-in_err-may_move.ensures.1 in
+    rw (p.1, p.2) (gives_refused _ _ c.in_err-may_move.field-0.0 e c.args.happened.now
+    (c.in_ok-found.ensures.row (next (seen_now e) c.args.number)
+    ∙ ap (λ (t : Bool). tested t (seen_now e) c.args.number n b) within
+    ∙ ap (λ (k : ℕ). unless_moved e.stage.limits b k answer) cost
+    ∙ ap (λ (x : Content). unless_moved e.stage.limits (seen_buffer_now x) c.cost_to.result answer) (sym c.in_ok-found.ensures.buffer))
+    (c.in_err-may_move.ensures.row answer))
+
+pub undo_to-requires-clause-tick : goal.undo_to-requires-clause-tick
+undo_to-requires-clause-tick c =
+    let e = c.args.editor.now in
+    let n = c.in_ok-found.found.live.handle in
+    let fits : FitsSigned w64 n = search rules in
+    let there : c.in_ok-found.found.buffer.now ≡ content_at e (to_z w64 (of_z w64 n)) =
+    c.in_ok-found.ensures.buffer ∙ ap (content_at e) (sym (to_z-of_z w64 n fits)) in
+    moved_there _ _ _ _ _ there c.cost_to.ensures c.in_ok-may_move.ensures.tick
+
+pub returns-clause-row : goal.returns-clause-row
+returns-clause-row c =
+    let e = c.args.editor.now in
+    let n = c.in_ok-found.found.live.handle in
+    let b = seen_buffer_now (content_at e n) in
+    let fits : FitsSigned w64 n = search rules in
+    let count : c.changes.result ≡ last (sealed_undo b) = subst (λ (z : ℤ). c.changes.result ≡ last (sealed_undo (seen_buffer_now (content_at e z)))) (to_z-of_z w64 n fits) c.changes.ensures in
+    let within : nat_lt (last (sealed_undo b)) c.args.number ≡ false = grind (arith, nat_tests) in
+    let legs = legs_to c.args.number (sealed_undo b) in
+    let cost : length (undo_splices b legs) ≡ c.cost_to.result = sym (subst (λ (z : ℤ). let b = seen_buffer_now (content_at e z) in c.cost_to.result ≡ length (undo_splices b (legs_to c.args.number (sealed_undo b)))) (to_z-of_z w64 n fits) c.cost_to.ensures) in
+    let answer : Answer = replied nil (undo_operations n b legs) (edits n b (undo_splices b legs)) in
+    gives_done _ _ e c.undo_to.new.self c.args.happened.now c.undo_to.new.happened
+    (c.in_ok-found.ensures.row (next (seen_now e) c.args.number)
+    ∙ ap (λ (t : Bool). tested t (seen_now e) c.args.number n b) within
+    ∙ ap (λ (k : ℕ). unless_moved e.stage.limits b k answer) cost
+    ∙ ap (λ (x : Content). unless_moved e.stage.limits (seen_buffer_now x) c.cost_to.result answer) (sym c.in_ok-found.ensures.buffer)
+    ∙ c.in_ok-may_move.ensures.row answer
+    ∙ (λ i. let z = sym (to_z-of_z w64 n fits) i in let b = seen_buffer_now (content_at e z) in replied nil (undo_operations z b (legs_to c.args.number (sealed_undo b))) (edits z b (undo_splices b (legs_to c.args.number (sealed_undo b))))))
+    c.in_ok-undo_to.ensures

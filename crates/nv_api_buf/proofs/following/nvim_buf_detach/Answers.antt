@@ -14,14 +14,14 @@ use Rattle.nv_api_buf.proofs.following.nvim_buf_detach.Goals as goal
 abbrev next : ℤ → SeenBuffer → Answer
 next n b = replied (truth true) [] (detached n ∷ [])
 
-pub returns-in_err-live-clause-row : goal.returns-in_err-live-clause-row
-returns-in_err-live-clause-row c session =
+pub returns-in_err-found-clause-row : goal.returns-in_err-found-clause-row
+returns-in_err-found-clause-row c session =
     let p = err_from_is_err_and c.from_residual.result c.from_residual.ensures.1 in
-    rw (p.1, p.2) (gives_refused _ _ c.in_err-live.field-0.0 c.args.editor.now c.args.happened.now refl (c.in_err-live.ensures.row next))
+    rw (p.1, p.2) (gives_refused _ _ c.in_err-found.field-0.0 c.args.editor.now c.args.happened.now refl (c.in_err-found.ensures.row next))
 
 pub returns-clause-row : goal.returns-clause-row
 returns-clause-row c session =
     let e = c.args.editor.now in
     replies_on _ _ (content (Truth true)) e e c.args.happened.now c.push.new.self
-    (c.in_ok-live.ensures.row next)
+    (c.in_ok-found.ensures.row next)
     (content-Truth true, (λ m stands. stands), search rules)

@@ -42,20 +42,20 @@ put_none n t name (Some o) is fault = absurd (by_put (o.put n t) is fault)
 abbrev next : List Arg → ℤ → SeenBuffer → Answer
 next args n b = puts_keyed (last_pairs (pairs_at args 2)) (object_at args 1) (string_at args 0) n
 
-pub returns-in_err-live-clause-row : goal.returns-in_err-live-clause-row
-returns-in_err-live-clause-row c session =
+pub returns-in_err-found-clause-row : goal.returns-in_err-found-clause-row
+returns-in_err-found-clause-row c session =
     let args = typed_arguments c.args.args.now in
     let e = c.args.editor.now in
     let p = err_from_is_err_and c.from_residual.result c.from_residual.ensures.1 in
-    rw (p.1, p.2) (gives_refused _ _ c.in_err-live.field-0.0 e c.args.happened.now
+    rw (p.1, p.2) (gives_refused _ _ c.in_err-found.field-0.0 e c.args.happened.now
     (ap (λ (ps : List (Tree × Tree)). on_buffer (seen_now e) (option_buffer (last_pairs ps)) (next args)) (sym c.pairs-pairs.ensures))
-    (c.in_err-live.ensures.row (next args)))
+    (c.in_err-found.ensures.row (next args)))
 
 pub returns-in_err-unknown_key-clause-row : goal.returns-in_err-unknown_key-clause-row
 returns-in_err-unknown_key-clause-row c session =
     let args = typed_arguments c.args.args.now in
     let e = c.args.editor.now in
-    let n = c.in_ok-live.live.handle in
+    let n = c.in_ok-found.found.live.handle in
     let t = object_at args 1 in
     let name = string_at args 0 in
     let pairs = last_pairs (pairs_at args 2) in
@@ -64,7 +64,7 @@ returns-in_err-unknown_key-clause-row c session =
     let p = err_from_is_err_and c.from_residual-in_err-unknown_key.result c.from_residual-in_err-unknown_key.ensures.1 in
     rw (p.1, p.2) (gives_refused _ _ c.in_err-unknown_key.field-0.0 e c.args.happened.now
     (ap (λ (ps : List (Tree × Tree)). on_buffer (seen_now e) (option_buffer (last_pairs ps)) (next args)) (sym c.pairs-pairs.ensures)
-    ∙ c.in_ok-live.ensures.row (next args)
+    ∙ c.in_ok-found.ensures.row (next args)
     ∙ (λ i. fault_or (unknown_key (sym c.option_rules-rules.ensures i) (last_pairs (sym c.pairs-pairs.ensures i))) rest1))
     (finds_fault (Unit {0}) _ rest1 c.in_err-unknown_key.field-0.0 c.in_err-unknown_key.ensures))
 
@@ -72,7 +72,7 @@ pub returns-in_err-put-clause-row : goal.returns-in_err-put-clause-row
 returns-in_err-put-clause-row c session =
     let args = typed_arguments c.args.args.now in
     let e = c.args.editor.now in
-    let n = c.in_ok-live.live.handle in
+    let n = c.in_ok-found.found.live.handle in
     let t = object_at args 1 in
     let name = string_at args 0 in
     let pairs = last_pairs (pairs_at args 2) in
@@ -80,12 +80,12 @@ returns-in_err-put-clause-row c session =
     let rest3 = puts_answer n t name opt in
     let rest2 = fault_or (wrong_value option_keys pairs) rest3 in
     let rest1 = fault_or (value_fault n t opt) rest2 in
-    let known : opt ≡ option_map option_of c.setting_named.result = ap option_named (sym c.name_given-name.ensures.name) ∙ sym c.setting_named.ensures in
+    let known : opt ≡ option_map option_of c.setting_named.result = ap option_named (sym c.string-name.ensures.bytes) ∙ sym c.setting_named.ensures in
     let given : t ≡ content c.object_given.result.now = sym c.object_given.ensures in
     let p = err_from_is_err_and c.from_residual-in_err-put.result c.from_residual-in_err-put.ensures.1 in
     rw (p.1, p.2) (gives_refused _ _ c.in_err-put.field-0.0 e c.args.happened.now
     (ap (λ (ps : List (Tree × Tree)). on_buffer (seen_now e) (option_buffer (last_pairs ps)) (next args)) (sym c.pairs-pairs.ensures)
-    ∙ c.in_ok-live.ensures.row (next args)
+    ∙ c.in_ok-found.ensures.row (next args)
     ∙ (λ i. fault_or (unknown_key (sym c.option_rules-rules.ensures i) (last_pairs (sym c.pairs-pairs.ensures i))) rest1)
     ∙ finds_none _ rest1 c.in_ok-unknown_key.ensures
     ∙ (λ i. fault_or (value_fault n (given i) (known i)) rest2))
@@ -95,7 +95,7 @@ pub returns-in_err-wrong_value-clause-row : goal.returns-in_err-wrong_value-clau
 returns-in_err-wrong_value-clause-row c session =
     let args = typed_arguments c.args.args.now in
     let e = c.args.editor.now in
-    let n = c.in_ok-live.live.handle in
+    let n = c.in_ok-found.found.live.handle in
     let t = object_at args 1 in
     let name = string_at args 0 in
     let pairs = last_pairs (pairs_at args 2) in
@@ -103,12 +103,12 @@ returns-in_err-wrong_value-clause-row c session =
     let rest3 = puts_answer n t name opt in
     let rest2 = fault_or (wrong_value option_keys pairs) rest3 in
     let rest1 = fault_or (value_fault n t opt) rest2 in
-    let known : opt ≡ option_map option_of c.setting_named.result = ap option_named (sym c.name_given-name.ensures.name) ∙ sym c.setting_named.ensures in
+    let known : opt ≡ option_map option_of c.setting_named.result = ap option_named (sym c.string-name.ensures.bytes) ∙ sym c.setting_named.ensures in
     let given : t ≡ content c.object_given.result.now = sym c.object_given.ensures in
     let p = err_from_is_err_and c.from_residual-in_err-wrong_value.result c.from_residual-in_err-wrong_value.ensures.1 in
     rw (p.1, p.2) (gives_refused _ _ c.in_err-wrong_value.field-0.0 e c.args.happened.now
     (ap (λ (ps : List (Tree × Tree)). on_buffer (seen_now e) (option_buffer (last_pairs ps)) (next args)) (sym c.pairs-pairs.ensures)
-    ∙ c.in_ok-live.ensures.row (next args)
+    ∙ c.in_ok-found.ensures.row (next args)
     ∙ (λ i. fault_or (unknown_key (sym c.option_rules-rules.ensures i) (last_pairs (sym c.pairs-pairs.ensures i))) rest1)
     ∙ finds_none _ rest1 c.in_ok-unknown_key.ensures
     ∙ (λ i. fault_or (value_fault n (given i) (known i)) rest2)
@@ -120,7 +120,7 @@ pub returns-in_default-clause-row : goal.returns-in_default-clause-row
 returns-in_default-clause-row c session =
     let args = typed_arguments c.args.args.now in
     let e = c.args.editor.now in
-    let n = c.in_ok-live.live.handle in
+    let n = c.in_ok-found.found.live.handle in
     let t = object_at args 1 in
     let name = string_at args 0 in
     let pairs = last_pairs (pairs_at args 2) in
@@ -128,14 +128,14 @@ returns-in_default-clause-row c session =
     let rest3 = puts_answer n t name opt in
     let rest2 = fault_or (wrong_value option_keys pairs) rest3 in
     let rest1 = fault_or (value_fault n t opt) rest2 in
-    let known : opt ≡ option_map option_of c.setting_named.result = ap option_named (sym c.name_given-name.ensures.name) ∙ sym c.setting_named.ensures in
+    let known : opt ≡ option_map option_of c.setting_named.result = ap option_named (sym c.string-name.ensures.bytes) ∙ sym c.setting_named.ensures in
     let given : t ≡ content c.object_given.result.now = sym c.object_given.ensures in
     let put = c.in_ok-put.ensures.put n in
     let none : option_and_then (λ (o : BufferOption). o.put n (content c.object_given.result.now)) (option_map option_of c.setting_named.result) ≡ None =
     sym put ∙ ap (option_map (operation_of n)) c.in_default.is in
     gives_refused _ _ c.unknown_name.result e c.args.happened.now
     (ap (λ (ps : List (Tree × Tree)). on_buffer (seen_now e) (option_buffer (last_pairs ps)) (next args)) (sym c.pairs-pairs.ensures)
-    ∙ c.in_ok-live.ensures.row (next args)
+    ∙ c.in_ok-found.ensures.row (next args)
     ∙ (λ i. fault_or (unknown_key (sym c.option_rules-rules.ensures i) (last_pairs (sym c.pairs-pairs.ensures i))) rest1)
     ∙ finds_none _ rest1 c.in_ok-unknown_key.ensures
     ∙ (λ i. fault_or (value_fault n (given i) (known i)) rest2)
@@ -144,14 +144,14 @@ returns-in_default-clause-row c session =
     ∙ finds_none _ rest3 c.in_ok-wrong_value.ensures
     ∙ (λ i. puts_answer n (given i) name (known i))
     ∙ put_none n (content c.object_given.result.now) name (option_map option_of c.setting_named.result) none (c.in_ok-put.ensures.row n))
-    (refused_by (refused (unknown_name name)) c.unknown_name.result (unknown_name c.name_given-name.result.now) c.unknown_name.ensures
-    (ap (λ (x : List ℕ). refused (unknown_name x)) (sym c.name_given-name.ensures.name)))
+    (refused_by (refused (unknown_name name)) c.unknown_name.result (unknown_name c.string-name.result.now) c.unknown_name.ensures
+    (ap (λ (x : List ℕ). refused (unknown_name x)) (sym c.string-name.ensures.bytes)))
 
 pub returns-clause-row : goal.returns-clause-row
 returns-clause-row c session =
     let args = typed_arguments c.args.args.now in
     let e = c.args.editor.now in
-    let n = c.in_ok-live.live.handle in
+    let n = c.in_ok-found.found.live.handle in
     let t = object_at args 1 in
     let name = string_at args 0 in
     let pairs = last_pairs (pairs_at args 2) in
@@ -159,14 +159,14 @@ returns-clause-row c session =
     let rest3 = puts_answer n t name opt in
     let rest2 = fault_or (wrong_value option_keys pairs) rest3 in
     let rest1 = fault_or (value_fault n t opt) rest2 in
-    let known : opt ≡ option_map option_of c.setting_named.result = ap option_named (sym c.name_given-name.ensures.name) ∙ sym c.setting_named.ensures in
+    let known : opt ≡ option_map option_of c.setting_named.result = ap option_named (sym c.string-name.ensures.bytes) ∙ sym c.setting_named.ensures in
     let given : t ≡ content c.object_given.result.now = sym c.object_given.ensures in
     let put = c.in_ok-put.ensures.put n in
     let some : option_and_then (λ (o : BufferOption). o.put n (content c.object_given.result.now)) (option_map option_of c.setting_named.result) ≡ Some (operation_of n c.in-Some.put) =
     sym put ∙ ap (option_map (operation_of n)) c.in-Some.is in
     gives_quiet _ _ e c.put_option.new.editor c.args.happened.now
     (ap (λ (ps : List (Tree × Tree)). on_buffer (seen_now e) (option_buffer (last_pairs ps)) (next args)) (sym c.pairs-pairs.ensures)
-    ∙ c.in_ok-live.ensures.row (next args)
+    ∙ c.in_ok-found.ensures.row (next args)
     ∙ (λ i. fault_or (unknown_key (sym c.option_rules-rules.ensures i) (last_pairs (sym c.pairs-pairs.ensures i))) rest1)
     ∙ finds_none _ rest1 c.in_ok-unknown_key.ensures
     ∙ (λ i. fault_or (value_fault n (given i) (known i)) rest2)

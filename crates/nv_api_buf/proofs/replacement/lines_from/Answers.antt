@@ -14,7 +14,7 @@ returns-then-not-is_line-clause-none c =
     let place = c.loop-value.value-index in
     let values = c.args.strings.now in
     let string = c.in_ok-string.string in
-    let same : c.as_slice.result.now ≡ string = c.as_slice.ensures in
+    let same : c.as_slice.result.now ≡ string = c.as_slice.ensures.bytes in
     let found : has_newline string ≡ true =
     ap has_newline (sym same) ∙ search-of_no_line c.as_slice.result.now c.is_line.result c.is_line.ensures c.if-not-is_line.true in
     let step : texts_of (map content (drop place values)) ≡ text_of_value (content (get_or values place c.value-item.result)) ∷ texts_of (map content (drop (place + 1) values)) =
@@ -33,7 +33,7 @@ loop-value-preserved c =
     let values = c.args.strings.now in
     let string = c.in_ok-string.string in
     let rest = texts_of (map content (drop (place + 1) values)) in
-    let same : c.as_slice.result.now ≡ string = c.as_slice.ensures in
+    let same : c.as_slice.result.now ≡ string = c.as_slice.ensures.bytes in
     let line : c.from_bytes.result ≡ string = c.from_bytes.ensures in
     let clean : has_newline c.from_bytes.result ≡ false =
     ap has_newline (line ∙ sym same) ∙ search-of_line c.as_slice.result.now (c.is_line.ensures.0 c.if-not-is_line.false) in

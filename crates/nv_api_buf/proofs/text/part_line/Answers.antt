@@ -11,12 +11,12 @@ part-requires-clause-stop c = part-place c.args.text.now c.args.row c.in-Some.li
 
 pub from_bytes-requires : goal.from_bytes-requires
 from_bytes-requires c =
-    subst IsLine (sym (c.in_ok-bytes.ensures ∙ c.part.ensures))
+    subst IsLine (sym (c.in_ok-bytes.ensures.bytes ∙ c.part.ensures))
     (part-line c.in-Some.line.now c.args.row c.args.start c.args.stop c.in-Some.ensures.line)
 
 pub returns : goal.returns
 returns c =
     c.one.ensures
     ∙ ap (λ (l : List ℕ). l ∷ [])
-    (c.from_bytes.ensures ∙ c.in_ok-bytes.ensures ∙ c.part.ensures
+    (c.from_bytes.ensures ∙ c.in_ok-bytes.ensures.bytes ∙ c.part.ensures
     ∙ part-got c.args.text.now c.args.row c.in-Some.line.now c.args.start c.args.stop c.in-Some.ensures.bytes)

@@ -12,5 +12,5 @@ returns-clause-row c = λ session told.
     let args = typed_arguments c.args.args.now in
     let number : to_z w64 (of_z w64 c.number.result) ≡ number_at args 0 = search rules in
     gives_on _ _ c.put_unless_stays.result c.args.editor.now c.put_unless_stays.new.editor told told
-    (λ i. group_answer stage (sym number i) (sym c.string.ensures i) (last_pairs (sym c.pairs.ensures i)))
+    (λ i. group_answer stage (sym number i) (sym c.string.ensures.bytes i) (last_pairs (sym c.pairs.ensures i)))
     (c.put_unless_stays.ensures.row told)

@@ -17,4 +17,4 @@ returns-clause-told c =
 
 pub returns-clause-spelled : goal.returns-clause-spelled
 returns-clause-spelled c =
-    plain_spelled c.in_ok-triples.triples.items c.args.marks.now c.in_ok-triples.ensures (omega (arith, c.if-marks.false))
+    plain_spelled c.in_ok-triples.triples.items c.args.marks.now c.in_ok-triples.ensures (omega (arith, c.in_ok-spelled_length.ensures.few))

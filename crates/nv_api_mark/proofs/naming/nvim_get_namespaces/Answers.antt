@@ -16,4 +16,4 @@ returns-clause-row c = λ session args.
     ap reply_of (sym (c.in_ok-entries.ensures.value
     ∙ ap (λ (es : List (Bor (List ℕ) × ℕ)). dict_of (map (λ e. told (lent e)) es)) c.as_slice.ensures.value
     ∙ ap dict_of (sym (map-map told lent c.in_ok-names.names.items))
-    ∙ ap (λ (es : List (List ℕ × ℕ)). dict_of (map told es)) (c.in_ok-names.ensures ∙ ap (named_namespaces 1) c.namespaces.ensures)))
+    ∙ ap (λ (es : List (List ℕ × ℕ)). dict_of (map told es)) (c.in_ok-names.ensures.entries ∙ ap (named_namespaces 1) c.namespaces.ensures)))

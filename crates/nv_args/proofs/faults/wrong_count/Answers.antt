@@ -1,5 +1,6 @@
-use Rattle.nv_args.proofs.Words.{refuses_told, wrong_count-short}
+use Rattle.std.proofs.Common.{ℕ, List, subst}
+use Rattle.nv_args.specs.Refusals.{Refuses}
 use Rattle.nv_args.proofs.faults.wrong_count.Goals as goal
 
 pub returns-in-Ok : goal.returns-in-Ok
-returns-in-Ok c = refuses_told _ 1 2 _ _ c.fault.ensures c.in-Ok.ensures.ok (wrong_count-short c.args.expected c.args.found c.ranges.expected.fits c.ranges.found.fits)
+returns-in-Ok c = subst (λ (ws : List ℕ). Refuses c.fault.result (record { kind = 1; code = 2; words = ws })) c.in-Ok.ensures.ok c.fault.ensures

@@ -1,6 +1,6 @@
-use Rattle.std.proofs.Common.{arith}
-use Rattle.nv_args.proofs.Words.{refuses_told, wrong_type-short}
+use Rattle.std.proofs.Common.{ℕ, List, subst}
+use Rattle.nv_args.specs.Refusals.{Refuses}
 use Rattle.nv_args.proofs.faults.wrong_type.Goals as goal
 
 pub returns-in-Ok : goal.returns-in-Ok
-returns-in-Ok c = refuses_told _ 1 3 _ _ c.fault.ensures c.in-Ok.ensures.ok (wrong_type-short c.args.number c.args.method.now c.args.kind.now (omega arith) c.requires.short)
+returns-in-Ok c = subst (λ (ws : List ℕ). Refuses c.fault.result (record { kind = 1; code = 3; words = ws })) c.in-Ok.ensures.ok c.fault.ensures

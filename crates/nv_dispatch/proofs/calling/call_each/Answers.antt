@@ -25,13 +25,6 @@ loop-call-init c =
           (subst (λ (vs : List CallResult). IsMadeSoFar B m c.args.session (map call_result_content vs) false (map content c.args.calls.now) e told told) (sym c.new-made.ensures.none) first);
     }
 
-pub call_value-given-requires : goal.call_value-given-requires
-call_value-given-requires c =
-    let left = drop (c.loop-call.call-index + 1) c.args.calls.now in
-    let parts : drop c.loop-call.call-index c.args.calls.now ≡ c.call-item.result ∷ left =
-    calls-left c.args.calls.now c.loop-call.call-index c.call-item.result (omega arith) c.call-item.is in
-    record { light = omega (arith, ap (λ (vs : List Value). list_weight (map content vs)) parts, c.loop-call.invariant.light) }
-
 pub returns-then-is_some-clause-batch : goal.returns-then-is_some-clause-batch
 returns-then-is_some-clause-batch c = λ m is.
     let left = drop (c.loop-call.call-index + 1) c.args.calls.now in

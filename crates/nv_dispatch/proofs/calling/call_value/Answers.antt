@@ -6,25 +6,12 @@ use Rattle.nv_args.specs.Reading.{name_of_call}
 use Rattle.nv_args.specs.Weight.{weight}
 use Rattle.nv_dispatch.specs.Calls.{CallOutcome, outcome_of_name}
 use Rattle.nv_dispatch.specs.Outcomes.{GaveOutcome}
-use Rattle.nv_dispatch.specs.inside.Weights.{list_weight}
-use Rattle.nv_dispatch.proofs.CallValues.{weights-contents, call-weight}
+use Rattle.nv_dispatch.proofs.CallValues.{call-weight}
 use Rattle.nv_dispatch.proofs.RowLemmas.{found_outcome, unknown_outcome}
 use Rattle.nv_dispatch.proofs.calling.call_value.Goals as goal
 
 pub call_method-requires : goal.call_method-requires
-call_method-requires c =
-    let given = c.call_in.ensures in
-    let params = c.call_in.result.params.now in
-    let weighs = call-weight (content c.args.call.now) in
-    record {
-      brief = c.in-Some.ensures.brief;
-      light = omega (arith, weights-contents params, ap list_weight given.params, weighs, c.requires.light);
-    }
-
-pub unknown_method-requires : goal.unknown_method-requires
-unknown_method-requires c =
-    let given = c.call_in.ensures in
-    omega (arith, ap (length {A = ℕ}) given.name, call-weight (content c.args.call.now), c.requires.light)
+call_method-requires c = record { brief = c.in-Some.ensures.brief }
 
 -- what holds anyway
 on_any : {A E : Type 0} (r : Result A E) (P : Type 0) → P → OnOk r P

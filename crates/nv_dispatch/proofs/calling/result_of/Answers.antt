@@ -1,4 +1,4 @@
-use Rattle.std.proofs.Common.{map, refl, subst, List, ℕ, arith}
+use Rattle.std.proofs.Common.{map, refl, subst, List, ℕ}
 use Rattle.nv_value.specs.View.{content}
 use Rattle.nv_value.specs.declared.value.Value.{Nil}
 use Rattle.nv_value.proofs.Contents.{content-Nil}
@@ -15,8 +15,6 @@ use Rattle.nv_api_mark.specs.Rows.{mark_row}
 use Rattle.nv_api_win.specs.WindowRows.{window_row}
 use Rattle.nv_api_ui.specs.UiRows.{ui_row}
 use Rattle.nv_dispatch.specs.Calls.{row_of}
-use Rattle.nv_dispatch.proofs.CallValues.{weights-contents}
-use Rattle.nv_dispatch.proofs.Light.{args_light}
 use Rattle.nv_dispatch.proofs.RowLemmas.{by_row, by_fault, by_none, by_nothing}
 use Rattle.nv_dispatch.proofs.calling.result_of.Goals as goal
 
@@ -81,9 +79,3 @@ returns-in_ok-args-in-Ui-clause-row c =
     by_row (seen_now c.args.editor.now) c.args.session (signature_of c.args.signature.now) (map content c.args.params.now) (Ui c.in-Ui.method) (ui_row c.in-Ui.method)
     (typed_arguments c.in_ok-args-in-Ui.args) c.call-in-Ui.result c.args.editor.now c.call-in-Ui.new.editor c.args.happened.now c.args.happened.now c.in-Ui.is refl c.in_ok-args-in-Ui.ensures
     (c.call-in-Ui.ensures.row c.args.happened.now)
-
-pub call-requires : goal.call-requires
-call-requires c = record {
-  light = args_light (signature_of c.args.signature.now) (map content c.args.params.now) (typed_arguments c.in_ok-args-in-Buffer.args)
-      (omega (arith, weights-contents c.args.params.now, c.requires.light)) c.in_ok-args-in-Buffer.ensures;
-}

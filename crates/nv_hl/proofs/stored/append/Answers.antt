@@ -10,7 +10,7 @@ returns-clause-id c =
     let gs = c.args.entries.now.items in
     let g = named c.args.name.now c.args.group c.args.was_put in
     let pushed : c.push_reserved.new.self.items ≡ gs ++ g ∷ [] = search rules in
-    let count : length gs + 1 ≡ c.in-Ok.id = search rules in
+    let count : length gs + 1 ≡ c.next_id-id.result = search rules in
     ap (λ xs. known_id xs c.args.name.now) pushed ∙ known-push gs g c.requires.unknown ∙ ap Some count
 
 pub returns-clause-index : goal.returns-clause-index
@@ -18,8 +18,8 @@ returns-clause-index c =
     let gs = c.args.entries.now.items in
     let g = named c.args.name.now c.args.group c.args.was_put in
     let pushed : c.push_reserved.new.self.items ≡ gs ++ g ∷ [] = search rules in
-    let count : c.in-Ok.id ≡ length gs + 1 = search rules in
-    index-after c.in_ok-key.key c.args.index.now c.insert.new.self c.in-Ok.id gs c.push_reserved.new.self.items g pushed
+    let count : c.next_id-id.result ≡ length gs + 1 = search rules in
+    index-after c.in_ok-key.key c.args.index.now c.insert.new.self c.next_id-id.result gs c.push_reserved.new.self.items g pushed
     c.in_ok-key.ensures.items count c.requires.unknown c.requires.index c.in_ok-insert.ensures.updates
 
 pub returns-clause-sound : goal.returns-clause-sound
@@ -27,6 +27,5 @@ returns-clause-sound c =
     let gs = c.args.entries.now.items in
     let g = named c.args.name.now c.args.group c.args.was_put in
     let pushed : c.push_reserved.new.self.items ≡ gs ++ g ∷ [] = search rules in
-    let count : c.in-Ok.id ≡ length gs + 1 = search rules in
-    let few : length gs < 4294967295 = search rules in
-    subst AreSound (sym pushed) (sound-push gs g c.requires.sound few c.requires.linked c.requires.unknown)
+    let count : c.next_id-id.result ≡ length gs + 1 = search rules in
+    subst AreSound (sym pushed) (sound-push gs g c.requires.sound c.requires.few c.requires.linked c.requires.unknown)

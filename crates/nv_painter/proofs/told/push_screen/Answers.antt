@@ -16,18 +16,18 @@ use Rattle.nv_painter.proofs.told.push_screen.Goals as goal
 
 pub dues_of-requires-clause-known : goal.dues_of-requires-clause-known
 dues_of-requires-clause-known c =
-    subst (λ (q : List Attr × ShownRows). AreKnown c.args.known.now q.0 (lent_rows c.args.drawn.now) q.1)
+    subst (λ (q : List Attr × ShownRows). AreKnown c.args.sketch.known.now q.0 (lent_rows c.args.sketch.drawn.now) q.1)
     (λ i. (sym c.as_slice.ensures.value i, sym c.as_slice-2.ensures.value i)) c.requires.known
 
 pub returns : goal.returns
 returns c screen sketch =
-    let drawn = lent_rows c.args.drawn.now in
-    let flags = c.args.flags.now in
+    let drawn = lent_rows c.args.sketch.drawn.now in
+    let flags = c.args.sketch.flags.now in
     let old = c.args.attrs.now.items in
     let rows = c.args.rows.now.items in
     let attrs = c.add_attrs_of_rows.new.attrs.items in
     let dues = c.in_ok-dues.dues.items in
-    let shifts = c.args.shifts.now in
+    let shifts = c.args.sketch.shifts.now in
     let seen : IsSketch flags drawn c.as_slice.result.now c.as_slice-2.result.now screen =
     subst (λ (q : List Attr × ShownRows). IsSketch flags drawn q.0 q.1 screen) (λ i. (sym c.as_slice.ensures.value i, sym c.as_slice-2.ensures.value i)) sketch in
     let due : AreDue dues drawn old rows screen =

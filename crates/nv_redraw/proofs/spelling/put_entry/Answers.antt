@@ -1,4 +1,4 @@
-use Rattle.std.proofs.Common.{◌≡◌, ◌+◌, ◌++◌, length, rules}
+use Rattle.std.proofs.Common.{◌≡◌, ◌∙◌, ◌+◌, ◌++◌, ℕ, ap, length}
 use Rattle.nv_msgpack.proofs.Writing.{begins_as, on_err}
 use Rattle.nv_msgpack.specs.Shortest.{list_head}
 use Rattle.nv_redraw.proofs.PutLemmas.{then_put, entry_put}
@@ -6,7 +6,8 @@ use Rattle.nv_redraw.proofs.spelling.put_entry.Goals as goal
 
 pub returns-clause-ok : goal.returns-clause-ok
 returns-clause-ok c =
-    let head : c.put_list_head.new.into.items ≡ c.args.into.now.items ++ list_head (length c.args.events.now + 1) = search rules in
+    let head : c.put_list_head.new.into.items ≡ c.args.into.now.items ++ list_head (length c.args.events.now + 1) =
+    c.in_ok-put_list_head.ensures.ok ∙ ap (λ (n : ℕ). c.args.into.now.items ++ list_head (n + 1)) c.in_ok-few.ensures.value in
     entry_put c.args.into.now.items c.put_list_head.new.into.items c.put_text.new.into.items c.put_events.new.into.items c.args.name.now c.args.events.now
     head c.in_ok-put_text.ensures.ok c.in_ok-put_events.ensures.ok
 

@@ -9,7 +9,7 @@ pub loop-list-preserved : goal.loop-list-preserved
 loop-list-preserved c =
     list_counted c.lists-lists.result.now c.loop-list.list-index c.loop-list.size c.size_with_lines-size.result
     (memory_with (strings (list_lines c.lists-lists.result.now)) 32) c.list-item.result c.loop-list-test.true c.list-item.is
-    (c.size_with_lines-size.ensures ∙ ap (λ (l : List (List ℕ)). memory_with (strings l) c.loop-list.size) c.as_slice.ensures.value) c.loop-list.invariant
+    (c.size_with_lines-size.ensures.size ∙ ap (λ (l : List (List ℕ)). memory_with (strings l) c.loop-list.size) c.as_slice.ensures.value) c.loop-list.invariant
 
 pub returns : goal.returns
 returns c =

@@ -1,8 +1,9 @@
-use Rattle.std.proofs.Common.{◌≡◌, ℤ, List, [], ◌∷◌, ◌++◌, pos, true, sym, ap, subst, ◌∙◌, rules, arith, to_z, of_z, w64}
+use Rattle.std.proofs.Common.{◌≡◌, ℤ, List, [], ◌∷◌, ◌++◌, pos, true, false, sym, ap, subst, ◌∙◌, rules, arith, to_z, of_z, w64}
 use Rattle.std.specs.Prelude.{◌≤ℤ◌, ◌+ℤ◌}
 use Rattle.std.proofs.lemmas.Int.{ints}
 use Rattle.nv_buffer.specs.Content.{Content, fresh_content}
 use Rattle.nv_windows.specs.Rooms.{last_handle}
+use Rattle.nv_model.specs.Deleting.{no_buffer_left}
 use Rattle.nv_model.specs.Operations.{buffer_made}
 use Rattle.nv_model.specs.Stage.{Stage}
 use Rattle.nv_model.specs.Standing.{PresentEditor}
@@ -10,9 +11,16 @@ use Rattle.nv_model.proofs.Changing.{new_buffer_is_kept}
 use Rattle.nv_editor.specs.Doing.{Does}
 use Rattle.nv_editor.specs.Sound.{IsSoundEditor, is_live_buffer}
 use Rattle.nv_editor.specs.inside.Table.{AreKeptBuffers}
-use Rattle.nv_editor.proofs.MadeBuffers.{next_sound, next_kept, next_live}
+use Rattle.nv_editor.proofs.MadeBuffers.{room_left, next_sound, next_kept, next_live}
 use Rattle.nv_editor.proofs.StageKept.{editor_of}
 use Rattle.nv_editor.proofs.editor.Editor.make_buffer.Goals as goal
+
+room_at : (now : PresentEditor) (inside : Stage) (bs : List (ℤ × Content)) → editor_of bs inside ≡ now → no_buffer_left now.stage ≡ false
+    → inside.next_buffer ≤ℤ last_handle
+room_at now inside bs is left = room_left inside.next_buffer (ap (λ (d : PresentEditor). no_buffer_left d.stage) is ∙ left)
+
+pub count_buffer-requires : goal.count_buffer-requires
+count_buffer-requires c = omega (arith, ints, room_at c.args.self.now c.self.inside.stage c.self.inside.buffers c.self.view_is c.requires.room)
 
 pub invariant_of-self : goal.invariant_of-self
 invariant_of-self c = (
@@ -24,7 +32,7 @@ pub invariant_of-self-2 : goal.invariant_of-self-2
 invariant_of-self-2 c =
     let n : ℤ = c.self.inside.stage.next_buffer in
     let e : to_z w64 (of_z w64 c.next_buffer-handle.result) ≡ n = search rules in
-    let room : n ≤ℤ last_handle = omega (arith, ints) in
+    let room : n ≤ℤ last_handle = room_at c.args.self.now c.self.inside.stage c.self.inside.buffers c.self.view_is c.requires.room in
     let made : c.make.new.self ≡ c.self.inside.buffers ++ (n, fresh_content n c.args.listed) ∷ [] =
     c.in_ok-make.ensures.ok ∙ ap (λ (k : ℤ). c.self.inside.buffers ++ (k, fresh_content k c.args.listed) ∷ []) e in (
       subst (λ (bs : List (ℤ × Content)). IsSoundEditor (editor_of bs c.count_buffer.new.self)) (sym made)

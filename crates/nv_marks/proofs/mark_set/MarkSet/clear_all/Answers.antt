@@ -18,10 +18,14 @@ use Rattle.nv_marks.proofs.PackLemmas.{length-filter}
 use Rattle.nv_marks.proofs.StoredLemmas.{records_fit, room_less}
 use Rattle.nv_marks.proofs.mark_set.MarkSet.clear_all.Goals as goal
 
-pub keep_others-left-requires-clause-room : goal.keep_others-left-requires-clause-room
-keep_others-left-requires-clause-room c =
-    records_fit c.self.inside.store.chunks.items c.self.inside.greatest.entries c.self.inside.count c.self.inside.scratch.items (vec_len c.self.inside.scratch)
-    (vec_capacity c.self.inside.scratch) c.self.inside.spare.items c.self.invariant.0 c.self.invariant.1
+pub keep_others-left-requires-clause-scratch : goal.keep_others-left-requires-clause-scratch
+keep_others-left-requires-clause-scratch c = record {
+  none = c.self.invariant.1.none;
+  empty = c.self.invariant.1.empty;
+  room =
+      records_fit c.self.inside.store.chunks.items c.self.inside.greatest.entries c.self.inside.count c.self.inside.scratch.items (vec_len c.self.inside.scratch)
+      (vec_capacity c.self.inside.scratch) c.self.inside.spare.items c.self.invariant.0 c.self.invariant.1;
+}
 
 pub invariant_of-self : goal.invariant_of-self
 invariant_of-self c =

@@ -1,6 +1,5 @@
-use Rattle.std.proofs.Common.{◌≡◌, ◌∙◌, ◌+◌, ◌*◌, ◌∷◌, ap, sym, subst, cond, not, ℕ, Some, Option, List, arith}
-use Rattle.std.specs.Prelude.{IfSome, IsPermutation, filter, is_some, vec_capacity}
-use Rattle.std.specs.Result.{result_ok}
+use Rattle.std.proofs.Common.{◌≡◌, ◌≤◌, ◌∙◌, ◌+◌, ◌*◌, ◌∷◌, ap, sym, subst, cond, not, ℕ, Some, Option, List, arith}
+use Rattle.std.specs.Prelude.{IsPermutation, filter, is_some, vec_capacity}
 use Rattle.std.specs.declared.cmp.Reverse.{Reverse}
 use Rattle.nv_marks.specs.Marks.{Marks, is_named, mark_at, without}
 use Rattle.nv_marks.specs.Order.{IsInOrder}
@@ -21,6 +20,9 @@ put_mark-requires-clause-chunk c =
     chunk_stays c.chunk_for-chunk.result c.find_counted-found.result (start_record c.args.mark) _ c.take_found.new.store.chunks.items c.chunk_for-chunk.ensures
     c.take_found.ensures.same
 
+pub count_with-self-inside-requires : goal.count_with-self-inside-requires
+count_with-self-inside-requires c = omega (arith, c.scratch_room.ensures, c.in_ok-reserve.ensures.ok, c.reserve.new.self.small)
+
 pub cover-requires : goal.cover-requires
 cover-requires c = c.self.invariant.3.some
 
@@ -29,8 +31,8 @@ invariant_of-self-2 c =
     let rest = subst (λ (l : List Piece). IsPermutation (filter (λ r. not (belongs_to c.args.mark.ns c.args.mark.id r)) (spread_records l)) (spread_records c.take_found.new.store.chunks.items))
     c.reserve-2.ensures.items c.take_found.ensures.rest in
     let counts = c.in_ok-enter.ensures.greatest in
-    let room = subst (λ (o : Option ℕ). IfSome o (λ n. n ≡ 2 * (c.self.inside.count + 1) + 64)) (c.ok_or.ensures.ok_part ∙ ap result_ok c.in_ok-room.was)
-    c.scratch_room.ensures in (
+    let room : 2 * (c.self.inside.count + 1) + 64 ≤ c.scratch_room.result =
+    omega (arith, c.scratch_room.ensures, c.in_ok-reserve.ensures.ok, c.reserve.new.self.small) in (
       stored_with c.args.mark c.self.inside.store.chunks.items c.take_found.new.store.chunks.items c.put_mark.new.store.chunks.items c.self.inside.greatest.entries
           c.enter.new.greatest.entries c.self.invariant.0 c.take_found.ensures.laid c.put_mark.ensures.laid rest c.put_mark.ensures.same_records counts,
       record {
@@ -38,10 +40,10 @@ invariant_of-self-2 c =
             ∙ sym (count_with_one c.args.mark c.self.inside.store.chunks.items c.take_found.new.store.chunks.items c.put_mark.new.store.chunks.items
             c.self.inside.greatest.entries c.enter.new.greatest.entries c.self.invariant.0 c.take_found.ensures.laid c.put_mark.ensures.laid rest
             c.put_mark.ensures.same_records counts c.find_counted-found.result c.find_counted-found.ensures);
-        none = c.put_mark.ensures.none;
-        empty = c.put_mark.ensures.empty;
+        none = c.put_mark.ensures.scratch.none;
+        empty = c.put_mark.ensures.scratch.empty;
         room = room_with (is_some c.find_counted-found.result) c.self.inside.count c.count_with-self-inside.result (vec_capacity c.put_mark.new.scratch)
-            c.count_with-self-inside.ensures (omega (arith, room, c.in_ok-reserve.ensures.ok, c.take_found.ensures.room, c.put_mark.ensures.room, c.self.invariant.1.empty));
+            c.count_with-self-inside.ensures (omega (arith, room, c.in_ok-reserve.ensures.ok, c.take_found.ensures.scratch.room, c.put_mark.ensures.scratch.room, c.self.invariant.1.empty));
         spares = c.put_mark.ensures.spares;
       },
       subst (λ (l : List (ℕ × Reverse ℕ)). IsIndexOf l (marks_among (spread_records c.put_mark.new.store.chunks.items)))

@@ -16,10 +16,14 @@ use Rattle.nv_marks.proofs.StoredLemmas.{ends_of_stored, records_fit}
 use Rattle.nv_marks.proofs.RestoreLemmas.{stored_back, ordered_back, found_back, count_back}
 use Rattle.nv_marks.proofs.mark_set.MarkSet.put_back_from.Goals as goal
 
-pub put_back-requires-clause-room : goal.put_back-requires-clause-room
-put_back-requires-clause-room g c =
-    records_fit c.self.inside.store.chunks.items c.self.inside.greatest.entries c.self.inside.count c.self.inside.scratch.items (vec_len c.self.inside.scratch)
-    (vec_capacity c.self.inside.scratch) c.self.inside.spare.items c.self.invariant.0 c.self.invariant.1
+pub put_back-requires-clause-scratch : goal.put_back-requires-clause-scratch
+put_back-requires-clause-scratch g c = record {
+  none = c.self.invariant.1.none;
+  empty = c.self.invariant.1.empty;
+  room =
+      records_fit c.self.inside.store.chunks.items c.self.inside.greatest.entries c.self.inside.count c.self.inside.scratch.items (vec_len c.self.inside.scratch)
+      (vec_capacity c.self.inside.scratch) c.self.inside.spare.items c.self.invariant.0 c.self.invariant.1;
+}
 
 pub put_back-requires-clause-ends : goal.put_back-requires-clause-ends
 put_back-requires-clause-ends g c = ends_of_stored c.self.inside.store.chunks.items c.self.inside.greatest.entries c.self.invariant.0

@@ -30,9 +30,9 @@ invariant_of-self c = (
       count_less c.args.ns c.args.id c.self.inside.store.chunks.items c.take_found.new.store.chunks.items c.self.inside.greatest.entries c.self.invariant.0
           c.take_found.ensures.laid c.take_found.ensures.rest c.in_ok-found.found (sym c.find_mark.ensures ∙ c.in_ok-found.was),
     );
-    none = c.take_found.ensures.none;
-    empty = c.take_found.ensures.empty;
-    room = omega (arith, c.self.invariant.1.room, c.take_found.ensures.room);
+    none = c.take_found.ensures.scratch.none;
+    empty = c.take_found.ensures.scratch.empty;
+    room = omega (arith, c.self.invariant.1.room, c.take_found.ensures.scratch.room);
     spares = c.self.invariant.1.spares;
   },
   index_less c.take_found.new.index c.forget.new.self (marks_among (spread_records c.self.inside.store.chunks.items))

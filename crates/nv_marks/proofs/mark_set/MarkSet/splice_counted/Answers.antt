@@ -21,10 +21,14 @@ splice_counted-requires-clause-moved g c =
     moves_records c.args.start c.args.old c.args.new c.self.inside.store.chunks.items c.self.inside.greatest.entries c.self.invariant.0
     (subst (λ (v : Marks). All (MovesNarrowly c.args.start c.args.old c.args.new) v.marks) (sym c.self.view_is) c.requires.moved)
 
-pub splice_counted-requires-clause-room : goal.splice_counted-requires-clause-room
-splice_counted-requires-clause-room g c =
-    records_fit c.self.inside.store.chunks.items c.self.inside.greatest.entries c.self.inside.count c.self.inside.scratch.items (vec_len c.self.inside.scratch)
-    (vec_capacity c.self.inside.scratch) c.self.inside.spare.items c.self.invariant.0 c.self.invariant.1
+pub splice_counted-requires-clause-scratch : goal.splice_counted-requires-clause-scratch
+splice_counted-requires-clause-scratch g c = record {
+  none = c.self.invariant.1.none;
+  empty = c.self.invariant.1.empty;
+  room =
+      records_fit c.self.inside.store.chunks.items c.self.inside.greatest.entries c.self.inside.count c.self.inside.scratch.items (vec_len c.self.inside.scratch)
+      (vec_capacity c.self.inside.scratch) c.self.inside.spare.items c.self.invariant.0 c.self.invariant.1;
+}
 
 pub invariant_of-self : goal.invariant_of-self
 invariant_of-self g c = (

@@ -7,15 +7,15 @@ use Rattle.nv_editor.specs.Sound.{content_at}
 use Rattle.nv_model.specs.Answers.{on_buffer}
 use Rattle.nv_api_buf.specs.OptionRows.{option_buffer}
 use Rattle.nv_api_buf.specs.inside.Deciding.{Leaves}
-use Rattle.nv_api_buf.specs.declared.finding.Live.{Live}
+use Rattle.nv_api_buf.specs.declared.finding.Found.{Found}
 use Rattle.std.specs.Prelude.{unwrap_or}
-use Rattle.nv_api_buf.proofs.options.live_by.Goals as goal
+use Rattle.nv_api_buf.proofs.options.found_by.Goals as goal
 
 pub returns-clause-row : goal.returns-clause-row
 returns-clause-row c next =
     let fits : FitsSigned w64 c.unwrap_or.result = search rules in
     let meant : c.unwrap_or.result ≡ option_buffer (last_pairs (map pair_content c.args.pairs.now)) = c.unwrap_or.ensures ∙ ap (λ (o : Option ℤ). unwrap_or o (pos 0)) c.buffer_at.ensures in
     subst (λ (z : ℤ). Leaves (on_buffer (seen_now c.args.editor.now) z next)
-    (λ (live : Live). next live.handle (seen_buffer_now (content_at c.args.editor.now live.handle))) c.live_of.result)
+    (λ (found : Found). next found.live.handle (seen_buffer_now (content_at c.args.editor.now found.live.handle))) c.found_of.result)
     (to_z-of_z w64 c.unwrap_or.result fits ∙ meant)
-    (c.live_of.ensures.row next)
+    (c.found_of.ensures.row next)
