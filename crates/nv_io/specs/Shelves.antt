@@ -24,3 +24,8 @@ pub record MemNaming : Type 0 where
   pub sources : Lending MemReading MemReading
   pub sinks : Lending MemWriting MemWriting
   pub failures : Failing
+
+-- Connections in memory that are dialed, and the calls of `dial` that fail.
+pub record MemDialing (I S : Type 0) : Type 0 where
+  pub shelf : Lending (I × S) (I × S)
+  pub failures : Failing

@@ -8,9 +8,11 @@ ghost use Rattle.nv_io.specs.Reading.{bytes_got, IfBytes};
 ghost use Rattle.nv_io.specs.Streams.{AddsReads};
 ghost use Rattle.nv_io.specs.Writing.{bytes_put, IfTook};
 
+mod dials;
 mod shelves;
 
 use crate::streams::{Got, Put, Sink, Source};
+pub use dials::MemDial;
 pub use shelves::{MemFiles, MemLane, MemPort};
 use std::alloc::Global;
 use std::marker::Model;

@@ -9,6 +9,8 @@ mod cells;
 #[cfg(test)]
 mod io;
 #[cfg(test)]
+mod mirror;
+#[cfg(test)]
 mod redraw;
 #[cfg(test)]
 mod rpc;

@@ -2,8 +2,8 @@
 ghost use Rattle.std.specs.Prelude.{◌≡◌, [], IfOk, Some};
 
 use nv_io::{
-    Accepted, Ended, Files, Got, Lane, MemFiles, MemLane, MemPort, MemSink, MemSource, Port, Put,
-    Sink, Source,
+    Accepted, Dial, Ended, Files, Got, Lane, MemDial, MemFiles, MemLane, MemPort, MemSink,
+    MemSource, Port, Put, Sink, Source,
 };
 use std::alloc::AllocError;
 use std::test::Fail;
@@ -113,5 +113,21 @@ fn files_give_what_they_have_and_take_it_back(rt: HostRuntime) -> Result<(), Fai
         panic!(rt; "both came back")
     };
     assert_eq!(rt; sink.bytes(), b"xy".as_slice());
+    Ok(())
+}
+
+// One connection, where the second call fails.
+#[test]
+fn a_dial_gives_its_connections_and_takes_them_back(rt: HostRuntime) -> Result<(), Fail> {
+    let conns = vec![in rt.alloc(); (source_of(&rt, b"a")?, new_sink(&rt))]?;
+    let fails = vec![in rt.alloc(); 1u64]?;
+    let mut dial = MemDial::new(rt.alloc(), conns, fails)?;
+    let Some((mut input, output)) = dial.dial(&rt, "/one") else {
+        panic!(rt; "a connection is left")
+    };
+    assert!(rt; first_byte(&rt, &mut input) == Some(b'a'));
+    assert!(rt; dial.dial(&rt, "/two").is_none());
+    dial.back(input, output);
+    assert_eq!(rt; dial.returned().len(), 1);
     Ok(())
 }
