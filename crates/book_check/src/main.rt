@@ -2,7 +2,7 @@
 //! --check` does.
 #![tactic(auto)]
 
-use nv_io::{DiskFiles, SockPort, StdErr, StdIn, StdOut};
+use nv_io::{DiskFiles, SockDial, SockPort, StdErr, StdIn, StdOut};
 use nv_run::{all_watchers, run};
 use nv_world::History;
 use std::alloc::{AllocError, Global};
@@ -37,6 +37,7 @@ fn main(rt: HostRuntime) -> ExitCode {
             &mut StdErr::new(rt.stderr()),
             &mut DiskFiles::new(),
             &mut port,
+            &mut SockDial::new(),
             watchers,
             &mut History::new(alloc),
         );

@@ -7,7 +7,7 @@ use Rattle.nv_world.specs.declared.entry.Entry as world
 use Rattle.nv_world.specs.declared.story.Start.{Start}
 use Rattle.nv_world.specs.Contents.{plain_entries}
 use Rattle.nv_session.specs.Sending.{world_after}
-use Rattle.nv_words.specs.Commands.{PlainCommand, embeds, serves, replays, generates}
+use Rattle.nv_words.specs.Commands.{PlainCommand, embeds, serves, replays, generates, follows_buffer, shows}
 use Rattle.nv_run.specs.Commands.{RunsAs, usual_start}
 use Rattle.nv_run.specs.Serving.{IfBook}
 use Rattle.nv_run.proofs.Servers.{lent_back}
@@ -42,6 +42,8 @@ runs_as (Some (embeds outbox)) kept e = kept_runs outbox kept e
 runs_as (Some (serves address sessions outbox book)) kept e = kept_runs outbox kept e
 runs_as (Some (replays name check)) kept e = (4096, kept_runs 4096 kept e)
 runs_as (Some (generates number)) kept e = kept_runs 4096 kept e
+runs_as (Some (follows_buffer address buffer)) kept e = kept_runs 4096 kept e
+runs_as (Some (shows notice)) kept e = kept_runs 4096 kept e
 
 pub none_runs : (asked : Option PlainCommand) (kept : List world.Entry) → kept ≡ [] → RunsAs asked (plain_entries kept)
 none_runs asked kept none = runs_as asked (plain_entries kept) (ap plain_entries none)

@@ -1,9 +1,10 @@
 -- What went out of a line in parts, and of words.
-use Rattle.std.proofs.Common.{◌≡◌, ℕ, ◌+◌, ◌<◌, ◌≤◌, List, [], ◌∷◌, ◌++◌, length, take, drop, get_or, map, Option, refl, sym, ap, ◌∙◌, subst, arith, inl, add-one, drop-cons, take-append-drop}
+use Rattle.std.proofs.Common.{◌≡◌, ℕ, ◌+◌, ◌<◌, ◌≤◌, List, [], ◌∷◌, ◌++◌, length, take, drop, get_or, map, Option, refl, sym, ap, ◌∙◌, subst, arith, inl, inr, ⊎_elim, add-one, drop-cons, take-append-drop}
 use Rattle.std.specs.List.{flat_map}
 use Rattle.std.proofs.lemmas.Grind.{flat_map-append}
 use Rattle.std.proofs.lemmas.List.{take-append-le, take_all}
 use Rattle.std.specs.Io.KnownBytes.{append_known}
+use Rattle.nv_io.specs.Faults.{Rose}
 use Rattle.nv_io.specs.Streams.{Tells}
 use Rattle.nv_session.proofs.Serving.{known_then, take_past}
 
@@ -36,3 +37,19 @@ told_all f parts i faults now before after h p =
 -- a line in other words
 pub tells_as : (line other : List ℕ) (before after : Option (List ℕ)) (faults now : ℕ) → line ≡ other → Tells line before after faults now → Tells other before after faults now
 tells_as line other before after faults now e h = subst (λ (l : List ℕ). Tells l before after faults now) e h
+
+-- a line whose first part failed
+pub tells_cut : (first rest : List ℕ) (n faults now : ℕ) (before after : Option (List ℕ)) → n ≤ length first → after ≡ append_known before (take n first) → Rose faults now
+    → Tells (first ++ rest) before after faults now
+tells_cut first rest n faults now before after few p rose = (n, p ∙ ap (λ (l : List ℕ). append_known before l) (sym (take-append-le n first rest few)), inr rose)
+
+-- a line whose first part went out
+pub tells_then : (first rest : List ℕ) (faults between now : ℕ) (before amid after : Option (List ℕ)) → faults ≤ between → amid ≡ append_known before first → Tells rest amid after between now
+    → Tells (first ++ rest) before after faults now
+tells_then first rest faults between now before amid after later p h =
+    let past : (part : List ℕ) → after ≡ append_known amid part → after ≡ append_known before (first ++ part) =
+    λ part e. e ∙ ap (λ (o : Option (List ℕ)). append_known o part) p ∙ known_then before first part in (
+      length first + h.0,
+      past (take h.0 rest) h.1 ∙ ap (λ (l : List ℕ). append_known before l) (sym (take_past first rest h.0)),
+      ⊎_elim (λ all. inl (past rest all)) (λ (rose : Rose between now). inr (omega (arith, rose))) h.2,
+    )

@@ -7,6 +7,9 @@ use Rattle.nv_replay.specs.declared.ending.ReplayEnd.{ReplayEnd}
 use Rattle.nv_replay.specs.declared.ending.ReplayEnd.TheVariants as replay
 use Rattle.nv_replay.specs.declared.ending.WriteEnd.{WriteEnd}
 use Rattle.nv_replay.specs.declared.ending.WriteEnd.TheVariants as write
+use Rattle.nv_mirror.specs.declared.followed.Followed.TheVariants as followed
+use Rattle.nv_run.specs.declared.mirroring.FollowEnd.{FollowEnd}
+use Rattle.nv_run.specs.declared.mirroring.FollowEnd.TheVariants as follow
 use Rattle.nv_run.specs.declared.serving.ServerEnd.{ServerEnd}
 use Rattle.nv_run.specs.declared.serving.ServerEnd.TheVariants as server
 
@@ -91,3 +94,32 @@ abbrev pub line_of_script : WriteEnd → List ℕ
 line_of_script write.Done = []
 line_of_script write.NoMemory = line_of NoMemory
 line_of_script write.WriteFault = line_of WriteFault
+
+-- and those that tell how following a buffer ended
+abbrev pub status_of_follow : FollowEnd → ℕ
+status_of_follow follow.NoMemory = 1
+status_of_follow follow.Unconnected = 5
+status_of_follow (follow.Connected followed.Ended) = 0
+status_of_follow (follow.Connected followed.Detached) = 0
+status_of_follow (follow.Connected followed.NoMemory) = 1
+status_of_follow (follow.Connected followed.ReadFault) = 3
+status_of_follow (follow.Connected followed.ServerFault) = 4
+status_of_follow (follow.Connected followed.OutputFault) = 4
+status_of_follow (follow.Connected (followed.Malformed flaw)) = 6
+status_of_follow (follow.Connected (followed.Refused message)) = 9
+status_of_follow (follow.Connected (followed.Unfit number)) = 10
+
+abbrev pub line_of_follow : FollowEnd → List ℕ
+line_of_follow follow.NoMemory = line_of NoMemory
+line_of_follow follow.Unconnected = line_of_server server.Failed
+line_of_follow (follow.Connected followed.Ended) = []
+line_of_follow (follow.Connected followed.Detached) = []
+line_of_follow (follow.Connected followed.NoMemory) = line_of NoMemory
+line_of_follow (follow.Connected followed.ReadFault) = line_of ReadFault
+line_of_follow (follow.Connected followed.ServerFault) = line_of WriteFault
+line_of_follow (follow.Connected followed.OutputFault) = line_of WriteFault
+line_of_follow (follow.Connected (followed.Malformed flaw)) = line_of (Malformed flaw)
+line_of_follow (follow.Connected (followed.Refused message)) =
+    codes "nvimd: refused: " ++ (message ++ codes "\n")
+line_of_follow (follow.Connected (followed.Unfit number)) =
+    codes "nvimd: event " ++ (decimal number ++ codes " does not fit\n")

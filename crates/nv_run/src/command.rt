@@ -1,5 +1,5 @@
 //! The command line: what the program does for its words.
-ghost use Rattle.std.specs.Prelude.{◌≡◌, ◌⊎◌, ◌++◌, ℕ, List, [], IsSome, None, Some, length, map, slice_get};
+ghost use Rattle.std.specs.Prelude.{◌≡◌, ◌⊎◌, ◌++◌, ℕ, pos, List, [], IsSome, None, Some, length, map, slice_get};
 ghost use Rattle.nv_io.specs.Faults.{Rose};
 ghost use Rattle.nv_io.specs.Streams.{GaveEach, Tells, words_of};
 ghost use Rattle.nv_io.specs.declared.lanes.Ended.{Ended};
@@ -14,23 +14,29 @@ ghost use Rattle.nv_words.specs.Commands.{AreWords, HasFairNumbers, command_aske
 ghost use Rattle.nv_world.specs.Contents.{plain_entries};
 ghost use Rattle.nv_session.specs.Ends.{SessionEnds};
 ghost use Rattle.nv_session.specs.Sending.{world_after, HasSession};
-ghost use Rattle.nv_run.specs.Commands.{IfEmbed, IfGenerate, IfReplay, IfServer, MayListen, MayOpen, RunsAs, usual_start};
+ghost use Rattle.nv_run.specs.Commands.{IfEmbed, IfFollow, IfGenerate, IfNotice, IfReplay, IfServer, MayDial, MayListen, MayOpen, RunsAs, usual_start};
 ghost use Rattle.nv_run.specs.Following.{HasMarksInPlace, IsFolded, IsShown};
+ghost use Rattle.nv_run.specs.Mirroring.{LeavesDial};
+ghost use Rattle.nv_run.specs.Notices.{WritesText, text_of_notice};
+ghost use Rattle.nv_run.specs.declared.mirroring.FollowEnd.{FollowEnd};
+ghost use Rattle.nv_mirror.specs.declared.followed.Followed.TheVariants.{OutputFault};
 ghost use Rattle.nv_run.specs.Replaying.{LeavesFile, PlaysBook};
 ghost use Rattle.nv_run.specs.Serving.{IfBook, LeavesBook, ServerEnds};
-ghost use Rattle.nv_run.specs.Statuses.{line_of, line_of_refusal, line_of_replay, line_of_script, line_of_server, status_of, status_of_replay, status_of_script, status_of_server};
+ghost use Rattle.nv_run.specs.Statuses.{line_of, line_of_follow, line_of_refusal, line_of_replay, line_of_script, line_of_server, status_of, status_of_follow, status_of_replay, status_of_script, status_of_server};
 ghost use Rattle.nv_run.specs.declared.serving.ServerEnd.{ServerEnd};
 ghost use Rattle.nv_world.specs.Worlds.{IsOutboxSize};
 
+use crate::mirroring::follow;
+use crate::notices::show;
 use crate::replaying::replay;
 use crate::serving::serve;
 use crate::telling::{
-    status_of, status_of_replay, status_of_script, status_of_server, tell, tell_end, tell_replay,
-    tell_script, tell_server,
+    status_of, status_of_follow, status_of_replay, status_of_script, status_of_server, tell,
+    tell_end, tell_follow, tell_replay, tell_script, tell_server,
 };
 use nv_dispatch::usual_limits;
 use nv_history::{fold_law, mark_law, screen_law};
-use nv_io::{Ended, Files, Lane, Port, Sink, Source};
+use nv_io::{Dial, Ended, Files, Lane, Port, Sink, Source};
 use nv_replay::{ReplayEnd, WriteEnd, generate};
 use nv_session::alone;
 use nv_watch::Watcher;
@@ -107,6 +113,7 @@ fn perform<
     E: Sink,
     F: Files,
     P: Port,
+    D: Dial,
     W: Watcher,
 >(
     rt: &R,
@@ -117,12 +124,14 @@ fn perform<
     errors: &mut E,
     files: &mut F,
     port: &mut P,
+    dial: &mut D,
     watchers: Vec<W>,
     kept: &mut History,
 ) -> u8
     requires numbers { HasFairNumbers (plain_command command) }
     requires may { MayListen P.may (Some (plain_command command)) }
     requires open { MayOpen F.may (Some (plain_command command)) }
+    requires dial { MayDial D.may (Some (plain_command command)) }
     requires empty { kept.old.entries ≡ [] }
     ensures other { result ≡ 2 → ⊥ }
     ensures session { IfEmbed (Some (plain_command command.entry)) (λ outbox.
@@ -133,7 +142,7 @@ fn perform<
         (plain_entries kept.new.entries) (S.taken output.old) (S.taken output.new)
         × (ended ≡ Ended.ReadFault → Rose (I.faults input.old) (I.faults input.new))
         × (ended ≡ Ended.WriteFault → Rose (S.faults output.old) (S.faults output.new))
-        × (files.new ≡ files.old) × (port.new ≡ port.old)
+        × (files.new ≡ files.old) × (port.new ≡ port.old) × (dial.new ≡ dial.old)
         × Tells (line_of ended) (E.taken errors.old) (E.taken errors.new) (E.faults errors.old)
         (E.faults errors.new)) }
     ensures server { IfServer (Some (plain_command command.entry)) (λ sessions outbox book.
@@ -158,7 +167,7 @@ fn perform<
         (F.returned_sinks files.old) (F.returned_sinks files.new))
         × (F.returned_sources files.new ≡ F.returned_sources files.old)
         × (P.lent port.new ≡ P.lent port.old)
-        × (input.new ≡ input.old) × (output.new ≡ output.old)
+        × (input.new ≡ input.old) × (output.new ≡ output.old) × (dial.new ≡ dial.old)
         × Tells (line_of_server ended) (E.taken errors.old) (E.taken errors.new)
         (E.faults errors.old) (E.faults errors.new)) }
     ensures replay { IfReplay (Some (plain_command command.entry)) (λ check.
@@ -176,7 +185,7 @@ fn perform<
         (F.returned_sources files.old) (F.returned_sources files.new)
         × (ended ≡ ReplayEnd.WriteFault → Rose (S.faults output.old) (S.faults output.new))
         × (F.returned_sinks files.new ≡ F.returned_sinks files.old)
-        × (input.new ≡ input.old) × (port.new ≡ port.old)
+        × (input.new ≡ input.old) × (port.new ≡ port.old) × (dial.new ≡ dial.old)
         × Tells (line_of_replay ended) (E.taken errors.old) (E.taken errors.new)
         (E.faults errors.old) (E.faults errors.new)) }
     ensures generate { IfGenerate (Some (plain_command command.entry)) (λ number.
@@ -187,10 +196,40 @@ fn perform<
         × (ended ≡ WriteEnd.WriteFault → Rose (S.faults output.old) (S.faults output.new))
         × (kept.new ≡ kept.old)
         × (input.new ≡ input.old) × (files.new ≡ files.old) × (port.new ≡ port.old)
+        × (dial.new ≡ dial.old)
+        × Tells (line_of_script ended) (E.taken errors.old) (E.taken errors.new)
+        (E.faults errors.old) (E.faults errors.new)) }
+    ensures follow { IfFollow (Some (plain_command command.entry)) (λ buffer.
+        (ended : FollowEnd) × (result ≡ status_of_follow ended)
+        × LeavesDial (record {
+          taken = D.In.Source.taken;
+          left = D.In.Source.left;
+          reads = D.In.Source.reads;
+          read_faults = D.In.Source.faults;
+          sent = D.Out.Sink.taken;
+          sent_faults = D.Out.Sink.faults;
+        }) (pos buffer) ended (
+          (D.faults dial.old, D.faults dial.new),
+          (D.returned dial.old, D.returned dial.new),
+        ) (S.taken output.old, S.taken output.new)
+        × (ended ≡ FollowEnd.Connected OutputFault
+        → Rose (S.faults output.old) (S.faults output.new))
+        × (kept.new ≡ kept.old)
+        × (input.new ≡ input.old) × (files.new ≡ files.old) × (port.new ≡ port.old)
+        × Tells (line_of_follow ended) (E.taken errors.old) (E.taken errors.new)
+        (E.faults errors.old) (E.faults errors.new)) }
+    ensures notice { IfNotice (Some (plain_command command.entry)) (λ notice.
+        (ended : WriteEnd) × (result ≡ status_of_script ended)
+        × WritesText (text_of_notice notice) ended (S.taken output.old) (S.taken output.new)
+        × (ended ≡ WriteEnd.WriteFault → Rose (S.faults output.old) (S.faults output.new))
+        × (kept.new ≡ kept.old)
+        × (input.new ≡ input.old) × (files.new ≡ files.old) × (port.new ≡ port.old)
+        × (dial.new ≡ dial.old)
         × Tells (line_of_script ended) (E.taken errors.old) (E.taken errors.new)
         (E.faults errors.old) (E.faults errors.new)) }
     ensures back { (F.lent_sources files.new ≡ F.lent_sources files.old)
-        × (F.lent_sinks files.new ≡ F.lent_sinks files.old) }
+        × (F.lent_sinks files.new ≡ F.lent_sinks files.old)
+        × (D.lent dial.new ≡ D.lent dial.old) }
     ensures runs { RunsAs (Some (plain_command command.entry)) (plain_entries kept.new.entries) }
 {
     match command {
@@ -221,6 +260,16 @@ fn perform<
             tell_script(rt, errors, ended);
             status_of_script(ended)
         }
+        Command::Follow { address, buffer } => {
+            let ended = follow(rt, alloc, address, buffer, output, dial);
+            tell_follow(rt, errors, &ended);
+            status_of_follow(&ended)
+        }
+        Command::Show { notice } => {
+            let ended = show(rt, output, notice);
+            tell_script(rt, errors, ended);
+            status_of_script(ended)
+        }
     }
 }
 
@@ -233,6 +282,8 @@ fn perform<
 /// book of all of it to a file where one is named. With `replay` it goes over the book in a file
 /// again, and writes to `output` what its sessions are sent, or with `--check` compares that with
 /// the book and shows each step to the watchers. With `generate` it writes the book of a script to
+/// `output`. With `follow` it follows a buffer of the server at an address, and writes the text to
+/// `output` at each event. Words that ask for help or for the version have that text written to
 /// `output`. After a status other than 0 it writes one line to `errors`; a fault there changes
 /// nothing.
 pub fn run<
@@ -246,6 +297,7 @@ pub fn run<
     E: Sink,
     F: Files,
     P: Port,
+    D: Dial,
     W: Watcher,
 >(
     rt: &R,
@@ -256,24 +308,27 @@ pub fn run<
     errors: &mut E,
     files: &mut F,
     port: &mut P,
+    dial: &mut D,
     watchers: Vec<W>,
     kept: &mut History,
 ) -> u8
     requires empty { kept.old.entries ≡ [] }
 
-    // The port may be asked for the address that the words give, the files for the names, and they
-    // are asked for no other.
+    // The port or the dial may be asked for the address that the words give, the files for the
+    // names, and they are asked for no other.
     requires may { MayListen P.may (command_asked (map (λ word. word.now) words.now)) }
     requires open { MayOpen F.may (command_asked (map (λ word. word.now) words.now)) }
+    requires dial { MayDial D.may (command_asked (map (λ word. word.now) words.now)) }
 
-    // Exactly the words are refused that the parser refuses for another cause than memory, and then
-    // nothing is read, kept or written to `output`, nor where no command is found for want of it.
+    // Exactly the words are refused that the parser refuses for another cause than memory, help and
+    // version excepted, and then nothing is read, kept or written to `output`, nor where no command
+    // is found for want of it.
     ensures words { result ≡ 2 → AreWords (map (λ word. word.now) words.now) → ⊥ }
     ensures refused { (AreWords (map (λ word. word.now) words.now) → ⊥)
         ⊎ (command_asked (map (λ word. word.now) words.now) ≡ None)
         → ((result ≡ 1) ⊎ (result ≡ 2))
         × (input.new ≡ input.old) × (output.new ≡ output.old) × (kept.new ≡ kept.old)
-        × (files.new ≡ files.old) × (port.new ≡ port.old)
+        × (files.new ≡ files.old) × (port.new ≡ port.old) × (dial.new ≡ dial.old)
         × Tells (line_of_refusal result) (E.taken errors.old) (E.taken errors.new)
         (E.faults errors.old) (E.faults errors.new) }
 
@@ -288,7 +343,7 @@ pub fn run<
         (plain_entries kept.new.entries) (S.taken output.old) (S.taken output.new)
         × (ended ≡ Ended.ReadFault → Rose (I.faults input.old) (I.faults input.new))
         × (ended ≡ Ended.WriteFault → Rose (S.faults output.old) (S.faults output.new))
-        × (files.new ≡ files.old) × (port.new ≡ port.old)
+        × (files.new ≡ files.old) × (port.new ≡ port.old) × (dial.new ≡ dial.old)
         × Tells (line_of ended) (E.taken errors.old) (E.taken errors.new) (E.faults errors.old)
         (E.faults errors.new)) }
 
@@ -318,7 +373,7 @@ pub fn run<
         (F.returned_sinks files.old) (F.returned_sinks files.new))
         × (F.returned_sources files.new ≡ F.returned_sources files.old)
         × (P.lent port.new ≡ P.lent port.old)
-        × (input.new ≡ input.old) × (output.new ≡ output.old)
+        × (input.new ≡ input.old) × (output.new ≡ output.old) × (dial.new ≡ dial.old)
         × Tells (line_of_server ended) (E.taken errors.old) (E.taken errors.new)
         (E.faults errors.old) (E.faults errors.new)) }
 
@@ -340,7 +395,7 @@ pub fn run<
         (F.returned_sources files.old) (F.returned_sources files.new)
         × (ended ≡ ReplayEnd.WriteFault → Rose (S.faults output.old) (S.faults output.new))
         × (F.returned_sinks files.new ≡ F.returned_sinks files.old)
-        × (input.new ≡ input.old) × (port.new ≡ port.old)
+        × (input.new ≡ input.old) × (port.new ≡ port.old) × (dial.new ≡ dial.old)
         × Tells (line_of_replay ended) (E.taken errors.old) (E.taken errors.new)
         (E.faults errors.old) (E.faults errors.new)) }
 
@@ -355,12 +410,50 @@ pub fn run<
         × (ended ≡ WriteEnd.WriteFault → Rose (S.faults output.old) (S.faults output.new))
         × (kept.new ≡ kept.old)
         × (input.new ≡ input.old) × (files.new ≡ files.old) × (port.new ≡ port.old)
+        × (dial.new ≡ dial.old)
         × Tells (line_of_script ended) (E.taken errors.old) (E.taken errors.new)
         (E.faults errors.old) (E.faults errors.new)) }
 
-    // What the files gave came back.
+    // Where they ask to follow a buffer, there is an end that the status and the line tell, of the
+    // bytes that came by the connection that was dialed, whose halves came back.
+    ensures follow { AreWords (map (λ word. word.now) words.now)
+        → IfFollow (command_asked (map (λ word. word.now) words.now)) (λ buffer.
+        (ended : FollowEnd) × (result ≡ status_of_follow ended)
+        × LeavesDial (record {
+          taken = D.In.Source.taken;
+          left = D.In.Source.left;
+          reads = D.In.Source.reads;
+          read_faults = D.In.Source.faults;
+          sent = D.Out.Sink.taken;
+          sent_faults = D.Out.Sink.faults;
+        }) (pos buffer) ended (
+          (D.faults dial.old, D.faults dial.new),
+          (D.returned dial.old, D.returned dial.new),
+        ) (S.taken output.old, S.taken output.new)
+        × (ended ≡ FollowEnd.Connected OutputFault
+        → Rose (S.faults output.old) (S.faults output.new))
+        × (kept.new ≡ kept.old)
+        × (input.new ≡ input.old) × (files.new ≡ files.old) × (port.new ≡ port.old)
+        × Tells (line_of_follow ended) (E.taken errors.old) (E.taken errors.new)
+        (E.faults errors.old) (E.faults errors.new)) }
+
+    // Where they ask for help or for the version, the text of that goes to the output, and the
+    // status is 0, unless a write failed or memory was wanting.
+    ensures notice { AreWords (map (λ word. word.now) words.now)
+        → IfNotice (command_asked (map (λ word. word.now) words.now)) (λ notice.
+        (ended : WriteEnd) × (result ≡ status_of_script ended)
+        × WritesText (text_of_notice notice) ended (S.taken output.old) (S.taken output.new)
+        × (ended ≡ WriteEnd.WriteFault → Rose (S.faults output.old) (S.faults output.new))
+        × (kept.new ≡ kept.old)
+        × (input.new ≡ input.old) × (files.new ≡ files.old) × (port.new ≡ port.old)
+        × (dial.new ≡ dial.old)
+        × Tells (line_of_script ended) (E.taken errors.old) (E.taken errors.new)
+        (E.faults errors.old) (E.faults errors.new)) }
+
+    // What the files and the dial gave came back.
     ensures back { (F.lent_sources files.new ≡ F.lent_sources files.old)
-        × (F.lent_sinks files.new ≡ F.lent_sinks files.old) }
+        × (F.lent_sinks files.new ≡ F.lent_sinks files.old)
+        × (D.lent dial.new ≡ D.lent dial.old) }
 
     // The history runs. Whatever the world begins with in which it does: folding the events that a
     // session was sent gives each buffer at the changedtick that they tell, folding the redraw
@@ -377,7 +470,7 @@ pub fn run<
     mark_law();
     match read_words(alloc, words) {
         Ok(command) => perform(
-            rt, alloc, command, input, output, errors, files, port, watchers, kept,
+            rt, alloc, command, input, output, errors, files, port, dial, watchers, kept,
         ),
         Err(refusal) => refuse(rt, errors, refusal),
     }

@@ -3,6 +3,8 @@
 
 mod command;
 mod lanes;
+mod mirroring;
+mod notices;
 mod replaying;
 mod serving;
 mod telling;
@@ -10,6 +12,7 @@ mod watching;
 mod whole;
 
 pub use command::run;
+pub use mirroring::FollowEnd;
 pub use serving::ServerEnd;
 pub use telling::{status_of, tell_end};
 pub use watching::all_watchers;

@@ -4,11 +4,14 @@ ghost use Rattle.std.specs.Prelude.{◌≡◌, ◌++◌, codes, decimal, flat_ma
 ghost use Rattle.nv_io.specs.Streams.{Tells};
 ghost use Rattle.nv_io.specs.declared.lanes.Ended.TheVariants.{Malformed};
 ghost use Rattle.nv_replay.specs.declared.ending.ReplayEnd.TheVariants.{Objects};
-ghost use Rattle.nv_run.specs.Statuses.{line_of, line_of_replay, line_of_script, line_of_server, malformed_line, status_of, status_of_replay, status_of_script, status_of_server};
+ghost use Rattle.nv_run.specs.declared.mirroring.FollowEnd.TheVariants.{Connected};
+ghost use Rattle.nv_run.specs.Statuses.{line_of, line_of_follow, line_of_replay, line_of_script, line_of_server, malformed_line, status_of, status_of_follow, status_of_replay, status_of_script, status_of_server};
 
+use crate::mirroring::FollowEnd;
 use crate::serving::ServerEnd;
 use itoa::Buffer;
 use nv_io::{Ended, Flaw, Sink, put_all};
+use nv_mirror::Followed;
 use nv_replay::{ReplayEnd, WriteEnd};
 
 /// The status of an end.
@@ -59,6 +62,25 @@ pub fn status_of_script(ended: WriteEnd) -> u8
         WriteEnd::Done => 0,
         WriteEnd::NoMemory => 1,
         WriteEnd::WriteFault => 4,
+    }
+}
+
+/// The status of the end of following a buffer.
+pub fn status_of_follow(ended: &FollowEnd) -> u8
+    ensures { result ≡ status_of_follow ended.now }
+{
+    match ended {
+        FollowEnd::NoMemory => 1,
+        FollowEnd::Unconnected => 5,
+        FollowEnd::Connected(followed) => match followed {
+            Followed::Ended | Followed::Detached => 0,
+            Followed::NoMemory => 1,
+            Followed::ReadFault => 3,
+            Followed::ServerFault | Followed::OutputFault => 4,
+            Followed::Malformed(_) => 6,
+            Followed::Refused(_) => 9,
+            Followed::Unfit(_) => 10,
+        },
     }
 }
 
@@ -192,5 +214,65 @@ pub fn tell_script<R, E: Sink>(rt: &R, errors: &mut E, ended: WriteEnd)
         WriteEnd::Done => tell(rt, errors, &[]),
         WriteEnd::NoMemory => tell(rt, errors, &["nvimd: out of memory\n"]),
         WriteEnd::WriteFault => tell(rt, errors, &["nvimd: write fault\n"]),
+    }
+}
+
+// Writes bytes that needn't be UTF-8 to `errors`, and the end of the line.
+fn tell_bytes<R, E: Sink>(rt: &R, errors: &mut E, bytes: &[u8])
+    ensures { Tells (bytes.now ++ codes "\n") (E.taken errors.old) (E.taken errors.new)
+        (E.faults errors.old) (E.faults errors.new) }
+{
+    if !put_all(rt, errors, bytes) {
+        return;
+    }
+    tell(rt, errors, &["\n"]);
+}
+
+// Writes the line of a refusal with this message to `errors`.
+fn tell_refusal<R, E: Sink>(rt: &R, errors: &mut E, message: &[u8])
+    ensures { Tells (codes "nvimd: refused: " ++ (message.now ++ codes "\n")) (E.taken errors.old)
+        (E.taken errors.new) (E.faults errors.old) (E.faults errors.new) }
+{
+    if !put_all(rt, errors, b"nvimd: refused: ") {
+        return;
+    }
+    tell_bytes(rt, errors, message);
+}
+
+// Writes the line of how a client that was connected ended to `errors`, where it has one.
+fn tell_followed<R, E: Sink>(rt: &R, errors: &mut E, followed: &Followed)
+    ensures { Tells (line_of_follow (Connected followed.now)) (E.taken errors.old)
+        (E.taken errors.new) (E.faults errors.old) (E.faults errors.new) }
+{
+    match followed {
+        Followed::Ended | Followed::Detached => tell(rt, errors, &[]),
+        Followed::NoMemory => tell_end(rt, errors, Ended::NoMemory),
+        Followed::ReadFault => tell_end(rt, errors, Ended::ReadFault),
+        Followed::ServerFault | Followed::OutputFault => tell_end(rt, errors, Ended::WriteFault),
+        Followed::Malformed(flaw) => tell_end(rt, errors, Ended::Malformed(*flaw)),
+        Followed::Refused(message) => tell_refusal(rt, errors, message.as_slice()),
+        Followed::Unfit(number) => tell_misfit(rt, errors, *number),
+    }
+}
+
+// Writes the line of an event that doesn't fit to `errors`.
+fn tell_misfit<R, E: Sink>(rt: &R, errors: &mut E, number: u64)
+    ensures { Tells (codes "nvimd: event " ++ (decimal number ++ codes " does not fit\n"))
+        (E.taken errors.old) (E.taken errors.new) (E.faults errors.old) (E.faults errors.new) }
+{
+    let mut digits = Buffer::new();
+    let number = digits.format(number);
+    tell(rt, errors, &["nvimd: event ", number, " does not fit\n"]);
+}
+
+/// Writes the line of the end of following a buffer to `errors`, where it has one.
+pub fn tell_follow<R, E: Sink>(rt: &R, errors: &mut E, ended: &FollowEnd)
+    ensures { Tells (line_of_follow ended.now) (E.taken errors.old) (E.taken errors.new)
+        (E.faults errors.old) (E.faults errors.new) }
+{
+    match ended {
+        FollowEnd::NoMemory => tell_end(rt, errors, Ended::NoMemory),
+        FollowEnd::Unconnected => tell_server(rt, errors, ServerEnd::Failed),
+        FollowEnd::Connected(followed) => tell_followed(rt, errors, followed),
     }
 }

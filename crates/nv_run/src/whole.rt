@@ -9,7 +9,7 @@ ghost use Rattle.nv_run.specs.Commands.{usual_start};
 ghost use Rattle.nv_run.specs.declared.command.TheConstants.{USUAL_OUTBOX};
 
 use crate::command::run;
-use nv_io::{MemFiles, MemPort, MemSink, SureSink, SureSource};
+use nv_io::{MemDial, MemFiles, MemPort, MemSink, SureSink, SureSource};
 use nv_watch::Counter;
 use nv_world::History;
 use std::alloc::Global;
@@ -59,6 +59,10 @@ pub fn answer_all<
     let Ok(mut files) = files else {
         return (1, output, kept);
     };
+    let dial = MemDial::<SureSource, SureSink>::new(alloc, Vec::new(alloc), Vec::new(alloc));
+    let Ok(mut dial) = dial else {
+        return (1, output, kept);
+    };
     let status = run(
         rt,
         alloc,
@@ -68,6 +72,7 @@ pub fn answer_all<
         &mut errors,
         &mut files,
         &mut port,
+        &mut dial,
         Vec::<Counter>::new(alloc),
         &mut kept,
     );

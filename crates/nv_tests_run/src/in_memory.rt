@@ -2,7 +2,7 @@
 ghost use Rattle.std.specs.Prelude.{◌≡◌, ◌<◌, [], IfOk, Some};
 ghost use Rattle.nv_io.specs.Known.{IsUnread, IsUnused};
 
-use nv_io::{MemFiles, MemLane, MemPort, MemSink, MemSource};
+use nv_io::{MemDial, MemFiles, MemLane, MemPort, MemSink, MemSource};
 use nv_run::run;
 use nv_watch::{Counter, Watcher};
 use nv_world::{Event, History};
@@ -32,7 +32,12 @@ pub(crate) struct Wanted<'a> {
 }
 
 /// A source that gives these bytes in pieces of one size, and of which such reads fail.
-fn source(alloc: Global, bytes: &[u8], cut: usize, fails: &[u64]) -> Result<MemSource, AllocError>
+pub(crate) fn source(
+    alloc: Global,
+    bytes: &[u8],
+    cut: usize,
+    fails: &[u64],
+) -> Result<MemSource, AllocError>
     requires { 0 < cut }
     ensures { IfOk result (λ s. IsUnread (Some s.pieces.taken) s.reads s.failures.faults) }
 {
@@ -87,8 +92,12 @@ fn ran<
     watchers: Vec<W>,
 ) -> (u8, History) {
     let mut kept = History::new(alloc);
+    let dial = MemDial::<MemSource, MemSink>::new(alloc, Vec::new(alloc), Vec::new(alloc));
+    let Ok(mut dial) = dial else {
+        return (1, kept);
+    };
     let status = run(
-        rt, alloc, words, input, output, errors, files, port, watchers, &mut kept,
+        rt, alloc, words, input, output, errors, files, port, &mut dial, watchers, &mut kept,
     );
     (status, kept)
 }

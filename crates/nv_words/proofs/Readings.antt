@@ -1,16 +1,8 @@
 -- What the parser says of words, in the words of the crate.
-use Rattle.std.proofs.Common.{◌≡◌, ℕ, Bool, true, false, not, ◌&&◌, [], ◌∷◌, Option, Some, None, Result, Ok, Err, IfOk, Bor, IfSome, option_map, rules, refl, ap, ◌∙◌, inl, inr}
+use Rattle.std.proofs.Common.{◌≡◌, ℕ, Bool, true, false, not, ◌&&◌, Option, Some, None, Result, Ok, Err, IfOk, Bor, IfSome, option_map, rules, refl, ap, ◌∙◌}
 use Rattle.std.specs.Str.Parse.{ParsesUnsigned}
-use Rattle.clap.specs.Words.{HasKind, Kinds, ReadsOne, Text, is_simple_and_free, kind_of}
-use Rattle.clap.specs.declared.error.Error.{Error}
-use Rattle.clap.specs.declared.error.kind.ErrorKind.TheVariants as kind
+use Rattle.clap.specs.Words.{ReadsOne, Text, is_simple_and_free}
 use Rattle.nv_words.specs.Commands.{number_spelled, program_app, text_given}
-
--- an error where no kind is to come is for want of memory
-pub only_memory : (kinds : Kinds) (e : Error) → HasKind kinds e → kinds ≡ [] → kind_of e ≡ kind.OutOfMemory
-only_memory [] e (inl h) n = h
-only_memory [] e (inr h) n = absurd h
-only_memory (k ∷ kinds) e h n = cc
 
 pub program_is_simple : is_simple_and_free program_app ≡ true
 program_is_simple = refl

@@ -25,12 +25,30 @@ pub enum Command<'a> {
     Generate {
         number: u64,
     },
+    /// The texts of a buffer of the server at an address, as for `Serve`. The number of the buffer
+    /// is from 1 to 4,611,686,018,427,387,904.
+    Follow {
+        address: &'a str,
+        buffer: u64,
+    },
+    /// A text about the program itself.
+    Show {
+        notice: Notice,
+    },
+}
+
+/// What the program tells of itself.
+#[derive(Clone, Copy, PartialEq, Eq, Debug)]
+pub enum Notice {
+    /// The commands with their words, and the statuses.
+    Help,
+    Version,
 }
 
 /// Why the words ask for nothing.
 #[derive(Clone, Copy, PartialEq, Eq, Debug)]
 pub enum Refusal {
     NoMemory,
-    /// They are no command, or ask for help.
+    /// They are no command.
     BadWords,
 }

@@ -4,5 +4,5 @@
 mod command;
 mod reading;
 
-pub use command::{Command, Refusal};
+pub use command::{Command, Notice, Refusal};
 pub use reading::read_words;

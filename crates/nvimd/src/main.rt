@@ -1,7 +1,7 @@
 //! A headless Neovim: an editor that programs use through Neovim's API over MessagePack-RPC.
 #![tactic(auto)]
 
-use nv_io::{DiskFiles, Ended, SockPort, StdErr, StdIn, StdOut};
+use nv_io::{DiskFiles, Ended, SockDial, SockPort, StdErr, StdIn, StdOut};
 use nv_run::{all_watchers, run, status_of, tell_end};
 use nv_world::History;
 use std::alloc::{AllocError, Global};
@@ -74,6 +74,7 @@ fn main(rt: HostRuntime) -> ExitCode {
         &mut errors,
         &mut DiskFiles::new(),
         &mut port,
+        &mut SockDial::new(),
         watchers,
         &mut History::new(alloc),
     );

@@ -12,8 +12,9 @@ use Rattle.nv_io.proofs.StreamLemmas.{each_none}
 use Rattle.nv_session.proofs.Leaving.{ends_before}
 use Rattle.nv_run.specs.Commands.{RunsAs, usual_start}
 use Rattle.nv_run.specs.Statuses.{line_of_refusal}
+use Rattle.nv_run.specs.declared.mirroring.FollowEnd.TheVariants as follow
 use Rattle.nv_run.specs.declared.serving.ServerEnd.TheVariants as server
-use Rattle.nv_run.proofs.Asked.{each_embed, each_replay, each_script, each_server, embed_of, is_memory, replay_of, script_of, server_of}
+use Rattle.nv_run.proofs.Asked.{each_embed, each_follow, each_notice, each_replay, each_script, each_server, embed_of, follow_of, is_memory, notice_of, replay_of, script_of, server_of}
 use Rattle.nv_run.proofs.Books.{if_book, none_runs}
 use Rattle.nv_run.proofs.Replays.{book_unwritten}
 use Rattle.nv_run.proofs.Following.{kept_folded, marks_in_place, shown}
@@ -28,6 +29,9 @@ perform-requires-clause-open g c = λ κs out. (
   λ address sessions outbox name is. c.requires.open.0 address sessions outbox name (c.in-Ok.ensures.command ∙ is),
   λ name check is. c.requires.open.1 name check (c.in-Ok.ensures.command ∙ is),
 )
+
+pub perform-requires-clause-dial : goal.perform-requires-clause-dial
+perform-requires-clause-dial g c = λ κs out address buffer is. c.requires.dial address buffer (c.in-Ok.ensures.command ∙ is)
 
 pub returns-in-Ok-clause-refused : goal.returns-in-Ok-clause-refused
 returns-in-Ok-clause-refused g c = λ no.
@@ -44,6 +48,12 @@ returns-in-Ok-clause-replay g c = λ taken. replay_of _ _ _ c.in-Ok.ensures.comm
 
 pub returns-in-Ok-clause-generate : goal.returns-in-Ok-clause-generate
 returns-in-Ok-clause-generate g c = λ taken. script_of _ _ _ c.in-Ok.ensures.command c.perform.ensures.generate
+
+pub returns-in-Ok-clause-follow : goal.returns-in-Ok-clause-follow
+returns-in-Ok-clause-follow g c = λ taken. follow_of _ _ _ c.in-Ok.ensures.command c.perform.ensures.follow
+
+pub returns-in-Ok-clause-notice : goal.returns-in-Ok-clause-notice
+returns-in-Ok-clause-notice g c = λ taken. notice_of _ _ _ c.in-Ok.ensures.command c.perform.ensures.notice
 
 pub returns-in-Ok-clause-runs : goal.returns-in-Ok-clause-runs
 returns-in-Ok-clause-runs g c =
@@ -72,6 +82,7 @@ returns-in-Err-clause-session g c = λ taken.
       (λ e. cc (e)),
       refl,
       refl,
+      refl,
       subst (λ (status : ℕ). Tells (line_of_refusal status) (g.E.Sink.taken c.args.errors.now) (g.E.Sink.taken c.refuse.new.errors) (g.E.Sink.faults c.args.errors.now) (g.E.Sink.faults c.refuse.new.errors)) one c.refuse.ensures.line,
     ))
 
@@ -84,6 +95,7 @@ returns-in-Err-clause-server g c = λ taken.
       one,
       none_began _ (usual_start outbox) sessions c.args.kept.now.entries _ _ _ c.requires.empty refl,
       if_book book _ _ refl (inr (record { why = inl refl; same = refl; none = ap plain_entries c.requires.empty })),
+      refl,
       refl,
       refl,
       refl,
@@ -103,6 +115,7 @@ returns-in-Err-clause-replay g c = λ taken.
       refl,
       refl,
       refl,
+      refl,
       subst (λ (status : ℕ). Tells (line_of_refusal status) (g.E.Sink.taken c.args.errors.now) (g.E.Sink.taken c.refuse.new.errors) (g.E.Sink.faults c.args.errors.now) (g.E.Sink.faults c.refuse.new.errors)) one c.refuse.ensures.line,
     ))
 
@@ -114,6 +127,40 @@ returns-in-Err-clause-generate g c = λ taken.
       write.NoMemory,
       one,
       book_unwritten (usual_start 4096) _ (g.S.Sink.taken c.args.output.now),
+      (λ e. cc (e)),
+      refl,
+      refl,
+      refl,
+      refl,
+      refl,
+      subst (λ (status : ℕ). Tells (line_of_refusal status) (g.E.Sink.taken c.args.errors.now) (g.E.Sink.taken c.refuse.new.errors) (g.E.Sink.faults c.args.errors.now) (g.E.Sink.faults c.refuse.new.errors)) one c.refuse.ensures.line,
+    ))
+
+pub returns-in-Err-clause-notice : goal.returns-in-Err-clause-notice
+returns-in-Err-clause-notice g c = λ taken.
+    let memory : c.in-Err.refusal ≡ refusal.NoMemory = is_memory c.in-Err.refusal (λ e. c.in-Err.ensures.refused (ap (λ (r : Refusal). Err r) e) taken) in
+    let one : c.refuse.result ≡ 1 = c.refuse.ensures.memory memory in
+    each_notice (command_asked (map (λ word. word.now) c.args.words.now)) _ (λ notice. (
+      write.NoMemory,
+      one,
+      refl,
+      (λ e. cc (e)),
+      refl,
+      refl,
+      refl,
+      refl,
+      refl,
+      subst (λ (status : ℕ). Tells (line_of_refusal status) (g.E.Sink.taken c.args.errors.now) (g.E.Sink.taken c.refuse.new.errors) (g.E.Sink.faults c.args.errors.now) (g.E.Sink.faults c.refuse.new.errors)) one c.refuse.ensures.line,
+    ))
+
+pub returns-in-Err-clause-follow : goal.returns-in-Err-clause-follow
+returns-in-Err-clause-follow g c = λ taken.
+    let memory : c.in-Err.refusal ≡ refusal.NoMemory = is_memory c.in-Err.refusal (λ e. c.in-Err.ensures.refused (ap (λ (r : Refusal). Err r) e) taken) in
+    let one : c.refuse.result ≡ 1 = c.refuse.ensures.memory memory in
+    each_follow (command_asked (map (λ word. word.now) c.args.words.now)) _ (λ buffer. (
+      follow.NoMemory,
+      one,
+      (refl, refl),
       (λ e. cc (e)),
       refl,
       refl,
