@@ -6,10 +6,10 @@ test fails.
         expect_screen(\"\"\"
             one
             two
-            ~
+            ~                   |B
             [No Name] [+]       |AAAAAAAAAAAAAAAAAAAA
 
-        \"\"\", A={"bold": True, "reverse": True})
+        \"\"\", A={"bold": True, "reverse": True}, B={"bold": True})
 """
 
 import os

@@ -1,7 +1,9 @@
 """Runs of the program to its end, and where what is tested stands."""
 
 import os
+import socket
 import subprocess
+import tempfile
 
 import pytest
 
@@ -19,3 +21,22 @@ def finished(*words, data=b"", into=subprocess.PIPE):
     given = {"input": data, "stdout": into, "stderr": subprocess.PIPE, "timeout": LONG}
     done = subprocess.run([nvimd.program(), *words], **given)
     return done.stdout, done.returncode, done.stderr.decode().rstrip("\n")
+
+
+def followed(data, buffer=1):
+    """What `follow` writes of a server that sends these bytes, its status, its line, and what it
+    asks the server."""
+    with tempfile.TemporaryDirectory() as folder, socket.socket(socket.AF_UNIX) as listener:
+        address = os.path.join(folder, "socket")
+        listener.bind(address)
+        listener.listen()
+        listener.settimeout(LONG)
+        words = [nvimd.program(), "follow", address, str(buffer)]
+        process = subprocess.Popen(words, stdout=subprocess.PIPE, stderr=subprocess.PIPE)
+        peer, _ = listener.accept()
+        with peer:
+            asked = peer.recv(1 << 16)
+            peer.sendall(data)
+            peer.shutdown(socket.SHUT_WR)
+            listed, line = process.communicate(timeout=LONG)
+    return listed, process.returncode, line.decode().rstrip("\n"), asked

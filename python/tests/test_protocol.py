@@ -1,8 +1,8 @@
 """docs/PROTOCOL.md beside the program: its methods are those that the program answers, each with
 the parameters and the type of result that nvim_get_api_info tells; each example of calls gives what
 stands behind it, is refused by it, tells these events, or draws this batch; each example of a
-message, an input or a book is answered by the messages, or by the status and the line, that stand
-behind it; and the limits that some thousand calls reach are where the page has them.
+message, an input, a book or a server is answered by the messages, the texts, or the status and the
+line, that stand behind it; and the limits that some thousand calls reach are where the page has them.
 
 Each method, fault, event and status must have an example.
 """
@@ -17,7 +17,7 @@ import pytest
 import nvimd
 from examples import calls_in, handle, value_in
 from nvimd.values import packed, unpacker
-from runs import DOCS, finished
+from runs import DOCS, finished, followed
 
 ENTRY = re.compile(r"\[`(nvim_\w+)`\]\([^)]*\)`\(([^)]*)\)` (\w+)")
 EXAMPLE = re.compile(r"`(nvim_\w+\([^`]*)` gives `([^`]*)`")
@@ -33,7 +33,11 @@ BOOK = re.compile(
     r"(?:says `([^`]*)`|ends with status (\d) and `([^`]*)`)"
 )
 FAULT = re.compile(r"^\| (\d+) \| \d \| .* \|$", re.MULTILINE)
-STATUS = re.compile(r"^\| (\d) \| [^|]* \| (?:`nvimd: |none)", re.MULTILINE)
+FOLLOWED = re.compile(
+    r"The server's `([^`]*)` (?:is listed as ((?:`[^`]*`|, | and )*)"
+    r"|ends with status (\d+) and `([^`]*)`)"
+)
+STATUS = re.compile(r"^\| (\d+) \| [^|]* \| (?:`nvimd: |none)", re.MULTILINE)
 LIMIT = re.compile(r"^\| ([^|]*) \| ([\d,]+)[^|]* \| [^|]* \|$", re.MULTILINE)
 
 # limits that are soon reached: the call that reaches them, how many are there at first, and what
@@ -151,6 +155,7 @@ class Page:
             got = ran(bytes.fromhex(data) * int(times or 1))[1:]
             self.same(f"the input {data}", got, (int(status), line))
         shown.update(self.books())
+        shown.update(self.followed())
         told = set(STATUS.findall(self.text))
         shown.add(self.device("a word that is none", words=("embed", "now")))
         shown.add(self.device("an input that is a folder", stdin="/"))
@@ -179,6 +184,18 @@ class Page:
                 self.same(f"the book {data}", finished("replay", file.name), wanted)
                 shown.add(status)
         self.same("an example of a right book", "" in shown, True)
+        return shown
+
+    def followed(self):
+        """Each example of what a server sends to `follow`; the statuses that they show."""
+        shown = set()
+        for data, texts, status, line in FOLLOWED.findall(self.lines):
+            words = (w.encode() if "_" in w else bytes.fromhex(w) for w in data.split())
+            listed = "".join(f"{text}\n" for text in re.findall(r"`([^`]*)`", texts))
+            wanted = listed.encode(), int(status or 0), line
+            self.same(f"the server's {data}", followed(b"".join(words))[:3], wanted)
+            shown.add(status)
+        self.same("an example of a text that is followed", "" in shown, True)
         return shown
 
     def device(self, what, words=("embed",), stdin=None, stdout="/dev/null"):
