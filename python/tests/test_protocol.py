@@ -1,8 +1,9 @@
 """docs/PROTOCOL.md beside the program: its methods are those that the program answers, each with
-the parameters and the type of result that nvim_get_api_info tells; each example of calls gives what
-stands behind it, is refused by it, tells these events, or draws this batch; each example of a
+the parameters and the type of result that nvim_get_api_info tells; each example of calls gives
+what stands behind it, is refused by it, tells these events, or draws this batch; each example of a
 message, an input, a book or a server is answered by the messages, the texts, or the status and the
-line, that stand behind it; and the limits that some thousand calls reach are where the page has them.
+line, that stand behind it; and the limits that some thousand calls reach are where the page has
+them.
 
 Each method, fault, event and status must have an example.
 """
