@@ -64,12 +64,12 @@ fn read_piece<R, S: Source>(
 ) -> Result<usize, Unread>
     requires { length buffer.old ≡ PIECE }
     ensures reads { (bytes : List ℕ)
-        × Gave (S.taken source.old) (S.taken source.new) (S.left source.old)
-        (S.left source.new) bytes
-        × ReadsPiece taken buffer.new bytes (S.left source.new) result }
-    ensures later { S.faults source.old ≤ S.faults source.new }
+        × Gave (S.words source.old).taken (S.words source.new).taken (S.words source.old).left
+        (S.words source.new).left bytes
+        × ReadsPiece taken buffer.new bytes (S.words source.new).left result }
+    ensures later { (S.words source.old).faults ≤ (S.words source.new).faults }
     ensures fault { result ≡ Err Unread.ReadFault
-        → Rose (S.faults source.old) (S.faults source.new) }
+        → Rose (S.words source.old).faults (S.words source.new).faults }
 {
     if taken >= MOST_TAKEN {
         return Ok(0);
@@ -103,12 +103,12 @@ impl Intake {
     // Reads a piece, which is kept. `false` where the source is at its end.
     fn fill<R, S: Source>(&mut self, rt: &R, source: &mut S) -> Result<bool, Unread>
         ensures fills { (bytes : List ℕ)
-            × Gave (S.taken source.old) (S.taken source.new) (S.left source.old)
-            (S.left source.new) bytes
-            × Fills bytes (S.left source.new) result self.old self.new }
-        ensures later { S.faults source.old ≤ S.faults source.new }
+            × Gave (S.words source.old).taken (S.words source.new).taken (S.words source.old).left
+            (S.words source.new).left bytes
+            × Fills bytes (S.words source.new).left result self.old self.new }
+        ensures later { (S.words source.old).faults ≤ (S.words source.new).faults }
         ensures fault { result ≡ Err Unread.ReadFault
-            → Rose (S.faults source.old) (S.faults source.new) }
+            → Rose (S.words source.old).faults (S.words source.new).faults }
     {
         let count = read_piece(rt, source, self.taken, &mut self.buffer)?;
         if count == 0 {
@@ -122,12 +122,12 @@ impl Intake {
     // Reads a piece, which isn't kept. `false` where the source is at its end.
     fn skip<R, S: Source>(&mut self, rt: &R, source: &mut S) -> Result<bool, Unread>
         ensures skips { (bytes : List ℕ)
-            × Gave (S.taken source.old) (S.taken source.new) (S.left source.old)
-            (S.left source.new) bytes
-            × Skips bytes (S.left source.new) result self.old self.new }
-        ensures later { S.faults source.old ≤ S.faults source.new }
+            × Gave (S.words source.old).taken (S.words source.new).taken (S.words source.old).left
+            (S.words source.new).left bytes
+            × Skips bytes (S.words source.new).left result self.old self.new }
+        ensures later { (S.words source.old).faults ≤ (S.words source.new).faults }
         ensures fault { result ≡ Err Unread.ReadFault
-            → Rose (S.faults source.old) (S.faults source.new) }
+            → Rose (S.words source.old).faults (S.words source.new).faults }
     {
         let count = read_piece(rt, source, self.taken, &mut self.buffer)?;
         self.taken += count as u64;
@@ -137,13 +137,13 @@ impl Intake {
     // Reads what is left of the source.
     fn drain<R, S: Source>(&mut self, rt: &R, source: &mut S) -> Result<(), Unread>
         ensures drains { (bytes : List ℕ)
-            × Gave (S.taken source.old) (S.taken source.new) (S.left source.old)
-            (S.left source.new) bytes
-            × OnOk result (IsDrained bytes (S.left source.new) self.old) }
+            × Gave (S.words source.old).taken (S.words source.new).taken (S.words source.old).left
+            (S.words source.new).left bytes
+            × OnOk result (IsDrained bytes (S.words source.new).left self.old) }
         ensures no_place { (n : ℕ) → result ≡ Err (Unread.Malformed n) → ⊥ }
-        ensures later { S.faults source.old ≤ S.faults source.new }
+        ensures later { (S.words source.old).faults ≤ (S.words source.new).faults }
         ensures fault { result ≡ Err Unread.ReadFault
-            → Rose (S.faults source.old) (S.faults source.new) }
+            → Rose (S.words source.old).faults (S.words source.new).faults }
     {
         while self.skip(rt, source)? {}
         Ok(())
@@ -152,12 +152,12 @@ impl Intake {
     /// That the value at a place is wrong, once the source was read to its end.
     pub fn malformed<R, S: Source>(&mut self, rt: &R, source: &mut S, place: u64) -> Unread
         ensures tells { (bytes : List ℕ)
-            × Gave (S.taken source.old) (S.taken source.new) (S.left source.old)
-            (S.left source.new) bytes
-            × TellsPlace bytes (S.left source.new) place self.old result }
-        ensures later { S.faults source.old ≤ S.faults source.new }
+            × Gave (S.words source.old).taken (S.words source.new).taken (S.words source.old).left
+            (S.words source.new).left bytes
+            × TellsPlace bytes (S.words source.new).left place self.old result }
+        ensures later { (S.words source.old).faults ≤ (S.words source.new).faults }
         ensures fault { result ≡ Unread.ReadFault
-            → Rose (S.faults source.old) (S.faults source.new) }
+            → Rose (S.words source.old).faults (S.words source.new).faults }
     {
         match self.drain(rt, source) {
             Ok(()) => Unread::Malformed(place),
@@ -169,16 +169,16 @@ impl Intake {
     fn more<R, S: Source>(&mut self, rt: &R, source: &mut S) -> Result<(), Unread>
         requires { NeedsMore self.old.stream }
         ensures steps { (bytes : List ℕ)
-            × Gave (S.taken source.old) (S.taken source.new) (S.left source.old)
-            (S.left source.new) bytes
+            × Gave (S.words source.old).taken (S.words source.new).taken (S.words source.old).left
+            (S.words source.new).left bytes
             × ((fed : List ℕ) (values : List Tree)
             → HasGiven fed values self.old.taken self.old.stream
-            → GetsMore (fed ++ bytes) (S.left source.new) values result self.new) }
+            → GetsMore (fed ++ bytes) (S.words source.new).left values result self.new) }
         ensures progress { OnOk result ((self.old.taken < 2 ^ 62)
             × (self.old.taken < self.new.taken)) }
-        ensures later { S.faults source.old ≤ S.faults source.new }
+        ensures later { (S.words source.old).faults ≤ (S.words source.new).faults }
         ensures fault { result ≡ Err Unread.ReadFault
-            → Rose (S.faults source.old) (S.faults source.new) }
+            → Rose (S.words source.old).faults (S.words source.new).faults }
     {
         if self.fill(rt, source)? {
             return Ok(());
@@ -189,17 +189,17 @@ impl Intake {
     // Gives the next value of what is held, or reads a piece more.
     fn step<R, S: Source>(&mut self, rt: &R, source: &mut S) -> Result<Option<Value>, Unread>
         ensures steps { (bytes : List ℕ)
-            × Gave (S.taken source.old) (S.taken source.new) (S.left source.old)
-            (S.left source.new) bytes
+            × Gave (S.words source.old).taken (S.words source.new).taken (S.words source.old).left
+            (S.words source.new).left bytes
             × ((fed : List ℕ) (values : List Tree)
             → HasGiven fed values self.old.taken self.old.stream
-            → GivesOne (fed ++ bytes) (S.left source.new) values result self.new) }
+            → GivesOne (fed ++ bytes) (S.words source.new).left values result self.new) }
         ensures light { IfOk result (λ found. IfSome found (λ v. weight (content v) ≤ most_value)) }
         ensures progress { result ≡ Ok None → (self.old.taken < 2 ^ 62)
             × (self.old.taken < self.new.taken) }
-        ensures later { S.faults source.old ≤ S.faults source.new }
+        ensures later { (S.words source.old).faults ≤ (S.words source.new).faults }
         ensures fault { result ≡ Err Unread.ReadFault
-            → Rose (S.faults source.old) (S.faults source.new) }
+            → Rose (S.words source.old).faults (S.words source.new).faults }
     {
         match self.stream.next()? {
             Next::Value(value) => Ok(Some(value)),
@@ -217,15 +217,15 @@ impl Intake {
     /// The next value. Where it is cut or missing, the source was read to its end.
     pub fn value<R, S: Source>(&mut self, rt: &R, source: &mut S) -> Result<Value, Unread>
         ensures takes { (bytes : List ℕ)
-            × Gave (S.taken source.old) (S.taken source.new) (S.left source.old)
-            (S.left source.new) bytes
+            × Gave (S.words source.old).taken (S.words source.new).taken (S.words source.old).left
+            (S.words source.new).left bytes
             × ((fed : List ℕ) (values : List Tree)
             → HasGiven fed values self.old.taken self.old.stream
-            → TakesValue (fed ++ bytes) (S.left source.new) values result self.new) }
+            → TakesValue (fed ++ bytes) (S.words source.new).left values result self.new) }
         ensures light { IfOk result (λ v. weight (content v) ≤ most_value) }
-        ensures later { S.faults source.old ≤ S.faults source.new }
+        ensures later { (S.words source.old).faults ≤ (S.words source.new).faults }
         ensures fault { result ≡ Err Unread.ReadFault
-            → Rose (S.faults source.old) (S.faults source.new) }
+            → Rose (S.words source.old).faults (S.words source.new).faults }
     {
         loop {
             if let Some(value) = self.step(rt, source)? {
@@ -237,15 +237,15 @@ impl Intake {
     /// Whether nothing is behind the values given so far, neither held nor left.
     pub fn is_over<R, S: Source>(&mut self, rt: &R, source: &mut S) -> Result<bool, Unread>
         ensures over { (bytes : List ℕ)
-            × Gave (S.taken source.old) (S.taken source.new) (S.left source.old)
-            (S.left source.new) bytes
+            × Gave (S.words source.old).taken (S.words source.new).taken (S.words source.old).left
+            (S.words source.new).left bytes
             × ((fed : List ℕ) (values : List Tree)
             → HasGiven fed values self.old.taken self.old.stream
-            → AreAll (fed ++ bytes) (S.left source.new) values result self.new) }
+            → AreAll (fed ++ bytes) (S.words source.new).left values result self.new) }
         ensures no_place { (n : ℕ) → result ≡ Err (Unread.Malformed n) → ⊥ }
-        ensures later { S.faults source.old ≤ S.faults source.new }
+        ensures later { (S.words source.old).faults ≤ (S.words source.new).faults }
         ensures fault { result ≡ Err Unread.ReadFault
-            → Rose (S.faults source.old) (S.faults source.new) }
+            → Rose (S.words source.old).faults (S.words source.new).faults }
     {
         if self.stream.held_len() > 0 {
             return Ok(false);

@@ -57,15 +57,15 @@ pub fn read_part<R, S: Source>(
     intake: &mut Intake,
 ) -> Result<Part, Unread>
     ensures reads { (bytes : List ℕ)
-        × Gave (S.taken source.old) (S.taken source.new) (S.left source.old)
-        (S.left source.new) bytes
+        × Gave (S.words source.old).taken (S.words source.new).taken (S.words source.old).left
+        (S.words source.new).left bytes
         × ((fed : List ℕ) (values : List Tree)
         → HasGiven fed values intake.old.taken intake.old.stream
-        → GetsPart (fed ++ bytes) (S.left source.new) values result intake.new) }
+        → GetsPart (fed ++ bytes) (S.words source.new).left values result intake.new) }
     ensures light { IfOk result (λ part. HasLightPart (Some part)) }
-    ensures later { S.faults source.old ≤ S.faults source.new }
+    ensures later { (S.words source.old).faults ≤ (S.words source.new).faults }
     ensures fault { result ≡ Err Unread.ReadFault
-        → Rose (S.faults source.old) (S.faults source.new) }
+        → Rose (S.words source.old).faults (S.words source.new).faults }
 {
     let place = intake.place();
     let value = intake.value(rt, source)?;
@@ -85,15 +85,15 @@ fn outbox_by(value: Value) -> Option<u32>
 /// Reads the first value of a book: how many messages an outbox holds.
 pub fn read_first<R, S: Source>(rt: &R, source: &mut S, intake: &mut Intake) -> Result<u32, Unread>
     ensures reads { (bytes : List ℕ)
-        × Gave (S.taken source.old) (S.taken source.new) (S.left source.old)
-        (S.left source.new) bytes
+        × Gave (S.words source.old).taken (S.words source.new).taken (S.words source.old).left
+        (S.words source.new).left bytes
         × ((fed : List ℕ) (values : List Tree)
         → HasGiven fed values intake.old.taken intake.old.stream
-        → GetsFirst (fed ++ bytes) (S.left source.new) values result intake.new) }
+        → GetsFirst (fed ++ bytes) (S.words source.new).left values result intake.new) }
     ensures fair { IfOk result (λ outbox. IsOutboxSize outbox) }
-    ensures later { S.faults source.old ≤ S.faults source.new }
+    ensures later { (S.words source.old).faults ≤ (S.words source.new).faults }
     ensures fault { result ≡ Err Unread.ReadFault
-        → Rose (S.faults source.old) (S.faults source.new) }
+        → Rose (S.words source.old).faults (S.words source.new).faults }
 {
     let place = intake.place();
     let value = intake.value(rt, source)?;
@@ -114,15 +114,15 @@ pub fn read_end<R, S: Source>(
     entries: u64,
 ) -> Result<(), Unread>
     ensures reads { (bytes : List ℕ)
-        × Gave (S.taken source.old) (S.taken source.new) (S.left source.old)
-        (S.left source.new) bytes
+        × Gave (S.words source.old).taken (S.words source.new).taken (S.words source.old).left
+        (S.words source.new).left bytes
         × ((fed : List ℕ) (values : List Tree) (end : Tree)
         → HasGiven fed (values ++ end ∷ []) intake.old.taken intake.old.stream
         → IsPlaceBehind fed values place
-        → EndsBook (fed ++ bytes) (S.left source.new) values end told entries result) }
-    ensures later { S.faults source.old ≤ S.faults source.new }
+        → EndsBook (fed ++ bytes) (S.words source.new).left values end told entries result) }
+    ensures later { (S.words source.old).faults ≤ (S.words source.new).faults }
     ensures fault { result ≡ Err Unread.ReadFault
-        → Rose (S.faults source.old) (S.faults source.new) }
+        → Rose (S.words source.old).faults (S.words source.new).faults }
 {
     if told != entries {
         return Err(intake.malformed(rt, source, place));

@@ -52,15 +52,15 @@ fn read_piece<R, S: Source>(
     into: &mut Vec<u8>,
 ) -> Result<(), Unread>
     ensures reads { (bytes : List ℕ)
-        × Gave (S.taken source.old) (S.taken source.new) (S.left source.old)
-        (S.left source.new) bytes
+        × Gave (S.words source.old).taken (S.words source.new).taken (S.words source.old).left
+        (S.words source.new).left bytes
         × ((fed : List ℕ) (values : List Tree)
         → HasGiven fed values intake.old.taken intake.old.stream
-        → GetsPiece (fed ++ bytes) (S.left source.new) values is_last result into.old.items
+        → GetsPiece (fed ++ bytes) (S.words source.new).left values is_last result into.old.items
         into.new.items intake.new) }
-    ensures later { S.faults source.old ≤ S.faults source.new }
+    ensures later { (S.words source.old).faults ≤ (S.words source.new).faults }
     ensures fault { result ≡ Err Unread.ReadFault
-        → Rose (S.faults source.old) (S.faults source.new) }
+        → Rose (S.words source.old).faults (S.words source.new).faults }
 {
     let place = intake.place();
     let value = intake.value(rt, source)?;
@@ -79,15 +79,15 @@ pub fn read_output<R, S: Source>(
     into: &mut Vec<u8>,
 ) -> Result<(), Unread>
     ensures reads { (bytes : List ℕ)
-        × Gave (S.taken source.old) (S.taken source.new) (S.left source.old)
-        (S.left source.new) bytes
+        × Gave (S.words source.old).taken (S.words source.new).taken (S.words source.old).left
+        (S.words source.new).left bytes
         × ((fed : List ℕ) (values : List Tree)
         → HasGiven fed values intake.old.taken intake.old.stream
-        → GetsOutput (fed ++ bytes) (S.left source.new) values count result into.new.items
+        → GetsOutput (fed ++ bytes) (S.words source.new).left values count result into.new.items
         intake.new) }
-    ensures later { S.faults source.old ≤ S.faults source.new }
+    ensures later { (S.words source.old).faults ≤ (S.words source.new).faults }
     ensures fault { result ≡ Err Unread.ReadFault
-        → Rose (S.faults source.old) (S.faults source.new) }
+        → Rose (S.words source.old).faults (S.words source.new).faults }
 {
     into.clear();
     for done in 0..count {

@@ -87,16 +87,19 @@ fn play_entry<R, S: Source>(
 ) -> Result<u64, Unread>
     requires light { IsLightEvent (plain_event event) }
     ensures plays { (bytes : List ℕ)
-        × Gave (S.taken source.old) (S.taken source.new) (S.left source.old)
-        (S.left source.new) bytes
-        × PlaysEntry bytes (S.left source.new) place (record { caller = caller; event = event })
+        × Gave (S.words source.old).taken (S.words source.new).taken (S.words source.old).left
+        (S.words source.new).left bytes
+        × PlaysEntry bytes (S.words source.new).left place (record {
+          caller = caller;
+          event = event;
+        })
         result intake.old intake.new player.old player.new }
     ensures known { OnOk result (player.old.world.spent ≡ false) }
     ensures begins { (player.new.world.capacity ≡ player.old.world.capacity)
         × (player.new.world.limits ≡ player.old.world.limits) }
-    ensures later { S.faults source.old ≤ S.faults source.new }
+    ensures later { (S.words source.old).faults ≤ (S.words source.new).faults }
     ensures fault { result ≡ Err Unread.ReadFault
-        → Rose (S.faults source.old) (S.faults source.new) }
+        → Rose (S.words source.old).faults (S.words source.new).faults }
 {
     match player.play(caller, event) {
         Ok(session) => Ok(session),
@@ -134,11 +137,11 @@ fn enter<R, S: Source>(
 ) -> Result<Step, Unread>
     requires light { IsLightEvent (plain_event heading.entry.event) }
     ensures goes { (bytes : List ℕ)
-        × Gave (S.taken source.old) (S.taken source.new) (S.left source.old)
-        (S.left source.new) bytes
+        × Gave (S.words source.old).taken (S.words source.new).taken (S.words source.old).left
+        (S.words source.new).left bytes
         × ((start : PlainStart) (fed : List ℕ) (records played : List Recorded)
         → IsEntering start fed records played place heading intake.old player.old
-        → EntersOne start (fed ++ bytes) (S.left source.new) records played result intake.new
+        → EntersOne start (fed ++ bytes) (S.words source.new).left records played result intake.new
         player.new recorded.new.items) }
     ensures begins { (player.new.world.capacity ≡ player.old.world.capacity)
         × (player.new.world.limits ≡ player.old.world.limits) }
@@ -146,9 +149,9 @@ fn enter<R, S: Source>(
         (HasEntered heading.entry player.old.world player.new.world) }
     ensures grows { OnOk result ((length player.old.world.history < 2 ^ 63)
         × (length player.new.world.history ≡ length player.old.world.history + 1)) }
-    ensures later { S.faults source.old ≤ S.faults source.new }
+    ensures later { (S.words source.old).faults ≤ (S.words source.new).faults }
     ensures fault { result ≡ Err Unread.ReadFault
-        → Rose (S.faults source.old) (S.faults source.new) }
+        → Rose (S.words source.old).faults (S.words source.new).faults }
 {
     let Heading { entry, count } = heading;
     let Entry { caller, event } = entry;
@@ -179,12 +182,12 @@ impl Replay {
     ) -> Result<Replay, Unread>
         requires limits { 1 ≤ limits.entries }
         ensures begins { (bytes : List ℕ)
-            × Gave (S.taken source.old) (S.taken source.new) (S.left source.old)
-            (S.left source.new) bytes
-            × BeginsReplay limits bytes (S.left source.new) result }
-        ensures later { S.faults source.old ≤ S.faults source.new }
+            × Gave (S.words source.old).taken (S.words source.new).taken (S.words source.old).left
+            (S.words source.new).left bytes
+            × BeginsReplay limits bytes (S.words source.new).left result }
+        ensures later { (S.words source.old).faults ≤ (S.words source.new).faults }
         ensures fault { result ≡ Err Unread.ReadFault
-            → Rose (S.faults source.old) (S.faults source.new) }
+            → Rose (S.words source.old).faults (S.words source.new).faults }
     {
         let mut intake = Intake::new(alloc)?;
         let outbox = read_first(rt, source, &mut intake)?;
@@ -201,18 +204,18 @@ impl Replay {
     /// error or the end nothing more is promised.
     pub fn read<R, S: Source>(&mut self, rt: &R, source: &mut S) -> Result<Option<Upcoming>, Unread>
         ensures goes { (bytes : List ℕ)
-            × Gave (S.taken source.old) (S.taken source.new) (S.left source.old)
-            (S.left source.new) bytes
+            × Gave (S.words source.old).taken (S.words source.new).taken (S.words source.old).left
+            (S.words source.new).left bytes
             × ((fed : List ℕ) (records played : List Recorded)
             → IsReplaying fed records played self.old
-            → ReadsNext (fed ++ bytes) (S.left source.new) records played result self.new) }
+            → ReadsNext (fed ++ bytes) (S.words source.new).left records played result self.new) }
         ensures light { IfOk result (λ found. IfSome found
             (λ upcoming. IsLightEvent (plain_event upcoming.heading.entry.event))) }
         ensures same { self.new.start ≡ self.old.start }
         ensures world { self.new.world ≡ self.old.world }
-        ensures later { S.faults source.old ≤ S.faults source.new }
+        ensures later { (S.words source.old).faults ≤ (S.words source.new).faults }
         ensures fault { result ≡ Err Unread.ReadFault
-            → Rose (S.faults source.old) (S.faults source.new) }
+            → Rose (S.words source.old).faults (S.words source.new).faults }
     {
         let place = self.intake.place();
         match read_part(rt, self.player.alloc, source, &mut self.intake)? {
@@ -234,19 +237,19 @@ impl Replay {
     ) -> Result<Step, Unread>
         requires light { IsLightEvent (plain_event upcoming.heading.entry.event) }
         ensures goes { (bytes : List ℕ)
-            × Gave (S.taken source.old) (S.taken source.new) (S.left source.old)
-            (S.left source.new) bytes
+            × Gave (S.words source.old).taken (S.words source.new).taken (S.words source.old).left
+            (S.words source.new).left bytes
             × ((fed : List ℕ) (records played : List Recorded)
             → IsUpcoming fed records played upcoming self.old
-            → PlaysNext (fed ++ bytes) (S.left source.new) records played result self.new) }
+            → PlaysNext (fed ++ bytes) (S.words source.new).left records played result self.new) }
         ensures enters { IfOk result
             (HasEntered upcoming.heading.entry self.old.world self.new.world) }
         ensures same { self.new.start ≡ self.old.start }
         ensures grows { OnOk result ((length self.old.world.history < 2 ^ 63)
             × (length self.new.world.history ≡ length self.old.world.history + 1)) }
-        ensures later { S.faults source.old ≤ S.faults source.new }
+        ensures later { (S.words source.old).faults ≤ (S.words source.new).faults }
         ensures fault { result ≡ Err Unread.ReadFault
-            → Rose (S.faults source.old) (S.faults source.new) }
+            → Rose (S.words source.old).faults (S.words source.new).faults }
     {
         let Upcoming { place, heading } = upcoming;
         let step = enter(
@@ -266,18 +269,18 @@ impl Replay {
     /// or the end nothing more is promised.
     pub fn next<R, S: Source>(&mut self, rt: &R, source: &mut S) -> Result<Option<Step>, Unread>
         ensures goes { (bytes : List ℕ)
-            × Gave (S.taken source.old) (S.taken source.new) (S.left source.old)
-            (S.left source.new) bytes
+            × Gave (S.words source.old).taken (S.words source.new).taken (S.words source.old).left
+            (S.words source.new).left bytes
             × ((fed : List ℕ) (records played : List Recorded)
             → IsReplaying fed records played self.old
-            → Replays (fed ++ bytes) (S.left source.new) records played result self.new) }
+            → Replays (fed ++ bytes) (S.words source.new).left records played result self.new) }
         ensures same { self.new.start ≡ self.old.start }
         ensures grows { (step : PlainStep) → result ≡ Ok (Some step)
             → (length self.old.world.history < 2 ^ 63)
             × (length self.new.world.history ≡ length self.old.world.history + 1) }
-        ensures later { S.faults source.old ≤ S.faults source.new }
+        ensures later { (S.words source.old).faults ≤ (S.words source.new).faults }
         ensures fault { result ≡ Err Unread.ReadFault
-            → Rose (S.faults source.old) (S.faults source.new) }
+            → Rose (S.words source.old).faults (S.words source.new).faults }
     {
         match self.read(rt, source)? {
             Some(upcoming) => {
@@ -291,17 +294,17 @@ impl Replay {
     // Plays the next entry. `false` at the end of the book.
     fn advance<R, S: Source>(&mut self, rt: &R, source: &mut S) -> Result<bool, Unread>
         ensures goes { (bytes : List ℕ)
-            × Gave (S.taken source.old) (S.taken source.new) (S.left source.old)
-            (S.left source.new) bytes
+            × Gave (S.words source.old).taken (S.words source.new).taken (S.words source.old).left
+            (S.words source.new).left bytes
             × ((fed : List ℕ) (records played : List Recorded)
             → IsReplaying fed records played self.old
-            → Advances (fed ++ bytes) (S.left source.new) result self.new) }
+            → Advances (fed ++ bytes) (S.words source.new).left result self.new) }
         ensures same { self.new.start ≡ self.old.start }
         ensures grows { result ≡ Ok true → (length self.old.world.history < 2 ^ 63)
             × (length self.new.world.history ≡ length self.old.world.history + 1) }
-        ensures later { S.faults source.old ≤ S.faults source.new }
+        ensures later { (S.words source.old).faults ≤ (S.words source.new).faults }
         ensures fault { result ≡ Err Unread.ReadFault
-            → Rose (S.faults source.old) (S.faults source.new) }
+            → Rose (S.words source.old).faults (S.words source.new).faults }
     {
         let step = self.next(rt, source)?;
         Ok(is_there(step))
@@ -350,13 +353,13 @@ pub fn read_book<R, S: Source>(
 ) -> Result<Book, Unread>
     requires limits { 1 ≤ limits.entries }
     ensures reads { (bytes : List ℕ)
-        × Gave (S.taken source.old) (S.taken source.new) (S.left source.old)
-        (S.left source.new) bytes
-        × ReadsBook limits bytes (S.left source.new) result }
+        × Gave (S.words source.old).taken (S.words source.new).taken (S.words source.old).left
+        (S.words source.new).left bytes
+        × ReadsBook limits bytes (S.words source.new).left result }
     ensures outbox { IfOk result (λ book. IsOutboxSize book.start.outbox) }
-    ensures later { S.faults source.old ≤ S.faults source.new }
+    ensures later { (S.words source.old).faults ≤ (S.words source.new).faults }
     ensures fault { result ≡ Err Unread.ReadFault
-        → Rose (S.faults source.old) (S.faults source.new) }
+        → Rose (S.words source.old).faults (S.words source.new).faults }
 {
     let mut replay = Replay::open(rt, alloc, limits, source)?;
     while replay.advance(rt, source)? {}

@@ -177,12 +177,13 @@ fn spell_entry(
 
 // Writes all that `room` holds.
 fn put<R, S: Sink>(rt: &R, room: &[u8], sink: &mut S) -> Result<(), BookFault>
-    ensures ok { OnOk result (S.taken sink.new ≡ append_known (S.taken sink.old) room.now) }
+    ensures ok { OnOk result ((S.words sink.new).taken ≡ append_known
+        (S.words sink.old).taken room.now) }
     ensures err { IfErr result (λ fault. (fault ≡ BookFault.WriteFault) × ((n : ℕ)
-        × (S.taken sink.new ≡ append_known (S.taken sink.old) (take n room.now)))) }
-    ensures later { S.faults sink.old ≤ S.faults sink.new }
+        × ((S.words sink.new).taken ≡ append_known (S.words sink.old).taken (take n room.now)))) }
+    ensures later { (S.words sink.old).faults ≤ (S.words sink.new).faults }
     ensures fault { result ≡ Err BookFault.WriteFault
-        → Rose (S.faults sink.old) (S.faults sink.new) }
+        → Rose (S.words sink.old).faults (S.words sink.new).faults }
 {
     if put_all(rt, sink, room) {
         Ok(())
@@ -225,13 +226,13 @@ fn write_entry<R, S: Sink>(
     requires runs { IsSome (model_of player.old.world) }
     ensures ok { OnOk result (WritesOne form at (plain_entry entry.now) player.old.world
         player.old.painters.items player.new.world player.new.painters.items
-        (S.taken sink.old) (S.taken sink.new)) }
+        (S.words sink.old).taken (S.words sink.new).taken) }
     ensures err { IfErr result (λ fault. StopsOne form at (plain_entry entry.now) fault
         player.old.world player.old.painters.items player.new.world player.new.painters.items
-        (S.taken sink.old) (S.taken sink.new)) }
-    ensures later { S.faults sink.old ≤ S.faults sink.new }
+        (S.words sink.old).taken (S.words sink.new).taken) }
+    ensures later { (S.words sink.old).faults ≤ (S.words sink.new).faults }
     ensures fault { result ≡ Err BookFault.WriteFault
-        → Rose (S.faults sink.old) (S.faults sink.new) }
+        → Rose (S.words sink.old).faults (S.words sink.new).faults }
 {
     let alloc = player.alloc;
     let event = fit_event(alloc, at, entry, room)?;
@@ -253,14 +254,14 @@ fn write_entries<R, S: Sink>(
     requires limits { 1 ≤ start.limits.entries }
     requires runs { IsSome (run start.outbox start.limits (plain_entries entries.now)) }
     ensures ok { OnOk result (WentOut start form (plain_entries entries.now)
-        (S.taken sink.old) (S.taken sink.new)) }
+        (S.words sink.old).taken (S.words sink.new).taken) }
     ensures err { OnErr result (WentOutInPart start form (plain_entries entries.now)
-        (S.taken sink.old) (S.taken sink.new)) }
+        (S.words sink.old).taken (S.words sink.new).taken) }
     ensures unfit { (n : ℕ) → result ≡ Err (BookFault.Unfit n)
         → IsUnfitAt (plain_entries entries.now) n }
-    ensures later { S.faults sink.old ≤ S.faults sink.new }
+    ensures later { (S.words sink.old).faults ≤ (S.words sink.new).faults }
     ensures fault { result ≡ Err BookFault.WriteFault
-        → Rose (S.faults sink.old) (S.faults sink.new) }
+        → Rose (S.words sink.old).faults (S.words sink.new).faults }
 {
     let mut player = Player::new(alloc, start.limits, start.outbox)?;
     let mut room = Vec::new(alloc);
@@ -280,14 +281,14 @@ fn put_value<R, S: Sink>(
     sink: &mut S,
 ) -> Result<(), BookFault>
     requires { HasSpelling (content value.now) }
-    ensures ok { OnOk result (S.taken sink.new
-        ≡ append_known (S.taken sink.old) (shortest (content value.now))) }
-    ensures err { OnErr result ((n : ℕ) × (S.taken sink.new
-        ≡ append_known (S.taken sink.old) (take n (shortest (content value.now))))) }
+    ensures ok { OnOk result ((S.words sink.new).taken
+        ≡ append_known (S.words sink.old).taken (shortest (content value.now))) }
+    ensures err { OnErr result ((n : ℕ) × ((S.words sink.new).taken
+        ≡ append_known (S.words sink.old).taken (take n (shortest (content value.now))))) }
     ensures no_unfit { (n : ℕ) → result ≡ Err (BookFault.Unfit n) → ⊥ }
-    ensures later { S.faults sink.old ≤ S.faults sink.new }
+    ensures later { (S.words sink.old).faults ≤ (S.words sink.new).faults }
     ensures fault { result ≡ Err BookFault.WriteFault
-        → Rose (S.faults sink.old) (S.faults sink.new) }
+        → Rose (S.words sink.old).faults (S.words sink.new).faults }
 {
     let mut room = Vec::new(alloc);
     encode(value, &mut room)?;
@@ -311,14 +312,14 @@ pub fn write_book<R, S: Sink>(
     requires limits { 1 ≤ start.limits.entries }
     requires runs { IsSome (run start.outbox start.limits (plain_entries history.now.entries)) }
     ensures ok { OnOk result (WroteBook start (plain_entries history.now.entries)
-        (S.taken sink.old) (S.taken sink.new)) }
+        (S.words sink.old).taken (S.words sink.new).taken) }
     ensures err { OnErr result (WroteBookFront start (plain_entries history.now.entries)
-        (S.taken sink.old) (S.taken sink.new)) }
+        (S.words sink.old).taken (S.words sink.new).taken) }
     ensures unfit { (n : ℕ) → result ≡ Err (BookFault.Unfit n)
         → IsUnfitAt (plain_entries history.now.entries) n }
-    ensures later { S.faults sink.old ≤ S.faults sink.new }
+    ensures later { (S.words sink.old).faults ≤ (S.words sink.new).faults }
     ensures fault { result ≡ Err BookFault.WriteFault
-        → Rose (S.faults sink.old) (S.faults sink.new) }
+        → Rose (S.words sink.old).faults (S.words sink.new).faults }
 {
     let head = book_head(alloc, start.outbox)?;
     put_value(rt, alloc, &head, sink)?;
@@ -340,14 +341,14 @@ pub fn write_replay<R, S: Sink>(
     requires limits { 1 ≤ start.limits.entries }
     requires runs { IsSome (run start.outbox start.limits (plain_entries history.now.entries)) }
     ensures ok { OnOk result (WroteReplay start (plain_entries history.now.entries)
-        (S.taken sink.old) (S.taken sink.new)) }
+        (S.words sink.old).taken (S.words sink.new).taken) }
     ensures err { OnErr result (WroteReplayFront start (plain_entries history.now.entries)
-        (S.taken sink.old) (S.taken sink.new)) }
+        (S.words sink.old).taken (S.words sink.new).taken) }
     ensures unfit { (n : ℕ) → result ≡ Err (BookFault.Unfit n)
         → IsUnfitAt (plain_entries history.now.entries) n }
-    ensures later { S.faults sink.old ≤ S.faults sink.new }
+    ensures later { (S.words sink.old).faults ≤ (S.words sink.new).faults }
     ensures fault { result ≡ Err BookFault.WriteFault
-        → Rose (S.faults sink.old) (S.faults sink.new) }
+        → Rose (S.words sink.old).faults (S.words sink.new).faults }
 {
     write_entries(rt, alloc, start, Form::Outputs, history.entries(), sink)
 }

@@ -1,8 +1,8 @@
 -- What the events of a session come to, for the pass that applies them.
-use Rattle.std.proofs.Common.{◌≡◌, ℕ, zero, suc, ◌==◌, Bool, true, false, List, [], ◌∷◌, ◌++◌, map, Option, Some, None, Result, Ok, Err, refl, ap, sym, ◌∙◌, subst, append-nil, append_assoc, eq-eqb}
+use Rattle.std.proofs.Common.{◌≡◌, ℕ, zero, suc, Bool, true, false, List, [], ◌∷◌, ◌++◌, Option, Some, None, Result, Ok, Err, refl, ap, sym, ◌∙◌, subst, append_assoc, eq-eqb}
 use mathlib.Core.List.{IsPrefix}
 use Rattle.std.proofs.lemmas.Grind.{flat_map-append}
-use Rattle.std.proofs.lemmas.Option.{none-some, same_Some}
+use Rattle.std.proofs.lemmas.Option.{none-some}
 use Rattle.nv_rpc.specs.Calls.{Call}
 use Rattle.nv_rpc.specs.declared.frame.Frame.{Frame}
 use Rattle.nv_rpc.specs.Messages.{Sent}
@@ -13,10 +13,10 @@ use Rattle.nv_turn.proofs.Prefixes.{prefix_self, prefix_trans, prefix_more}
 use Rattle.nv_turn.proofs.Entries.{own_added}
 use Rattle.nv_history.specs.Events.{Event, request_of, take_of, close_of, Entry, Cause, closed_at, Effect, opened, done, gives, nothing, over, closes}
 use Rattle.nv_history.specs.Sessions.{Session}
-use Rattle.nv_history.specs.Worlds.{World, Outcome, refuses, idles, becomes, session_of, step, world_made, is_nothing_due, is_scene_due, held_outcome, live_request_outcome, request_outcome, empty_take_outcome, some_take_outcome, session_take_outcome, take_outcome, live_close_outcome, close_outcome}
+use Rattle.nv_history.specs.Worlds.{World, Outcome, refuses, idles, becomes, session_of, step, world_made, is_nothing_due, is_scene_due, held_outcome, live_request_outcome, request_outcome, empty_take_outcome, some_take_outcome, take_outcome, live_close_outcome, close_outcome}
 use Rattle.nv_history.specs.Asking.{own, call_if, calls_in, calls_of}
 use Rattle.nv_history.specs.Spoken.{ShowsIfGiven}
-use Rattle.nv_world.specs.Contents.{plain_cause, plain_effect, IsEffect}
+use Rattle.nv_world.specs.Contents.{plain_cause, IsEffect}
 use Rattle.nv_world.specs.Outcomes.{effect_of_taken}
 use Rattle.nv_world.specs.Worlds.{GivesSendable}
 use Rattle.nv_world.specs.declared.calls.Taken.{Taken}
@@ -25,11 +25,11 @@ use Rattle.nv_world.specs.declared.calls.Untaken.{Untaken}
 use Rattle.nv_world.specs.declared.effect.Effect.{Effect as WorldEffect}
 use Rattle.nv_world.specs.declared.effect.Effect.TheVariants as effect
 use Rattle.nv_world.specs.declared.story.Start.{Start}
-use Rattle.nv_halves.specs.Passes.{WorldPass, world_of_run, OfEach, IsFromReader, EachEvent, GainedEach, IsClosedBy, IsOver}
+use Rattle.nv_halves.specs.Passes.{WorldPass, world_of_run, OfEach, IsFromReader, IsClosedBy, IsOver}
 use Rattle.nv_halves.specs.Applying.{Visit, visit, AddsEvent, HasEffect, AppliesOnce}
 use Rattle.nv_halves.specs.Halves.{Asks, Goes}
 use Rattle.nv_halves.specs.inside.Insisting.{Stays, CallsWith, AsksOnce, TriesCall, ClosesWith, ClosesOnce, Shuts, TriesClose}
-use Rattle.nv_halves.specs.inside.Taking.{sent_in, TakesWith, IsTaken, TakesBatch, IsOverNow, TakesOnce}
+use Rattle.nv_halves.specs.inside.Taking.{TakesWith, TakesOnce}
 use Rattle.nv_halves.specs.declared.insisting.Asked.{Asked}
 use Rattle.nv_halves.specs.declared.insisting.Asked.TheVariants as asked
 use Rattle.nv_halves.proofs.Onces.{same_then, stays_once, stays_then, waits_once, once_by, once_after}

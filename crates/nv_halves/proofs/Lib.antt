@@ -1,15 +1,11 @@
-pub mod AtOnce
-pub mod CallBounds
-pub mod ReadsOnce
 pub mod Plains
 pub mod Refusing
 pub mod Onces
 pub mod Staying
 pub mod Exactness
 pub mod Answering
-pub mod Speaking
 pub mod WritingOn
 pub mod Intaking
 pub mod Closings
 pub mod AskedOrder
-pub mod Sendings
+pub mod Writings

@@ -2,17 +2,12 @@
 use Rattle.std.proofs.Common.{◌≡◌, ℕ, zero, suc, ◌+◌, List, [], ◌∷◌, ◌++◌, length, take, Option, Some, None, Result, Ok, Err, refl, ap, sym, ◌∙◌, subst, arith, append-nil, append_assoc}
 use Rattle.std.proofs.lemmas.List.{take_all}
 use Rattle.std.specs.Io.KnownBytes.{append_known}
-use mathlib.Core.List.{IsPrefix}
 use Rattle.nv_turn.specs.Passes.{IsSamePass}
-use Rattle.nv_rpc.specs.Messages.{Sent}
-use Rattle.nv_screen.specs.declared.scene.Scene.{Scene}
-use Rattle.nv_linegrid.specs.declared.event.Redraw.{Redraw}
 use Rattle.nv_linegrid.specs.Told.{Told, nothing_told}
-use Rattle.nv_history.specs.Events.{take_of, close_of, Entry, Cause}
-use Rattle.nv_history.specs.Worlds.{World}
+use Rattle.nv_history.specs.Events.{take_of, close_of, Entry}
 use Rattle.nv_history.specs.Runs.{TakenBatch}
 use Rattle.nv_history.specs.Asking.{own, takes_by}
-use Rattle.nv_history.specs.Spoken.{ShowsIfGiven, events_of, bytes_of_scene, bytes_of_messages, told_with, IsSpoken, AreSpoken, AreBytesOf}
+use Rattle.nv_history.specs.Spoken.{events_of, told_with, IsSpoken, AreSpoken, AreBytesOf}
 use Rattle.nv_history.proofs.SpokenParts.{spoken_none, spoken-push}
 use Rattle.nv_world.specs.Contents.{plain_cause}
 use Rattle.nv_world.specs.declared.calls.Taken.{Taken}
@@ -21,10 +16,11 @@ use Rattle.nv_world.specs.declared.calls.Untaken.{Untaken}
 use Rattle.nv_world.specs.declared.effect.Batch.{Batch}
 use Rattle.nv_world.specs.declared.effect.Cause.{Cause as WorldCause}
 use Rattle.nv_world.specs.declared.story.Start.{Start}
-use Rattle.nv_halves.specs.Passes.{WorldPass, world_of_run, out_of, OfEach, IsFromWriter, GainedEach, IsOver}
-use Rattle.nv_halves.specs.Halves.{WroteAll, WroteFront, WroteBy, WritesHalf}
+use Rattle.nv_halves.specs.Passes.{WorldPass, world_of_run, out_of, OfEach, IsFromWriter}
+use Rattle.nv_halves.specs.Halves.{WroteFront, WritesHalf}
 use Rattle.nv_halves.specs.inside.Insisting.{Stays, ClosesOnce, Shuts, TriesClose}
-use Rattle.nv_halves.specs.inside.Taking.{sent_in, IsTaken, TakesBatch, IsOverNow, IsExact, GainsTakes, WritesSoFar, WritesPart, TakesOnce, bytes_of_taken, IsCutOff, Drops, WritesOnce}
+use Rattle.nv_speech.specs.Flows.{sent_in, bytes_said}
+use Rattle.nv_halves.specs.inside.Taking.{TakesBatch, IsOverNow, IsExact, GainsTakes, WritesSoFar, WritesPart, TakesOnce, IsCutOff, Drops, WritesOnce}
 use Rattle.nv_halves.specs.declared.ends.WriterEnd.{WriterEnd}
 use Rattle.nv_halves.specs.declared.ends.WriterEnd.TheVariants as w
 use Rattle.nv_halves.specs.declared.insisting.Asked.{Asked}
@@ -155,7 +151,7 @@ writes_stay p q r s told before out h k = record {
 
 -- what is spoken of a batch that was taken
 batch_spoken : (p q : WorldPass) (s : ℕ) (told : Told) (batch : Batch) (h : TakesBatch p q s batch)
-    → IsSpoken told (batch_taken p q s batch h) (bytes_of_taken told (sent_in batch) batch.scene) (events_of told batch.scene) (told_with told batch.scene)
+    → IsSpoken told (batch_taken p q s batch h) (bytes_said told (sent_in batch) batch.scene) (events_of told batch.scene) (told_with told batch.scene)
 batch_spoken p q s told batch h = record {
   scene = batch.scene;
   shows = h.once.comes.shows;
@@ -166,32 +162,32 @@ batch_spoken p q s told batch h = record {
 
 -- all of a batch went out
 writes_batch : (p q r : WorldPass) (s : ℕ) (told now : Told) (before out later : Option (List ℕ)) (batch : Batch) → TakesBatch q r s batch
-    → later ≡ append_known out (bytes_of_taken told (sent_in batch) batch.scene) → now ≡ told_with told batch.scene → WritesSoFar p q s told before out → WritesSoFar p r s now before later
+    → later ≡ append_known out (bytes_said told (sent_in batch) batch.scene) → now ≡ told_with told batch.scene → WritesSoFar p q s told before out → WritesSoFar p r s now before later
 writes_batch p q r s told now before out later batch b e n h = record {
   got = h.got ++ batch_taken q r s batch b ∷ [];
   takes = takes_batch p q r s h.got batch h.takes b;
-  bytes = h.bytes ++ bytes_of_taken told (sent_in batch) batch.scene;
+  bytes = h.bytes ++ bytes_said told (sent_in batch) batch.scene;
   events = h.events ++ events_of told batch.scene;
-  spoken = subst (λ (t : Told). AreSpoken nothing_told (h.got ++ batch_taken q r s batch b ∷ []) (h.bytes ++ bytes_of_taken told (sent_in batch) batch.scene) (h.events ++ events_of told batch.scene) t) (sym n)
-      (spoken-push nothing_told told (told_with told batch.scene) h.got (batch_taken q r s batch b) h.bytes (bytes_of_taken told (sent_in batch) batch.scene) h.events (events_of told batch.scene) h.spoken
+  spoken = subst (λ (t : Told). AreSpoken nothing_told (h.got ++ batch_taken q r s batch b ∷ []) (h.bytes ++ bytes_said told (sent_in batch) batch.scene) (h.events ++ events_of told batch.scene) t) (sym n)
+      (spoken-push nothing_told told (told_with told batch.scene) h.got (batch_taken q r s batch b) h.bytes (bytes_said told (sent_in batch) batch.scene) h.events (events_of told batch.scene) h.spoken
       (batch_spoken q r s told batch b));
-  written = e ∙ ap (λ (o : Option (List ℕ)). append_known o (bytes_of_taken told (sent_in batch) batch.scene)) h.written
-      ∙ known_then before h.bytes (bytes_of_taken told (sent_in batch) batch.scene);
+  written = e ∙ ap (λ (o : Option (List ℕ)). append_known o (bytes_said told (sent_in batch) batch.scene)) h.written
+      ∙ known_then before h.bytes (bytes_said told (sent_in batch) batch.scene);
 }
 
 -- a front of a batch went out
 part_batch : (p q r : WorldPass) (s : ℕ) (told : Told) (before out later : Option (List ℕ)) (batch : Batch) (count : ℕ) → TakesBatch q r s batch
-    → later ≡ append_known out (take count (bytes_of_taken told (sent_in batch) batch.scene)) → WritesSoFar p q s told before out → WritesPart p r s before later
+    → later ≡ append_known out (take count (bytes_said told (sent_in batch) batch.scene)) → WritesSoFar p q s told before out → WritesPart p r s before later
 part_batch p q r s told before out later batch count b e h =
-    let more = bytes_of_taken told (sent_in batch) batch.scene in
+    let more = bytes_said told (sent_in batch) batch.scene in
     record {
       got = h.got ++ batch_taken q r s batch b ∷ [];
       takes = takes_batch p q r s h.got batch h.takes b;
-      bytes = h.bytes ++ bytes_of_taken told (sent_in batch) batch.scene;
+      bytes = h.bytes ++ bytes_said told (sent_in batch) batch.scene;
       bytes_are = (
         h.events ++ events_of told batch.scene,
         told_with told batch.scene,
-        spoken-push nothing_told told (told_with told batch.scene) h.got (batch_taken q r s batch b) h.bytes (bytes_of_taken told (sent_in batch) batch.scene) h.events (events_of told batch.scene) h.spoken
+        spoken-push nothing_told told (told_with told batch.scene) h.got (batch_taken q r s batch b) h.bytes (bytes_said told (sent_in batch) batch.scene) h.events (events_of told batch.scene) h.spoken
             (batch_spoken q r s told batch b),
       );
       count = length h.bytes + count;
@@ -235,7 +231,7 @@ part_stay p q r s before out h k = record {
 part_more : (p q r : WorldPass) (s : ℕ) (before out : Option (List ℕ)) (batch : Batch) → TakesBatch q r s batch → WritesPart p q s before out → WritesPart p r s before out
 part_more p q r s before out batch b h =
     let told = h.bytes_are.1 in
-    let more = bytes_of_taken told (sent_in batch) batch.scene in
+    let more = bytes_said told (sent_in batch) batch.scene in
     record {
       got = h.got ++ batch_taken q r s batch b ∷ [];
       takes = takes_batch p q r s h.got batch h.takes b;
@@ -319,7 +315,7 @@ half_over cause p q s told before out o h = record {
 
 -- what was due went out
 pub goes_on : (p q : WorldPass) (s : ℕ) (told now : Told) (out later : Option (List ℕ)) (batch : Batch) → TakesBatch p q s batch
-    → later ≡ append_known out (bytes_of_taken told (sent_in batch) batch.scene) → now ≡ told_with told batch.scene → WritesOnce written.On p q s told now out later
+    → later ≡ append_known out (bytes_said told (sent_in batch) batch.scene) → now ≡ told_with told batch.scene → WritesOnce written.On p q s told now out later
 goes_on p q s told now out later batch b e n first before h = writes_batch first p q s told now before out later batch b e n h
 
 -- nothing was due
@@ -328,7 +324,7 @@ idles_on p q s told out k first before h = writes_stay first p q s told before o
 
 -- writing failed, or memory was wanting, and then all that was due was dropped
 pub ends_cut : (end : WriterEnd) (p q r : WorldPass) (s : ℕ) (told now : Told) (out later : Option (List ℕ)) (batch : Batch) → TakesBatch p q s batch
-    → IsCutOff end × ((count : ℕ) × (later ≡ append_known out (take count (bytes_of_taken told (sent_in batch) batch.scene)))) → Drops q r s
+    → IsCutOff end × ((count : ℕ) × (later ≡ append_known out (take count (bytes_said told (sent_in batch) batch.scene)))) → Drops q r s
     → WritesOnce (written.Ends end) p r s told now out later
 ends_cut end p q r s told now out later batch b c k first before h =
     half_part end first r s before later c.0 (k.part first before later (part_batch first p q s told before out later batch c.1.0 b c.1.1 h))

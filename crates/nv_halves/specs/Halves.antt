@@ -1,6 +1,6 @@
 -- What the two halves of a session do: one reads calls and makes them, one takes what is due and
 -- writes it (own rule; MessagePack-RPC specification).
-use Rattle.std.specs.Prelude.{◌≡◌, ℕ, List, [], ◌∷◌, ◌++◌, take, Option, Some, None}
+use Rattle.std.specs.Prelude.{◌≡◌, ℕ, List, take, Option, Some, None}
 use Rattle.std.specs.Io.KnownBytes.{append_known}
 use Rattle.nv_turn.specs.Passes.{IsSamePass}
 use Rattle.nv_io.specs.declared.lanes.Flaw.{Flaw}
@@ -12,7 +12,7 @@ use Rattle.nv_history.specs.Asking.{takes_by, calls_of}
 use Rattle.nv_history.specs.Spoken.{AreBytesOf}
 use Rattle.nv_world.specs.Contents.{plain_cause}
 use Rattle.nv_halves.specs.Passes.{WorldPass, out_of, OfEach, IsFromReader, IsFromWriter, GainedEach, IsClosedBy, IsOver}
-use Rattle.nv_halves.specs.Reading.{Reads, BeginWithCalls, WasRead, IsUnfinished, IfInside}
+use Rattle.nv_calls.specs.Reading.{Reads, BeginWithCalls, WasRead, IsUnfinished, IfInside}
 use Rattle.nv_halves.specs.declared.ends.ReaderEnd.{ReaderEnd}
 use Rattle.nv_halves.specs.declared.ends.ReaderEnd.TheVariants as r
 use Rattle.nv_halves.specs.declared.ends.WriterEnd.{WriterEnd}

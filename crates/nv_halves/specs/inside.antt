@@ -4,4 +4,3 @@ pub mod Insisting
 pub mod Taking
 pub mod Intakes
 pub mod Dealing
-pub mod Sending

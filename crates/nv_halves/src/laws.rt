@@ -1,11 +1,5 @@
 //! Laws of sessions, each the contract of a function that does nothing.
 ghost use Rattle.nv_halves.specs.Laws.{QuitsAreEnds, SessionsAskInOrder};
-ghost use Rattle.nv_halves.specs.Reading.{ReadsOnce};
-
-/// A stream of bytes holds one list of calls alone, and one end.
-pub fn reads_once()
-    ensures { ReadsOnce }
-{}
 
 /// What a session asks in a history that runs is its opening, its calls, and then its close, just
 /// where its own close has closed it.

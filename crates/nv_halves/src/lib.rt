@@ -6,7 +6,6 @@
 #![tactic(auto)]
 
 mod bells;
-mod calls;
 mod ends;
 mod insisting;
 mod laws;
@@ -14,14 +13,11 @@ mod opening;
 mod reader;
 mod sending;
 mod steps;
-mod voice;
 mod writer;
 
 pub use bells::Bell;
-pub use calls::{CallStream, NextCall};
 pub use ends::{ReaderEnd, WriterEnd};
-pub use laws::{asking_law, quitting_law, reads_once};
+pub use laws::{asking_law, quitting_law};
 pub use opening::open;
 pub use reader::{ReaderHalf, reader_half, unread_half};
-pub use voice::Voice;
 pub use writer::{WriterHalf, writer_half};

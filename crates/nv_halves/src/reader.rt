@@ -1,26 +1,22 @@
 //! The half that reads: it decodes calls and makes them, up to the end of its bytes.
-ghost use Rattle.std.specs.Prelude.{◌≡◌, ◌≢◌, ◌≤◌, length};
+ghost use Rattle.std.specs.Prelude.{◌≡◌, ◌≢◌, ◌≤◌};
 ghost use Rattle.nv_io.specs.Faults.{Rose};
 ghost use Rattle.nv_turn.specs.Passes.{IsSamePass};
 ghost use Rattle.nv_halves.specs.Passes.{plain_pass};
 ghost use Rattle.nv_halves.specs.Halves.{LeavesClosed, ReadsHalf};
-ghost use Rattle.nv_halves.specs.inside.Intakes.{ClosesAfter, IsReadable, IsUnfed, end_after_close};
+ghost use Rattle.nv_calls.specs.Intakes.{fresh_intake};
+ghost use Rattle.nv_halves.specs.inside.Intakes.{ClosesAfter, end_after_close};
 
 use crate::bells::Bell;
 use crate::ends::ReaderEnd;
 use crate::insisting::{Asked, shut};
-use crate::steps::Intake;
+use crate::steps::{end_of, make_piece};
+use nv_calls::Intake;
 use nv_io::Source;
 use nv_turn::{Pass, Turn};
 use nv_world::World;
 use std::alloc::Global;
 use std::sync::Wait;
-
-// The bytes that are read at once.
-pub const PIECE: usize = 65_536;
-
-// A source from which so many bytes were taken counts as ended.
-const MOST_TAKEN: u64 = 1 << 62;
 
 /// The half that reads, once it ended.
 #[derive(Drop)]
@@ -39,28 +35,26 @@ fn read_all<R: Wait, I: Source>(
     session: u64,
     mut intake: Intake,
     input: &mut I,
-    buffer: &mut [u8],
 ) -> (Pass<World>, ReaderEnd)
     requires turn { pass.turn ≡ turn.now.turn }
-    requires new { IsUnfed intake }
-    requires ready { IsReadable intake }
-    requires room { length buffer.old ≡ PIECE }
+    requires fresh { intake ≡ fresh_intake }
     ensures read { ReadsHalf result.1 (plain_pass pass) (plain_pass result.0) session
-        (I.taken input.old) (I.taken input.new) (I.left input.old) (I.left input.new) }
-    ensures later { I.faults input.old ≤ I.faults input.new }
+        (I.words input.old).taken (I.words input.new).taken (I.words input.old).left
+        (I.words input.new).left }
+    ensures later { (I.words input.old).faults ≤ (I.words input.new).faults }
     ensures fault { result.1 ≡ ReaderEnd.ReadFault
-        → Rose (I.faults input.old) (I.faults input.new) }
+        → Rose (I.words input.old).faults (I.words input.new).faults }
 {
     let mut pass = pass;
-    'pieces: while intake.taken() < MOST_TAKEN {
-        let (next, made) = intake.make_piece(rt, turn, bells, pass, session, input, buffer);
+    'pieces: while intake.is_open() {
+        let (next, made) = make_piece(rt, turn, bells, pass, session, &mut intake, input);
         pass = next;
         match made {
             Ok(()) => {}
             Err(end) => return (pass, end),
         }
     }
-    (pass, intake.end())
+    (pass, end_of(&intake))
 }
 
 // Takes the memory that reading needs, and reads.
@@ -75,18 +69,16 @@ fn read_session<R: Wait, I: Source>(
 ) -> (Pass<World>, ReaderEnd)
     requires { pass.turn ≡ turn.now.turn }
     ensures read { ReadsHalf result.1 (plain_pass pass) (plain_pass result.0) session
-        (I.taken input.old) (I.taken input.new) (I.left input.old) (I.left input.new) }
-    ensures later { I.faults input.old ≤ I.faults input.new }
+        (I.words input.old).taken (I.words input.new).taken (I.words input.old).left
+        (I.words input.new).left }
+    ensures later { (I.words input.old).faults ≤ (I.words input.new).faults }
     ensures fault { result.1 ≡ ReaderEnd.ReadFault
-        → Rose (I.faults input.old) (I.faults input.new) }
+        → Rose (I.words input.old).faults (I.words input.new).faults }
 {
-    let Ok(mut buffer) = vec![in alloc; 0; PIECE] else {
-        return (pass, ReaderEnd::NoMemory);
-    };
     let Ok(intake) = Intake::new(alloc) else {
         return (pass, ReaderEnd::NoMemory);
     };
-    read_all(rt, turn, bells, pass, session, intake, input, &mut buffer)
+    read_all(rt, turn, bells, pass, session, intake, input)
 }
 
 // How a reader ends that was to close its session.
@@ -136,11 +128,12 @@ pub fn reader_half<R: Wait, I: Source>(
     requires { pass.turn ≡ turn.now.turn }
     ensures pass { IsSamePass (plain_pass pass) (plain_pass result.pass) }
     ensures read { ReadsHalf result.end (plain_pass pass) (plain_pass result.pass) session
-        (I.taken input) (I.taken result.input) (I.left input) (I.left result.input) }
+        (I.words input).taken (I.words result.input).taken (I.words input).left
+        (I.words result.input).left }
     ensures closes { LeavesClosed result.end (plain_pass result.pass) session }
-    ensures later { I.faults input ≤ I.faults result.input }
+    ensures later { (I.words input).faults ≤ (I.words result.input).faults }
     ensures fault { result.end ≡ ReaderEnd.ReadFault
-        → Rose (I.faults input) (I.faults result.input) }
+        → Rose (I.words input).faults (I.words result.input).faults }
 {
     let (pass, end) = read_session(rt, alloc, turn, bells, pass, session, &mut input);
     let (pass, end) = close(rt, turn, bells, pass, session, end);
@@ -160,7 +153,8 @@ pub fn unread_half<R: Wait, I: Source>(
     requires { pass.turn ≡ turn.now.turn }
     ensures pass { IsSamePass (plain_pass pass) (plain_pass result.pass) }
     ensures read { ReadsHalf result.end (plain_pass pass) (plain_pass result.pass) session
-        (I.taken input) (I.taken result.input) (I.left input) (I.left result.input) }
+        (I.words input).taken (I.words result.input).taken (I.words input).left
+        (I.words result.input).left }
     ensures closes { LeavesClosed result.end (plain_pass result.pass) session }
     ensures nothing { (result.input ≡ input) × (result.end ≢ ReaderEnd.ReadFault) }
 {

@@ -1,253 +1,33 @@
-//! How what is due goes out.
-ghost use Rattle.std.specs.Prelude.{◌≡◌, ◌≤◌, ◌++◌, [], map, take, ℕ, All, IfOk, IfSome, OnOk, IfErr, Err, Some};
+//! How what was taken for a session goes out.
+ghost use Rattle.std.specs.Prelude.{◌≡◌, ◌≤◌, take, ℕ, All, OnOk, IfErr, Err};
 ghost use Rattle.std.specs.Io.KnownBytes.{append_known};
 ghost use Rattle.nv_io.specs.Faults.{Rose};
-ghost use Rattle.nv_value.specs.Content.{trees_of};
-ghost use Rattle.nv_msgpack.specs.Shortest.{HasSpelling, HaveSpellings, all_shortest, shortest};
-ghost use Rattle.nv_rpc.specs.Messages.{IsSendable, message_tree};
-ghost use Rattle.nv_rpc.specs.Outcomes.{AreSpellable, bytes_left, call_result_content};
+ghost use Rattle.nv_rpc.specs.Messages.{IsSendable};
 ghost use Rattle.nv_painter.specs.Spoken.{IsSoundIfThere};
-ghost use Rattle.nv_history.specs.Spoken.{bytes_of_messages, bytes_of_scene, told_with};
-ghost use Rattle.nv_world.specs.Contents.{sent_of_shared};
-ghost use Rattle.nv_halves.specs.inside.Sending.{FlowsOut, IsFrontOut};
-ghost use Rattle.nv_halves.specs.inside.Taking.{IsCutOff, bytes_of_taken, sent_in};
+ghost use Rattle.nv_history.specs.Spoken.{told_with};
+ghost use Rattle.nv_speech.specs.Flows.{bytes_said, sent_in};
+ghost use Rattle.nv_halves.specs.inside.Taking.{IsCutOff, writer_end_unsaid};
 
 use crate::ends::WriterEnd;
-use crate::voice::Voice;
 use nv_io::{Sink, put_all};
-use nv_msgpack::encode;
-use nv_painter::Batch as SpokenBatch;
-use nv_rpc::{AtomicResults, CallResult};
-use nv_screen::HeldScene;
-use nv_world::{Batch, SharedMessage, put_shared_front, size_of_messages};
-use std::alloc::{AllocError, Global};
+use nv_speech::{Unsaid, Voice, say};
+use nv_world::Batch;
+use std::alloc::Global;
 
-/// So many bytes that wait are written before more of a batch is spelled.
-const PIECE: usize = 65_536;
-
-/// A batch that takes more bytes than this, about, gets long room before its first message.
-const LONG: u64 = 65_536;
-
-/// That room, in bytes. The system gives memory for a block of this size only as far as it is
-/// written, and has all of it back as soon as it is dropped.
-const LONG_ROOM: usize = 1 << 25;
-
-// How many cells a scene has.
-fn cells_of(scene: &Option<HeldScene>) -> u64 {
-    match scene {
-        Some(held) => {
-            let scene = held.scene();
-            u64::from(scene.width).saturating_mul(u64::from(scene.height))
-        }
-        None => 0,
-    }
-}
-
-// Makes long room for a batch that is long. Where there is no memory for so much, room is made as
-// bytes are put.
-fn make_room(messages: &[SharedMessage], scene: &Option<HeldScene>, room: &mut Vec<u8>) {
-    if room.capacity() >= LONG_ROOM {
-        return;
-    }
-    if size_of_messages(messages).saturating_add(cells_of(scene)) > LONG {
-        let _ = room.reserve(LONG_ROOM);
-    }
-}
-
-fn is_full(room: &[u8]) -> bool {
-    room.len() >= PIECE
-}
-
-// Writes the bytes that wait in `room`, where they are many.
-fn put_out<R, S: Sink>(rt: &R, room: &mut Vec<u8>, output: &mut S) -> Result<(), WriterEnd>
-    ensures ok { OnOk result (FlowsOut (S.taken output.old) (S.taken output.new) room.old.items []
-        room.new.items) }
-    ensures err { IfErr result (λ end. IsCutOff end
-        × IsFrontOut (S.taken output.old) (S.taken output.new) room.old.items) }
-    ensures later { S.faults output.old ≤ S.faults output.new }
-    ensures fault { result ≡ Err WriterEnd.WriteFault
-        → Rose (S.faults output.old) (S.faults output.new) }
+// How a writer ends whose batch didn't go out whole.
+fn end_unsaid(why: Unsaid) -> WriterEnd
+    ensures { result ≡ writer_end_unsaid why }
 {
-    if !is_full(room) {
-        return Ok(());
+    match why {
+        Unsaid::WriteFault => WriterEnd::WriteFault,
+        Unsaid::NoMemory => WriterEnd::NoMemory,
     }
-    if !put_all(rt, output, room) {
-        return Err(WriterEnd::WriteFault);
-    }
-    room.clear();
-    Ok(())
-}
-
-// Spells the result of a call behind what waits, and writes what becomes many.
-fn send_result<R, S: Sink>(
-    rt: &R,
-    one: &CallResult,
-    room: &mut Vec<u8>,
-    output: &mut S,
-) -> Result<(), WriterEnd>
-    requires { HasSpelling (call_result_content one.now) }
-    ensures ok { OnOk result (FlowsOut (S.taken output.old) (S.taken output.new) room.old.items
-        (shortest (call_result_content one.now)) room.new.items) }
-    ensures err { IfErr result (λ end. IsCutOff end
-        × IsFrontOut (S.taken output.old) (S.taken output.new) (room.old.items
-        ++ shortest (call_result_content one.now))) }
-    ensures later { S.faults output.old ≤ S.faults output.new }
-    ensures fault { result ≡ Err WriterEnd.WriteFault
-        → Rose (S.faults output.old) (S.faults output.new) }
-{
-    let Ok(()) = one.put(room) else {
-        return Err(WriterEnd::NoMemory);
-    };
-    put_out(rt, room, output)
-}
-
-// Spells the results of calls one after another behind what waits, and writes what becomes many.
-fn send_results<R, S: Sink>(
-    rt: &R,
-    results: &[CallResult],
-    room: &mut Vec<u8>,
-    output: &mut S,
-) -> Result<(), WriterEnd>
-    requires { HaveSpellings (trees_of (map call_result_content results.now)) }
-    ensures ok { OnOk result (FlowsOut (S.taken output.old) (S.taken output.new) room.old.items
-        (all_shortest (trees_of (map call_result_content results.now))) room.new.items) }
-    ensures err { IfErr result (λ end. IsCutOff end
-        × IsFrontOut (S.taken output.old) (S.taken output.new) (room.old.items
-        ++ all_shortest (trees_of (map call_result_content results.now)))) }
-    ensures later { S.faults output.old ≤ S.faults output.new }
-    ensures fault { result ≡ Err WriterEnd.WriteFault
-        → Rose (S.faults output.old) (S.faults output.new) }
-{
-    for one in results {
-        send_result(rt, one, room, output)?;
-    }
-    Ok(())
-}
-
-// Spells what calls one after another gave, and where they stopped, and writes what becomes many.
-fn send_atomic<R, S: Sink>(
-    rt: &R,
-    atomic: AtomicResults,
-    room: &mut Vec<u8>,
-    output: &mut S,
-) -> Result<(), WriterEnd>
-    requires { AreSpellable atomic }
-    ensures ok { OnOk result (FlowsOut (S.taken output.old) (S.taken output.new) room.old.items
-        (bytes_left (Some atomic)) room.new.items) }
-    ensures err { IfErr result (λ end. IsCutOff end
-        × IsFrontOut (S.taken output.old) (S.taken output.new)
-        (room.old.items ++ bytes_left (Some atomic))) }
-    ensures later { S.faults output.old ≤ S.faults output.new }
-    ensures fault { result ≡ Err WriterEnd.WriteFault
-        → Rose (S.faults output.old) (S.faults output.new) }
-{
-    let AtomicResults { results, stop } = atomic;
-    send_results(rt, results.as_slice(), room, output)?;
-    match encode(&stop, room) {
-        Ok(()) => Ok(()),
-        Err(_) => Err(WriterEnd::NoMemory),
-    }
-}
-
-// The same of what is left of a message behind its front.
-fn send_left<R, S: Sink>(
-    rt: &R,
-    left: Option<AtomicResults>,
-    room: &mut Vec<u8>,
-    output: &mut S,
-) -> Result<(), WriterEnd>
-    requires { IfSome left AreSpellable }
-    ensures ok { OnOk result (FlowsOut (S.taken output.old) (S.taken output.new) room.old.items
-        (bytes_left left) room.new.items) }
-    ensures err { IfErr result (λ end. IsCutOff end
-        × IsFrontOut (S.taken output.old) (S.taken output.new)
-        (room.old.items ++ bytes_left left)) }
-    ensures later { S.faults output.old ≤ S.faults output.new }
-    ensures fault { result ≡ Err WriterEnd.WriteFault
-        → Rose (S.faults output.old) (S.faults output.new) }
-{
-    match left {
-        None => Ok(()),
-        Some(atomic) => send_atomic(rt, atomic, room, output),
-    }
-}
-
-// Spells a message behind what waits, and writes what becomes many.
-fn send_message<R, S: Sink>(
-    rt: &R,
-    alloc: Global,
-    message: SharedMessage,
-    room: &mut Vec<u8>,
-    output: &mut S,
-) -> Result<(), WriterEnd>
-    requires { IsSendable (sent_of_shared message) }
-    ensures ok { OnOk result (FlowsOut (S.taken output.old) (S.taken output.new) room.old.items
-        (shortest (message_tree (sent_of_shared message))) room.new.items) }
-    ensures err { IfErr result (λ end. IsCutOff end
-        × IsFrontOut (S.taken output.old) (S.taken output.new) (room.old.items
-        ++ shortest (message_tree (sent_of_shared message)))) }
-    ensures later { S.faults output.old ≤ S.faults output.new }
-    ensures fault { result ≡ Err WriterEnd.WriteFault
-        → Rose (S.faults output.old) (S.faults output.new) }
-{
-    let Ok(left) = put_shared_front(alloc, message, room) else {
-        return Err(WriterEnd::NoMemory);
-    };
-    send_left(rt, left, room, output)?;
-    put_out(rt, room, output)
-}
-
-// Spells messages behind what waits, each in its shortest spelling, and writes what becomes many.
-fn send_messages<R, S: Sink>(
-    rt: &R,
-    alloc: Global,
-    messages: Vec<SharedMessage>,
-    room: &mut Vec<u8>,
-    output: &mut S,
-) -> Result<(), WriterEnd>
-    requires { All IsSendable (map sent_of_shared messages.items) }
-    ensures ok { OnOk result (FlowsOut (S.taken output.old) (S.taken output.new) room.old.items
-        (bytes_of_messages (map sent_of_shared messages.items)) room.new.items) }
-    ensures err { IfErr result (λ end. IsCutOff end
-        × IsFrontOut (S.taken output.old) (S.taken output.new) (room.old.items
-        ++ bytes_of_messages (map sent_of_shared messages.items))) }
-    ensures later { S.faults output.old ≤ S.faults output.new }
-    ensures fault { result ≡ Err WriterEnd.WriteFault
-        → Rose (S.faults output.old) (S.faults output.new) }
-{
-    for message in messages {
-        send_message(rt, alloc, message, room, output)?;
-    }
-    Ok(())
-}
-
-// Spells a scene behind what waits.
-fn speak_scene<V: Voice>(
-    alloc: Global,
-    scene: Option<HeldScene>,
-    voice: &mut V,
-    room: &mut Vec<u8>,
-) -> Result<(), AllocError>
-    requires { IsSoundIfThere scene }
-    ensures spoken { OnOk result (room.new.items
-        ≡ room.old.items ++ bytes_of_scene (V.told voice.old) scene) }
-    ensures told { OnOk result (V.told voice.new ≡ told_with (V.told voice.old) scene) }
-{
-    voice.speak(
-        alloc,
-        SpokenBatch {
-            messages: Vec::new(alloc),
-            scene,
-        },
-        room,
-    )
 }
 
 /// Writes a batch to `output`: its messages in order, each in its shortest spelling, and then the
 /// redraw notification that shows its scene to the client, where it has one. They go out as one
-/// piece where they are few bytes. Where they are many they are spelled and written message by
-/// message, and the reply to calls in one result by result, so that beside one of these no more
-/// than a piece waits in bytes. `room` is memory that is used again from batch to batch.
+/// piece where they are few bytes, and else piece by piece, as they are spelled. `room` is memory
+/// that is used again from batch to batch.
 pub(crate) fn send<R, S: Sink, V: Voice>(
     rt: &R,
     alloc: Global,
@@ -258,23 +38,20 @@ pub(crate) fn send<R, S: Sink, V: Voice>(
 ) -> Result<(), WriterEnd>
     requires sendable { All IsSendable (sent_in batch) }
     requires sound { IsSoundIfThere batch.scene }
-    ensures ok { OnOk result (S.taken output.new ≡ append_known (S.taken output.old)
-        (bytes_of_taken (V.told voice.old) (sent_in batch) batch.scene)) }
+    ensures ok { OnOk result ((S.words output.new).taken ≡ append_known (S.words output.old).taken
+        (bytes_said (V.told voice.old) (sent_in batch) batch.scene)) }
     ensures told { OnOk result (V.told voice.new ≡ told_with (V.told voice.old) batch.scene) }
     ensures err { IfErr result (λ end. IsCutOff end × ((count : ℕ)
-        × (S.taken output.new ≡ append_known (S.taken output.old)
-        (take count (bytes_of_taken (V.told voice.old) (sent_in batch) batch.scene))))) }
-    ensures later { S.faults output.old ≤ S.faults output.new }
+        × ((S.words output.new).taken ≡ append_known (S.words output.old).taken
+        (take count (bytes_said (V.told voice.old) (sent_in batch) batch.scene))))) }
+    ensures later { (S.words output.old).faults ≤ (S.words output.new).faults }
     ensures fault { result ≡ Err WriterEnd.WriteFault
-        → Rose (S.faults output.old) (S.faults output.new) }
+        → Rose (S.words output.old).faults (S.words output.new).faults }
 {
-    let Batch { messages, scene } = batch;
-    make_room(&messages, &scene, room);
     room.clear();
-    send_messages(rt, alloc, messages, room, output)?;
-    let Ok(()) = speak_scene(alloc, scene, voice, room) else {
-        return Err(WriterEnd::NoMemory);
-    };
+    if let Err(why) = say(rt, alloc, batch, voice, room, output) {
+        return Err(end_unsaid(why));
+    }
     if put_all(rt, output, room) {
         Ok(())
     } else {

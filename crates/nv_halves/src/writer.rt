@@ -13,8 +13,8 @@ use crate::bells::{Bell, Lanes, lanes_if_spent, ring, tell_taken};
 use crate::ends::WriterEnd;
 use crate::insisting::try_close;
 use crate::sending::send;
-use crate::voice::Voice;
 use nv_io::Sink;
+use nv_speech::Voice;
 use nv_turn::{Pass, Turn};
 use nv_world::{Taken, Untaken, World};
 use std::alloc::Global;
@@ -124,10 +124,11 @@ fn write_once<R: Wait, S: Sink, V: Voice>(
     requires { pass.turn ≡ turn.now.turn }
     ensures turn { result.0.turn ≡ pass.turn }
     ensures writes { WritesOnce result.1 (plain_pass pass) (plain_pass result.0) session
-        (V.told voice.old) (V.told voice.new) (S.taken output.old) (S.taken output.new) }
-    ensures later { S.faults output.old ≤ S.faults output.new }
+        (V.told voice.old) (V.told voice.new) (S.words output.old).taken
+        (S.words output.new).taken }
+    ensures later { (S.words output.old).faults ≤ (S.words output.new).faults }
     ensures fault { result.1 ≡ Written.Ends WriterEnd.WriteFault
-        → Rose (S.faults output.old) (S.faults output.new) }
+        → Rose (S.words output.old).faults (S.words output.new).faults }
 {
     let (pass, taken) = take_due(rt, turn, bells, pass, session);
     match taken {
@@ -165,10 +166,10 @@ fn write_all<R: Wait, S: Sink, V: Voice>(
     requires lane { lane < length bells.now }
     requires told { V.told voice.old ≡ nothing_told }
     ensures wrote { WritesHalf result.1 (plain_pass pass) (plain_pass result.0) session
-        (S.taken output.old) (S.taken output.new) }
-    ensures later { S.faults output.old ≤ S.faults output.new }
+        (S.words output.old).taken (S.words output.new).taken }
+    ensures later { (S.words output.old).faults ≤ (S.words output.new).faults }
     ensures fault { result.1 ≡ WriterEnd.WriteFault
-        → Rose (S.faults output.old) (S.faults output.new) }
+        → Rose (S.words output.old).faults (S.words output.new).faults }
 {
     let mut pass = pass;
     let mut room = Vec::new(alloc);
@@ -209,10 +210,10 @@ pub fn writer_half<R: Wait, S: Sink, V: Voice + Drop>(
     requires told { V.told voice ≡ nothing_told }
     ensures pass { IsSamePass (plain_pass pass) (plain_pass result.pass) }
     ensures wrote { WritesHalf result.end (plain_pass pass) (plain_pass result.pass) session
-        (S.taken output) (S.taken result.output) }
-    ensures later { S.faults output ≤ S.faults result.output }
+        (S.words output).taken (S.words result.output).taken }
+    ensures later { (S.words output).faults ≤ (S.words result.output).faults }
     ensures fault { result.end ≡ WriterEnd.WriteFault
-        → Rose (S.faults output) (S.faults result.output) }
+        → Rose (S.words output).faults (S.words result.output).faults }
 {
     let (pass, end) = write_all(
         rt,

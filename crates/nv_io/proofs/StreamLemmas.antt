@@ -4,7 +4,8 @@ use Rattle.std.specs.List.{concat}
 use Rattle.std.proofs.lemmas.List.Folds.{concat-append}
 use Rattle.std.specs.declared.option.Option.{Option}
 use Rattle.std.specs.Io.KnownBytes.{append_known, prepend_known}
-use Rattle.nv_io.specs.Streams.{Gave, AddsReads, Words, GaveEach}
+use Rattle.nv_io.specs.Streams.{Gave, AddsReads, GaveEach}
+use Rattle.nv_io.specs.Words.{SourceWords}
 use Rattle.nv_io.proofs.KnownLemmas.{append_known-append_known}
 
 append_none : (known : Option (List ℕ)) → known ≡ append_known known []
@@ -43,11 +44,11 @@ adds_then a b (Some now) p q h k =
     )
 
 -- a source gave no piece
-pub each_none : (w : Words) → GaveEach w w []
+pub each_none : (w : SourceWords) → GaveEach w w []
 each_none w = record { gave = gave_none w.taken w.left; each = adds_none w.reads }
 
 -- a source gave some pieces and then others
-pub each_then : (u v w : Words) (p q : List (List ℕ)) → GaveEach u v p → GaveEach v w q → GaveEach u w (p ++ q)
+pub each_then : (u v w : SourceWords) (p q : List (List ℕ)) → GaveEach u v p → GaveEach v w q → GaveEach u w (p ++ q)
 each_then u v w p q h k = record {
   gave = subst (λ (l : List ℕ). Gave u.taken w.taken u.left w.left l) (sym (concat-append p q))
       (gave_then u.taken v.taken w.taken u.left v.left w.left (concat p) (concat q) h.gave k.gave);
@@ -55,7 +56,7 @@ each_then u v w p q h k = record {
 }
 
 -- a source gave one piece, in a read
-pub each_one : (u v : Words) (piece : List ℕ) → Gave u.taken v.taken u.left v.left piece → AddsReads u.reads v.reads (piece ∷ []) → GaveEach u v (piece ∷ [])
+pub each_one : (u v : SourceWords) (piece : List ℕ) → Gave u.taken v.taken u.left v.left piece → AddsReads u.reads v.reads (piece ∷ []) → GaveEach u v (piece ∷ [])
 each_one u v piece h k = record {
   gave = subst (λ (l : List ℕ). Gave u.taken v.taken u.left v.left l) (sym (append-nil piece)) h;
   each = k;

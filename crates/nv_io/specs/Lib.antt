@@ -5,4 +5,5 @@ pub mod Memory
 pub mod Reading
 pub mod Shelves
 pub mod Streams
+pub mod Words
 pub mod Writing

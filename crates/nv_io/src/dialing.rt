@@ -2,6 +2,7 @@
 ghost use Rattle.std.specs.Prelude.{◌≡◌, ℕ, ◌+◌, ◌≤◌, List, [], ◌∷◌, IfSome, IsNone, None, option_map, ⊤};
 ghost use Rattle.std.specs.declared.option.Option.{Option};
 ghost use Rattle.nv_io.specs.Faults.{Rose};
+ghost use Rattle.nv_io.specs.Words.{DialWords};
 ghost use Rattle.nv_io.specs.Known.{append_items, out_after, IsOut, IsUnread, IsUnused};
 
 use crate::sockets::{SockSink, SockSource, Stream};
@@ -20,13 +21,8 @@ pub trait Dial {
     // The addresses that it may be asked for.
     ghost may: { List ℕ → Type 0 };
 
-    // The halves that came back, in order.
-    ghost returned: { Self → Option (List (Self.In × Self.Out)) };
-
-    // How many connections were given and aren't back.
-    ghost lent: { Self → Option ℕ };
-
-    ghost faults: { Self → ℕ };
+    // What it tells of itself.
+    ghost words: { Self → DialWords Self.In Self.Out };
 
     /// A connection to an address: what comes in by it, and what goes out. `None` is a fault.
     fn dial<R: Net<Listener = TcpListener, Stream = TcpStream>>(
@@ -36,21 +32,21 @@ pub trait Dial {
     ) -> Option<(Self::In, Self::Out)>
         requires { may address.now }
         ensures fresh { IfSome result (λ c.
-            IsUnread (Self.In.Source.taken c.0) (Self.In.Source.reads c.0)
-            (Self.In.Source.faults c.0)
-            × IsUnused (Self.Out.Sink.taken c.1) (Self.Out.Sink.faults c.1)) }
-        ensures returned { returned self.new ≡ returned self.old }
-        ensures lent { lent self.new ≡ out_after result (lent self.old) }
-        ensures later { faults self.old ≤ faults self.new }
-        ensures failed { IsNone result → Rose (faults self.old) (faults self.new) };
+            IsUnread (Self.In.Source.words c.0).taken (Self.In.Source.words c.0).reads
+            (Self.In.Source.words c.0).faults
+            × IsUnused (Self.Out.Sink.words c.1).taken (Self.Out.Sink.words c.1).faults) }
+        ensures returned { (words self.new).returned ≡ (words self.old).returned }
+        ensures lent { (words self.new).lent ≡ out_after result (words self.old).lent }
+        ensures later { (words self.old).faults ≤ (words self.new).faults }
+        ensures failed { IsNone result → Rose (words self.old).faults (words self.new).faults };
 
     /// Takes back the halves of a connection.
     fn back(&mut self, input: Self::In, output: Self::Out)
-        requires { IsOut (lent self.old) }
-        ensures returned { returned self.new
-            ≡ append_items (returned self.old) ((input, output) ∷ []) }
-        ensures lent { lent self.old ≡ option_map (λ n. n + 1) (lent self.new) }
-        ensures later { faults self.old ≤ faults self.new };
+        requires { IsOut (words self.old).lent }
+        ensures returned { (words self.new).returned
+            ≡ append_items (words self.old).returned ((input, output) ∷ []) }
+        ensures lent { (words self.old).lent ≡ option_map (λ n. n + 1) (words self.new).lent }
+        ensures later { (words self.old).faults ≤ (words self.new).faults };
 }
 
 // A connection to an address. One over TCP sends what is written at once.
@@ -85,7 +81,7 @@ pub struct SockDial {
 
 impl SockDial {
     pub fn new() -> SockDial
-        ensures { ⟦<SockDial as Dial>⟧.faults result ≡ 0 }
+        ensures { (⟦<SockDial as Dial>⟧.words result).faults ≡ 0 }
     {
         SockDial { faults: 0 }
     }
@@ -98,11 +94,11 @@ impl Dial for SockDial {
 
     ghost may = { λ _. ⊤ };
 
-    ghost returned = { λ _. None };
-
-    ghost lent = { λ _. None };
-
-    ghost faults = { λ d. d.faults };
+    ghost words = { λ d. record {
+      returned = None;
+      lent = None;
+      faults = d.faults;
+    } };
 
     fn dial<R: Net<Listener = TcpListener, Stream = TcpStream>>(
         &mut self,

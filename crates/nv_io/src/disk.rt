@@ -16,13 +16,12 @@ pub struct DiskSource {
 }
 
 impl Source for DiskSource {
-    ghost taken = { λ _. None };
-
-    ghost left = { λ _. None };
-
-    ghost reads = { λ _. None };
-
-    ghost faults = { λ s. s.faults };
+    ghost words = { λ s. record {
+      taken = None;
+      left = None;
+      reads = None;
+      faults = s.faults;
+    } };
 
     fn read<R>(&mut self, _rt: &R, into: &mut [u8]) -> Got {
         read_from(&mut self.file, &mut self.faults, into)
@@ -37,9 +36,10 @@ pub struct DiskSink {
 }
 
 impl Sink for DiskSink {
-    ghost taken = { λ _. None };
-
-    ghost faults = { λ s. s.faults };
+    ghost words = { λ s. record {
+      taken = None;
+      faults = s.faults;
+    } };
 
     fn write<R>(&mut self, _rt: &R, piece: &[u8]) -> Put {
         write_to(&mut self.file, &mut self.faults, piece)
@@ -56,7 +56,7 @@ pub struct DiskFiles {
 
 impl DiskFiles {
     pub fn new() -> DiskFiles
-        ensures { ⟦<DiskFiles as Files>⟧.faults result ≡ 0 }
+        ensures { (⟦<DiskFiles as Files>⟧.words result).faults ≡ 0 }
     {
         DiskFiles { faults: 0 }
     }
@@ -69,15 +69,13 @@ impl Files for DiskFiles {
 
     ghost may = { λ _. ⊤ };
 
-    ghost returned_sources = { λ _. None };
-
-    ghost returned_sinks = { λ _. None };
-
-    ghost lent_sources = { λ _. None };
-
-    ghost lent_sinks = { λ _. None };
-
-    ghost faults = { λ f. f.faults };
+    ghost words = { λ f. record {
+      returned_sources = None;
+      returned_sinks = None;
+      lent_sources = None;
+      lent_sinks = None;
+      faults = f.faults;
+    } };
 
     fn source<R: SystemFiles<File = File>>(&mut self, rt: &R, name: &str) -> Option<DiskSource> {
         let Ok(file) = fs::open(rt, name) else {

@@ -2,6 +2,7 @@
 ghost use Rattle.std.specs.Prelude.{◌≡◌, ℕ, ◌+◌, ◌≤◌, List, [], ◌∷◌, IfSome, IsNone, option_map};
 ghost use Rattle.std.specs.declared.option.Option.{Option};
 ghost use Rattle.nv_io.specs.Faults.{Rose};
+ghost use Rattle.nv_io.specs.Words.{FilesWords};
 ghost use Rattle.nv_io.specs.Known.{append_items, out_after, IsNoItem, IsOut, IsUnused};
 
 use crate::streams::{Sink, Source};
@@ -18,63 +19,58 @@ pub trait Files {
     // The names that it may be asked for.
     ghost may: { List ℕ → Type 0 };
 
-    // The sources that came back, in order.
-    ghost returned_sources: { Self → Option (List Self.From) };
-
-    // The sinks that came back, in order.
-    ghost returned_sinks: { Self → Option (List Self.To) };
-
-    // How many sources were given and aren't back.
-    ghost lent_sources: { Self → Option ℕ };
-
-    // How many sinks were given and aren't back.
-    ghost lent_sinks: { Self → Option ℕ };
-
-    ghost faults: { Self → ℕ };
+    // What it tells of itself.
+    ghost words: { Self → FilesWords Self.From Self.To };
 
     /// A source with what stands under a name. `None` is a fault.
     fn source<R: SystemFiles<File = File>>(&mut self, rt: &R, name: &str) -> Option<Self::From>
         requires { may name.now }
         ensures fresh { IfSome result (λ source.
-            IsUnused (Self.From.Source.taken source) (Self.From.Source.faults source)) }
-        ensures unread { IfSome result (λ source. IsNoItem (Self.From.Source.reads source)) }
-        ensures returned_sources { returned_sources self.new ≡ returned_sources self.old }
-        ensures returned_sinks { returned_sinks self.new ≡ returned_sinks self.old }
-        ensures lent_sources { lent_sources self.new ≡ out_after result (lent_sources self.old) }
-        ensures lent_sinks { lent_sinks self.new ≡ lent_sinks self.old }
-        ensures later { faults self.old ≤ faults self.new }
-        ensures failed { IsNone result → Rose (faults self.old) (faults self.new) };
+            IsUnused (Self.From.Source.words source).taken (Self.From.Source.words source).faults) }
+        ensures unread { IfSome result (λ source. IsNoItem (Self.From.Source.words source).reads) }
+        ensures returned_sources { (words self.new).returned_sources
+            ≡ (words self.old).returned_sources }
+        ensures returned_sinks { (words self.new).returned_sinks ≡ (words self.old).returned_sinks }
+        ensures lent_sources { (words self.new).lent_sources
+            ≡ out_after result (words self.old).lent_sources }
+        ensures lent_sinks { (words self.new).lent_sinks ≡ (words self.old).lent_sinks }
+        ensures later { (words self.old).faults ≤ (words self.new).faults }
+        ensures failed { IsNone result → Rose (words self.old).faults (words self.new).faults };
 
     /// A sink under a name, in place of what stood there. `None` is a fault.
     fn sink<R: SystemFiles<File = File>>(&mut self, rt: &R, name: &str) -> Option<Self::To>
         requires { may name.now }
         ensures fresh { IfSome result (λ sink.
-            IsUnused (Self.To.Sink.taken sink) (Self.To.Sink.faults sink)) }
-        ensures returned_sources { returned_sources self.new ≡ returned_sources self.old }
-        ensures returned_sinks { returned_sinks self.new ≡ returned_sinks self.old }
-        ensures lent_sources { lent_sources self.new ≡ lent_sources self.old }
-        ensures lent_sinks { lent_sinks self.new ≡ out_after result (lent_sinks self.old) }
-        ensures later { faults self.old ≤ faults self.new }
-        ensures failed { IsNone result → Rose (faults self.old) (faults self.new) };
+            IsUnused (Self.To.Sink.words sink).taken (Self.To.Sink.words sink).faults) }
+        ensures returned_sources { (words self.new).returned_sources
+            ≡ (words self.old).returned_sources }
+        ensures returned_sinks { (words self.new).returned_sinks ≡ (words self.old).returned_sinks }
+        ensures lent_sources { (words self.new).lent_sources ≡ (words self.old).lent_sources }
+        ensures lent_sinks { (words self.new).lent_sinks
+            ≡ out_after result (words self.old).lent_sinks }
+        ensures later { (words self.old).faults ≤ (words self.new).faults }
+        ensures failed { IsNone result → Rose (words self.old).faults (words self.new).faults };
 
     /// Takes back a sink.
     fn back(&mut self, file: Self::To)
-        requires { IsOut (lent_sinks self.old) }
-        ensures returned_sources { returned_sources self.new ≡ returned_sources self.old }
-        ensures returned_sinks { returned_sinks self.new
-            ≡ append_items (returned_sinks self.old) (file ∷ []) }
-        ensures lent_sources { lent_sources self.new ≡ lent_sources self.old }
-        ensures lent_sinks { lent_sinks self.old ≡ option_map (λ n. n + 1) (lent_sinks self.new) }
-        ensures later { faults self.old ≤ faults self.new };
+        requires { IsOut (words self.old).lent_sinks }
+        ensures returned_sources { (words self.new).returned_sources
+            ≡ (words self.old).returned_sources }
+        ensures returned_sinks { (words self.new).returned_sinks
+            ≡ append_items (words self.old).returned_sinks (file ∷ []) }
+        ensures lent_sources { (words self.new).lent_sources ≡ (words self.old).lent_sources }
+        ensures lent_sinks { (words self.old).lent_sinks
+            ≡ option_map (λ n. n + 1) (words self.new).lent_sinks }
+        ensures later { (words self.old).faults ≤ (words self.new).faults };
 
     /// Takes back a source.
     fn back_source(&mut self, file: Self::From)
-        requires { IsOut (lent_sources self.old) }
-        ensures returned_sources { returned_sources self.new
-            ≡ append_items (returned_sources self.old) (file ∷ []) }
-        ensures returned_sinks { returned_sinks self.new ≡ returned_sinks self.old }
-        ensures lent_sources { lent_sources self.old
-            ≡ option_map (λ n. n + 1) (lent_sources self.new) }
-        ensures lent_sinks { lent_sinks self.new ≡ lent_sinks self.old }
-        ensures later { faults self.old ≤ faults self.new };
+        requires { IsOut (words self.old).lent_sources }
+        ensures returned_sources { (words self.new).returned_sources
+            ≡ append_items (words self.old).returned_sources (file ∷ []) }
+        ensures returned_sinks { (words self.new).returned_sinks ≡ (words self.old).returned_sinks }
+        ensures lent_sources { (words self.old).lent_sources
+            ≡ option_map (λ n. n + 1) (words self.new).lent_sources }
+        ensures lent_sinks { (words self.new).lent_sinks ≡ (words self.old).lent_sinks }
+        ensures later { (words self.old).faults ≤ (words self.new).faults };
 }

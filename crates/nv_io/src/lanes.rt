@@ -2,6 +2,7 @@
 ghost use Rattle.std.specs.Prelude.{◌≡◌, ℕ, ◌+◌, ◌≤◌, List, [], ◌∷◌, option_map, IfSome, IsNone};
 ghost use Rattle.std.specs.declared.option.Option.{Option};
 ghost use Rattle.nv_io.specs.Faults.{Rose};
+ghost use Rattle.nv_io.specs.Words.{LaneWords, PortWords};
 ghost use Rattle.nv_io.specs.Known.{append_items, prepend_items, IsNoItem, IsOut, IsUnused, out_after};
 ghost use Rattle.nv_io.specs.Lanes.{connections_of, lent_after, IfConnection, IsFreshLane};
 ghost use Rattle.nv_io.specs.declared.lanes.Over.{Over};
@@ -74,47 +75,40 @@ pub trait Lane {
 
     type Out: Sink + Send + Drop;
 
-    // The connections to come, in order.
-    ghost coming: { Self → Option (List (Self.In × Self.Out)) };
-
-    // The connections that ended, in order.
-    ghost over: { Self → Option (List (Over Self.In Self.Out)) };
-
-    // How many connections were given and didn't end yet.
-    ghost lent: { Self → Option ℕ };
-
-    ghost faults: { Self → ℕ };
+    // What it tells of itself.
+    ghost words: { Self → LaneWords Self.In Self.Out };
 
     /// Waits for the next connection.
     fn accept<R>(&mut self, rt: &R) -> Accepted<Self::In, Self::Out>
-        ensures coming { coming self.old
-            ≡ prepend_items (connections_of result) (coming self.new) }
-        ensures over { over self.new ≡ over self.old }
-        ensures lent { lent self.new ≡ lent_after result (lent self.old) }
+        ensures coming { (words self.old).coming
+            ≡ prepend_items (connections_of result) (words self.new).coming }
+        ensures over { (words self.new).over ≡ (words self.old).over }
+        ensures lent { (words self.new).lent ≡ lent_after result (words self.old).lent }
         ensures fresh { IfConnection result (λ input output.
-            IsUnused (Self.In.Source.taken input) (Self.In.Source.faults input)
-            × IsUnused (Self.Out.Sink.taken output) (Self.Out.Sink.faults output)) }
+            IsUnused (Self.In.Source.words input).taken (Self.In.Source.words input).faults
+            × IsUnused (Self.Out.Sink.words output).taken (Self.Out.Sink.words output).faults) }
         ensures unread { IfConnection result (λ input output.
-            IsNoItem (Self.In.Source.reads input)) }
-        ensures done { result ≡ Accepted.Done → IsNoItem (coming self.new) }
-        ensures later { faults self.old ≤ faults self.new }
-        ensures failed { result ≡ Accepted.Failed → Rose (faults self.old) (faults self.new) };
+            IsNoItem (Self.In.Source.words input).reads) }
+        ensures done { result ≡ Accepted.Done → IsNoItem (words self.new).coming }
+        ensures later { (words self.old).faults ≤ (words self.new).faults }
+        ensures failed { result ≡ Accepted.Failed → Rose (words self.old).faults
+            (words self.new).faults };
 
     /// Takes back a connection that ended, with the number of its session, or 0 where it had none.
     fn ended(&mut self, input: Self::In, output: Self::Out, session: u64, how: Ended)
-        requires { IsOut (lent self.old) }
-        ensures coming { coming self.new ≡ coming self.old }
-        ensures over { over self.new ≡ append_items (over self.old)
+        requires { IsOut (words self.old).lent }
+        ensures coming { (words self.new).coming ≡ (words self.old).coming }
+        ensures over { (words self.new).over ≡ append_items (words self.old).over
             (record { input = input; output = output; session = session; how = how } ∷ []) }
-        ensures lent { lent self.old ≡ option_map (λ n. n + 1) (lent self.new) }
-        ensures later { faults self.old ≤ faults self.new };
+        ensures lent { (words self.old).lent ≡ option_map (λ n. n + 1) (words self.new).lent }
+        ensures later { (words self.old).faults ≤ (words self.new).faults };
 
     /// Asks that one other `accept` on the same address return.
     fn wake<R: Net<Listener = TcpListener, Stream = TcpStream>>(&mut self, rt: &R)
-        ensures coming { coming self.new ≡ coming self.old }
-        ensures over { over self.new ≡ over self.old }
-        ensures lent { lent self.new ≡ lent self.old }
-        ensures later { faults self.old ≤ faults self.new };
+        ensures coming { (words self.new).coming ≡ (words self.old).coming }
+        ensures over { (words self.new).over ≡ (words self.old).over }
+        ensures lent { (words self.new).lent ≡ (words self.old).lent }
+        ensures later { (words self.old).faults ≤ (words self.new).faults };
 }
 
 /// A place where connections are listened for. Its meaning is the lanes that came back and how many
@@ -125,13 +119,8 @@ pub trait Port {
     // The addresses that it may be asked to listen on.
     ghost may: { List ℕ → Type 0 };
 
-    // The lanes that came back, in order.
-    ghost returned: { Self → Option (List Self.Line) };
-
-    // How many lanes were given and aren't back.
-    ghost lent: { Self → Option ℕ };
-
-    ghost faults: { Self → ℕ };
+    // What it tells of itself.
+    ghost words: { Self → PortWords Self.Line };
 
     /// Listens on an address. `false` is a fault.
     fn listen<R: Files<File = File> + Net<Listener = TcpListener, Stream = TcpStream>>(
@@ -140,24 +129,25 @@ pub trait Port {
         address: &str,
     ) -> bool
         requires { may address.now }
-        ensures returned { returned self.new ≡ returned self.old }
-        ensures lent { lent self.new ≡ lent self.old }
-        ensures later { faults self.old ≤ faults self.new }
-        ensures failed { OnFalse result (Rose (faults self.old) (faults self.new)) };
+        ensures returned { (words self.new).returned ≡ (words self.old).returned }
+        ensures lent { (words self.new).lent ≡ (words self.old).lent }
+        ensures later { (words self.old).faults ≤ (words self.new).faults }
+        ensures failed { OnFalse result (Rose (words self.old).faults (words self.new).faults) };
 
     /// One more lane of this address. `None` is a fault.
     fn lane<R>(&mut self, rt: &R) -> Option<Self::Line>
-        ensures fresh { IfSome result (λ lane. IsFreshLane (Self.Line.Lane.over lane)
-            (Self.Line.Lane.lent lane) (Self.Line.Lane.faults lane)) }
-        ensures returned { returned self.new ≡ returned self.old }
-        ensures lent { lent self.new ≡ out_after result (lent self.old) }
-        ensures later { faults self.old ≤ faults self.new }
-        ensures failed { IsNone result → Rose (faults self.old) (faults self.new) };
+        ensures fresh { IfSome result (λ lane. IsFreshLane (Self.Line.Lane.words lane).over
+            (Self.Line.Lane.words lane).lent (Self.Line.Lane.words lane).faults) }
+        ensures returned { (words self.new).returned ≡ (words self.old).returned }
+        ensures lent { (words self.new).lent ≡ out_after result (words self.old).lent }
+        ensures later { (words self.old).faults ≤ (words self.new).faults }
+        ensures failed { IsNone result → Rose (words self.old).faults (words self.new).faults };
 
     /// Takes back a lane.
     fn back(&mut self, lane: Self::Line)
-        requires { IsOut (lent self.old) }
-        ensures returned { returned self.new ≡ append_items (returned self.old) (lane ∷ []) }
-        ensures lent { lent self.old ≡ option_map (λ n. n + 1) (lent self.new) }
-        ensures later { faults self.old ≤ faults self.new };
+        requires { IsOut (words self.old).lent }
+        ensures returned { (words self.new).returned ≡ append_items (words self.old).returned
+            (lane ∷ []) }
+        ensures lent { (words self.old).lent ≡ option_map (λ n. n + 1) (words self.new).lent }
+        ensures later { (words self.old).faults ≤ (words self.new).faults };
 }

@@ -224,13 +224,12 @@ impl MemSource {
 }
 
 impl Source for MemSource {
-    ghost taken = { λ s. Some s.pieces.taken };
-
-    ghost left = { λ s. Some s.pieces.left };
-
-    ghost reads = { λ s. s.reads };
-
-    ghost faults = { λ s. s.failures.faults };
+    ghost words = { λ s. record {
+      taken = Some s.pieces.taken;
+      left = Some s.pieces.left;
+      reads = s.reads;
+      faults = s.failures.faults;
+    } };
 
     fn read<R>(&mut self, _rt: &R, into: &mut [u8]) -> Got
         requires { 0 < length into.old }
@@ -311,9 +310,10 @@ impl MemSink {
 }
 
 impl Sink for MemSink {
-    ghost taken = { λ s. Some s.taken };
-
-    ghost faults = { λ s. s.failures.faults };
+    ghost words = { λ s. record {
+      taken = Some s.taken;
+      faults = s.failures.faults;
+    } };
 
     fn write<R>(&mut self, _rt: &R, piece: &[u8]) -> Put
         requires { 0 < length piece.now }
@@ -370,13 +370,12 @@ impl SureSource {
 }
 
 impl Source for SureSource {
-    ghost taken = { λ s. Some s.taken };
-
-    ghost left = { λ s. Some s.left };
-
-    ghost reads = { λ _. None };
-
-    ghost faults = { λ _. 0 };
+    ghost words = { λ s. record {
+      taken = Some s.taken;
+      left = Some s.left;
+      reads = None;
+      faults = 0;
+    } };
 
     fn read<R>(&mut self, _rt: &R, into: &mut [u8]) -> Got
         requires { 0 < length into.old }
@@ -425,9 +424,10 @@ impl SureSink {
 }
 
 impl Sink for SureSink {
-    ghost taken = { λ _. None };
-
-    ghost faults = { λ _. 0 };
+    ghost words = { λ _. record {
+      taken = None;
+      faults = 0;
+    } };
 
     fn write<R>(&mut self, _rt: &R, piece: &[u8]) -> Put
         requires { 0 < length piece.now }

@@ -74,20 +74,19 @@ pub struct SockSource {
 
 impl SockSource {
     pub fn new(stream: Stream) -> SockSource
-        ensures { ⟦<SockSource as Source>⟧.faults result ≡ 0 }
+        ensures { (⟦<SockSource as Source>⟧.words result).faults ≡ 0 }
     {
         SockSource { stream, faults: 0 }
     }
 }
 
 impl Source for SockSource {
-    ghost taken = { λ _. None };
-
-    ghost left = { λ _. None };
-
-    ghost reads = { λ _. None };
-
-    ghost faults = { λ s. s.faults };
+    ghost words = { λ s. record {
+      taken = None;
+      left = None;
+      reads = None;
+      faults = s.faults;
+    } };
 
     fn read<R>(&mut self, _rt: &R, into: &mut [u8]) -> Got {
         self.stream.read(&mut self.faults, into)
@@ -103,16 +102,17 @@ pub struct SockSink {
 
 impl SockSink {
     pub fn new(stream: Stream) -> SockSink
-        ensures { ⟦<SockSink as Sink>⟧.faults result ≡ 0 }
+        ensures { (⟦<SockSink as Sink>⟧.words result).faults ≡ 0 }
     {
         SockSink { stream, faults: 0 }
     }
 }
 
 impl Sink for SockSink {
-    ghost taken = { λ _. None };
-
-    ghost faults = { λ s. s.faults };
+    ghost words = { λ s. record {
+      taken = None;
+      faults = s.faults;
+    } };
 
     fn write<R>(&mut self, _rt: &R, piece: &[u8]) -> Put {
         self.stream.write(&mut self.faults, piece)
@@ -197,7 +197,7 @@ pub struct SockLane<C: Clock + Copy> {
 
 impl<C: Clock + Copy> SockLane<C> {
     pub fn new(listener: Listener, clock: C) -> SockLane<C>
-        ensures { ⟦<SockLane<C> as Lane>⟧.faults result ≡ 0 }
+        ensures { (⟦<SockLane<C> as Lane>⟧.words result).faults ≡ 0 }
     {
         SockLane {
             listener,
@@ -251,13 +251,12 @@ impl<C: Clock + Copy> Lane for SockLane<C> {
 
     type Out = SockSink;
 
-    ghost coming = { λ _. None };
-
-    ghost over = { λ _. None };
-
-    ghost lent = { λ _. None };
-
-    ghost faults = { λ l. l.faults };
+    ghost words = { λ l. record {
+      coming = None;
+      over = None;
+      lent = None;
+      faults = l.faults;
+    } };
 
     fn accept<R>(&mut self, _rt: &R) -> Accepted<SockSource, SockSink> {
         match self.halves() {
@@ -357,7 +356,7 @@ pub struct SockPort<C: Clock + Copy> {
 
 impl<C: Clock + Copy + Send> SockPort<C> {
     pub fn new(clock: C) -> SockPort<C>
-        ensures { ⟦<SockPort<C> as Port>⟧.faults result ≡ 0 }
+        ensures { (⟦<SockPort<C> as Port>⟧.words result).faults ≡ 0 }
     {
         SockPort {
             clock,
@@ -403,11 +402,11 @@ impl<C: Clock + Copy + Send> Port for SockPort<C> {
 
     ghost may = { λ _. ⊤ };
 
-    ghost returned = { λ _. None };
-
-    ghost lent = { λ _. None };
-
-    ghost faults = { λ p. p.faults };
+    ghost words = { λ p. record {
+      returned = None;
+      lent = None;
+      faults = p.faults;
+    } };
 
     fn listen<R: Files<File = File> + Net<Listener = TcpListener, Stream = TcpStream>>(
         &mut self,

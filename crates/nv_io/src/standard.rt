@@ -87,20 +87,19 @@ pub struct StdIn {
 
 impl StdIn {
     pub fn new(stream: Stdin) -> StdIn
-        ensures { ⟦<StdIn as Source>⟧.faults result ≡ 0 }
+        ensures { (⟦<StdIn as Source>⟧.words result).faults ≡ 0 }
     {
         StdIn { stream, faults: 0 }
     }
 }
 
 impl Source for StdIn {
-    ghost taken = { λ _. None };
-
-    ghost left = { λ _. None };
-
-    ghost reads = { λ _. None };
-
-    ghost faults = { λ s. s.faults };
+    ghost words = { λ s. record {
+      taken = None;
+      left = None;
+      reads = None;
+      faults = s.faults;
+    } };
 
     fn read<R>(&mut self, _rt: &R, into: &mut [u8]) -> Got {
         read_from(&mut self.stream, &mut self.faults, into)
@@ -116,16 +115,17 @@ pub struct StdOut {
 
 impl StdOut {
     pub fn new(stream: Stdout) -> StdOut
-        ensures { ⟦<StdOut as Sink>⟧.faults result ≡ 0 }
+        ensures { (⟦<StdOut as Sink>⟧.words result).faults ≡ 0 }
     {
         StdOut { stream, faults: 0 }
     }
 }
 
 impl Sink for StdOut {
-    ghost taken = { λ _. None };
-
-    ghost faults = { λ s. s.faults };
+    ghost words = { λ s. record {
+      taken = None;
+      faults = s.faults;
+    } };
 
     fn write<R>(&mut self, _rt: &R, piece: &[u8]) -> Put {
         write_to(&mut self.stream, &mut self.faults, piece)
@@ -143,16 +143,17 @@ pub struct StdErr {
 
 impl StdErr {
     pub fn new(stream: Stderr) -> StdErr
-        ensures { ⟦<StdErr as Sink>⟧.faults result ≡ 0 }
+        ensures { (⟦<StdErr as Sink>⟧.words result).faults ≡ 0 }
     {
         StdErr { stream, faults: 0 }
     }
 }
 
 impl Sink for StdErr {
-    ghost taken = { λ _. None };
-
-    ghost faults = { λ s. s.faults };
+    ghost words = { λ s. record {
+      taken = None;
+      faults = s.faults;
+    } };
 
     fn write<R>(&mut self, _rt: &R, piece: &[u8]) -> Put {
         write_to(&mut self.stream, &mut self.faults, piece)

@@ -4,7 +4,7 @@ ghost use Rattle.std.specs.Io.KnownBytes.{append_known, IsAtEnd};
 ghost use Rattle.std.specs.List.{concat};
 ghost use Rattle.nv_value.specs.View.{content};
 ghost use Rattle.nv_io.specs.Faults.{Rose};
-ghost use Rattle.nv_io.specs.Streams.{GaveEach, words_of};
+ghost use Rattle.nv_io.specs.Streams.{GaveEach};
 ghost use Rattle.nv_stream.specs.Answers.{NeedsMore};
 ghost use Rattle.nv_stream.specs.State.{stream_end};
 ghost use Rattle.nv_mirror.specs.Ends.{FollowsTo, IsReadToEnd, ListsAtOnce};
@@ -48,13 +48,14 @@ fn take_value<R, O: Sink>(
 ) -> Result<(), Followed>
     requires steady { IsSteady lister.old }
     requires counted { lister.old.number < 2 ^ 63 }
-    ensures takes { (out : List ℕ) × (O.taken output.new ≡ append_known (O.taken output.old) out)
+    ensures takes { (out : List ℕ) × ((O.words output.new).taken
+        ≡ append_known (O.words output.old).taken out)
         × TakesReceived result (known_of lister.old) (received_in (content value))
         (known_of lister.new) out }
     ensures steady { OnOk result (IsSteady lister.new) }
-    ensures later { O.faults output.old ≤ O.faults output.new }
+    ensures later { (O.words output.old).faults ≤ (O.words output.new).faults }
     ensures fault { result ≡ Err Followed.OutputFault
-        → Rose (O.faults output.old) (O.faults output.new) }
+        → Rose (O.words output.old).faults (O.words output.new).faults }
 {
     lister.take(rt, output, received(value))
 }
@@ -93,7 +94,7 @@ impl Client {
         requires ready { CanGoOn self.old }
         requires fits { self.old.stream.start + length self.old.stream.held < 2 ^ 63 }
         ensures steps { (out : List ℕ)
-            × (O.taken output.new ≡ append_known (O.taken output.old) out)
+            × ((O.words output.new).taken ≡ append_known (O.words output.old).taken out)
             × StepsFromAny ⊥ result ([], out) (standing_of self.old) (standing_of self.new) }
         ensures ready { OnOk result (CanGoOn self.new) }
         ensures same { OnOk result (self.new.stream.start + length self.new.stream.held
@@ -101,9 +102,9 @@ impl Client {
         ensures smaller { result ≡ Ok true
             → length self.new.stream.held < length self.old.stream.held }
         ensures waits { result ≡ Ok false → NeedsMore self.new.stream }
-        ensures later { O.faults output.old ≤ O.faults output.new }
+        ensures later { (O.words output.old).faults ≤ (O.words output.new).faults }
         ensures fault { result ≡ Err Followed.OutputFault
-            → Rose (O.faults output.old) (O.faults output.new) }
+            → Rose (O.words output.old).faults (O.words output.new).faults }
         ensures no_read { result ≡ Err Followed.ReadFault → ⊥ }
         ensures no_server { result ≡ Err Followed.ServerFault → ⊥ }
     {
@@ -125,15 +126,15 @@ impl Client {
         requires ready { CanGoOn self.old }
         requires fits { self.old.stream.start + length self.old.stream.held < 2 ^ 63 }
         ensures steps { (out : List ℕ)
-            × (O.taken output.new ≡ append_known (O.taken output.old) out)
+            × ((O.words output.new).taken ≡ append_known (O.words output.old).taken out)
             × StepsFromAny ⊥ result ([], out) (standing_of self.old) (standing_of self.new) }
         ensures ready { OnOk result (CanGoOn self.new) }
         ensures same { OnOk result (self.new.stream.start + length self.new.stream.held
             ≡ self.old.stream.start + length self.old.stream.held) }
         ensures waits { OnOk result (NeedsMore self.new.stream) }
-        ensures later { O.faults output.old ≤ O.faults output.new }
+        ensures later { (O.words output.old).faults ≤ (O.words output.new).faults }
         ensures fault { result ≡ Err Followed.OutputFault
-            → Rose (O.faults output.old) (O.faults output.new) }
+            → Rose (O.words output.old).faults (O.words output.new).faults }
         ensures no_read { result ≡ Err Followed.ReadFault → ⊥ }
         ensures no_server { result ≡ Err Followed.ServerFault → ⊥ }
     {
@@ -153,15 +154,16 @@ impl Client {
         requires fits { self.old.stream.start + length self.old.stream.held < 2 ^ 62 }
         requires room { length room.old ≡ PIECE }
         ensures takes { (piece : List ℕ)
-            × GaveEach (words_of I.taken I.left I.reads input.old)
-            (words_of I.taken I.left I.reads input.new) (piece ∷ [])
-            × StepsFromAny (IsAtEnd (I.left input.new)) result (piece, []) (standing_of self.old)
+            × GaveEach (I.words input.old)
+            (I.words input.new) (piece ∷ [])
+            × StepsFromAny (IsAtEnd (I.words input.new).left) result (piece, [])
+            (standing_of self.old)
             (standing_of self.new)
             × OnOk result (Grows piece (standing_of self.old) (standing_of self.new)) }
         ensures ready { OnOk result (CanGoOn self.new) }
-        ensures later { I.faults input.old ≤ I.faults input.new }
+        ensures later { (I.words input.old).faults ≤ (I.words input.new).faults }
         ensures fault { result ≡ Err Followed.ReadFault
-            → Rose (I.faults input.old) (I.faults input.new) }
+            → Rose (I.words input.old).faults (I.words input.new).faults }
         ensures no_output { result ≡ Err Followed.OutputFault → ⊥ }
         ensures no_server { result ≡ Err Followed.ServerFault → ⊥ }
     {
@@ -189,20 +191,21 @@ impl Client {
         requires fits { self.old.stream.start + length self.old.stream.held < 2 ^ 62 }
         requires room { length room.old ≡ PIECE }
         ensures turns { (piece out : List ℕ)
-            × GaveEach (words_of I.taken I.left I.reads input.old)
-            (words_of I.taken I.left I.reads input.new) (piece ∷ [])
-            × (O.taken output.new ≡ append_known (O.taken output.old) out)
-            × StepsFromAny (IsAtEnd (I.left input.new)) result (piece, out) (standing_of self.old)
+            × GaveEach (I.words input.old)
+            (I.words input.new) (piece ∷ [])
+            × ((O.words output.new).taken ≡ append_known (O.words output.old).taken out)
+            × StepsFromAny (IsAtEnd (I.words input.new).left) result (piece, out)
+            (standing_of self.old)
             (standing_of self.new)
             × OnOk result (Grows piece (standing_of self.old) (standing_of self.new)) }
         ensures ready { OnOk result (CanGoOn self.new) }
         ensures waits { OnOk result (NeedsMore self.new.stream) }
-        ensures read_later { I.faults input.old ≤ I.faults input.new }
+        ensures read_later { (I.words input.old).faults ≤ (I.words input.new).faults }
         ensures read_fault { result ≡ Err Followed.ReadFault
-            → Rose (I.faults input.old) (I.faults input.new) }
-        ensures write_later { O.faults output.old ≤ O.faults output.new }
+            → Rose (I.words input.old).faults (I.words input.new).faults }
+        ensures write_later { (O.words output.old).faults ≤ (O.words output.new).faults }
         ensures write_fault { result ≡ Err Followed.OutputFault
-            → Rose (O.faults output.old) (O.faults output.new) }
+            → Rose (O.words output.old).faults (O.words output.new).faults }
         ensures no_server { result ≡ Err Followed.ServerFault → ⊥ }
     {
         self.take_piece(rt, input, room)?;
@@ -220,18 +223,19 @@ impl Client {
         requires fresh { IsFreshClient self.old.lister.buffer self.old }
         requires room { length room.old ≡ PIECE }
         ensures follows { (pieces : List (List ℕ)) × (listed : List ℕ)
-            × GaveEach (words_of I.taken I.left I.reads input.old)
-            (words_of I.taken I.left I.reads input.new) pieces
-            × (O.taken output.new ≡ append_known (O.taken output.old) listed)
-            × FollowsTo (IsReadToEnd (I.left input.new) (concat pieces)) self.old.lister.buffer
+            × GaveEach (I.words input.old)
+            (I.words input.new) pieces
+            × ((O.words output.new).taken ≡ append_known (O.words output.old).taken listed)
+            × FollowsTo (IsReadToEnd (I.words input.new).left
+            (concat pieces)) self.old.lister.buffer
             result (concat pieces) listed
             × ListsAtOnce self.old.lister.buffer pieces listed }
-        ensures read_later { I.faults input.old ≤ I.faults input.new }
+        ensures read_later { (I.words input.old).faults ≤ (I.words input.new).faults }
         ensures read { result ≡ Followed.ReadFault
-            → Rose (I.faults input.old) (I.faults input.new) }
-        ensures write_later { O.faults output.old ≤ O.faults output.new }
+            → Rose (I.words input.old).faults (I.words input.new).faults }
+        ensures write_later { (O.words output.old).faults ≤ (O.words output.new).faults }
         ensures write { result ≡ Followed.OutputFault
-            → Rose (O.faults output.old) (O.faults output.new) }
+            → Rose (O.words output.old).faults (O.words output.new).faults }
         ensures no_server { result ≡ Followed.ServerFault → ⊥ }
     {
         while self.taken() < MOST_TAKEN {

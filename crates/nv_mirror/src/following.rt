@@ -3,7 +3,7 @@ ghost use Rattle.std.specs.Prelude.{◌≡◌, ℕ, ◌≤◌, List, length, IfO
 ghost use Rattle.std.specs.Io.KnownBytes.{append_known};
 ghost use Rattle.std.specs.List.{concat};
 ghost use Rattle.nv_io.specs.Faults.{Rose};
-ghost use Rattle.nv_io.specs.Streams.{GaveEach, words_of};
+ghost use Rattle.nv_io.specs.Streams.{GaveEach};
 ghost use Rattle.nv_mirror.specs.Asking.{request_bytes};
 ghost use Rattle.nv_mirror.specs.inside.Steps.{IsFreshClient};
 ghost use Rattle.nv_mirror.specs.Ends.{ServerTook, FollowsTo, IsReadToEnd, ListsAtOnce};
@@ -41,20 +41,23 @@ pub fn follow<R, I: Source, S: Sink, O: Sink>(
     buffer: i64,
 ) -> Followed
     ensures follows { (pieces : List (List ℕ)) × (listed : List ℕ)
-        × GaveEach (words_of I.taken I.left I.reads input.old)
-        (words_of I.taken I.left I.reads input.new) pieces
-        × (O.taken output.new ≡ append_known (O.taken output.old) listed)
-        × FollowsTo (IsReadToEnd (I.left input.new) (concat pieces)) buffer result (concat pieces)
+        × GaveEach (I.words input.old)
+        (I.words input.new) pieces
+        × ((O.words output.new).taken ≡ append_known (O.words output.old).taken listed)
+        × FollowsTo (IsReadToEnd (I.words input.new).left (concat pieces)) buffer result
+        (concat pieces)
         listed
         × ListsAtOnce buffer pieces listed }
-    ensures asks { ServerTook buffer result (S.taken server.old) (S.taken server.new) }
-    ensures read_later { I.faults input.old ≤ I.faults input.new }
-    ensures read { result ≡ Followed.ReadFault → Rose (I.faults input.old) (I.faults input.new) }
-    ensures ask_later { S.faults server.old ≤ S.faults server.new }
-    ensures ask { result ≡ Followed.ServerFault → Rose (S.faults server.old) (S.faults server.new) }
-    ensures write_later { O.faults output.old ≤ O.faults output.new }
+    ensures asks { ServerTook buffer result (S.words server.old).taken (S.words server.new).taken }
+    ensures read_later { (I.words input.old).faults ≤ (I.words input.new).faults }
+    ensures read { result ≡ Followed.ReadFault → Rose (I.words input.old).faults
+        (I.words input.new).faults }
+    ensures ask_later { (S.words server.old).faults ≤ (S.words server.new).faults }
+    ensures ask { result ≡ Followed.ServerFault → Rose (S.words server.old).faults
+        (S.words server.new).faults }
+    ensures write_later { (O.words output.old).faults ≤ (O.words output.new).faults }
     ensures write { result ≡ Followed.OutputFault
-        → Rose (O.faults output.old) (O.faults output.new) }
+        → Rose (O.words output.old).faults (O.words output.new).faults }
 {
     let Ok((mut client, request, mut room)) = prepare(alloc, buffer) else {
         return Followed::NoMemory;

@@ -75,13 +75,13 @@ fn is_lines_of(message: &Message, buffer: i64) -> bool
 // Writes the text that a follower knows, where nothing waits. `false` is a fault.
 fn list<R, O: Sink>(rt: &R, output: &mut O, follower: &Follower, page: &mut Page) -> bool
     requires { page.old ≡ [] }
-    ensures all { OnTrue result (O.taken output.new
-        ≡ append_known (O.taken output.old) (text_listed follower.now.mirror)) }
+    ensures all { OnTrue result ((O.words output.new).taken
+        ≡ append_known (O.words output.old).taken (text_listed follower.now.mirror)) }
     ensures nothing { OnTrue result (page.new ≡ []) }
     ensures part { OnFalse result (GoesPartly (text_listed follower.now.mirror)
-        (O.taken output.old) (O.taken output.new)) }
-    ensures later { O.faults output.old ≤ O.faults output.new }
-    ensures failed { OnFalse result (Rose (O.faults output.old) (O.faults output.new)) }
+        (O.words output.old).taken (O.words output.new).taken) }
+    ensures later { (O.words output.old).faults ≤ (O.words output.new).faults }
+    ensures failed { OnFalse result (Rose (O.words output.old).faults (O.words output.new).faults) }
 {
     let Some(text) = follower.text() else {
         return true;
@@ -115,13 +115,13 @@ impl Lister {
         requires steady { IsSteady self.old }
         requires accepted { refusal_in (sent_of message.now) ≡ None }
         ensures takes { (out : List ℕ)
-            × (O.taken output.new ≡ append_known (O.taken output.old) out)
+            × ((O.words output.new).taken ≡ append_known (O.words output.old).taken out)
             × TakesMessage result (known_of self.old) (sent_of message.now)
             (known_of self.new) out }
         ensures steady { OnOk result (IsSteady self.new) }
-        ensures later { O.faults output.old ≤ O.faults output.new }
+        ensures later { (O.words output.old).faults ≤ (O.words output.new).faults }
         ensures fault { result ≡ Err Followed.OutputFault
-            → Rose (O.faults output.old) (O.faults output.new) }
+            → Rose (O.words output.old).faults (O.words output.new).faults }
     {
         if is_detach_of(message, self.buffer) {
             return Err(Followed::Detached);
@@ -150,12 +150,12 @@ impl Lister {
     ) -> Result<(), Followed>
         requires steady { IsSteady self.old }
         ensures takes { (out : List ℕ)
-            × (O.taken output.new ≡ append_known (O.taken output.old) out)
+            × ((O.words output.new).taken ≡ append_known (O.words output.old).taken out)
             × TakesMessage result (known_of self.old) (sent_of message) (known_of self.new) out }
         ensures steady { OnOk result (IsSteady self.new) }
-        ensures later { O.faults output.old ≤ O.faults output.new }
+        ensures later { (O.words output.old).faults ≤ (O.words output.new).faults }
         ensures fault { result ≡ Err Followed.OutputFault
-            → Rose (O.faults output.old) (O.faults output.new) }
+            → Rose (O.words output.old).faults (O.words output.new).faults }
     {
         if is_refusal(&message) {
             return Err(Followed::Refused(refusal_of(message)));
@@ -175,13 +175,13 @@ impl Lister {
         requires steady { IsSteady self.old }
         requires counted { self.old.number < 2 ^ 63 }
         ensures takes { (out : List ℕ)
-            × (O.taken output.new ≡ append_known (O.taken output.old) out)
+            × ((O.words output.new).taken ≡ append_known (O.words output.old).taken out)
             × TakesReceived result (known_of self.old) (received_of incoming)
             (known_of self.new) out }
         ensures steady { OnOk result (IsSteady self.new) }
-        ensures later { O.faults output.old ≤ O.faults output.new }
+        ensures later { (O.words output.old).faults ≤ (O.words output.new).faults }
         ensures fault { result ≡ Err Followed.OutputFault
-            → Rose (O.faults output.old) (O.faults output.new) }
+            → Rose (O.words output.old).faults (O.words output.new).faults }
     {
         match incoming {
             Incoming::Message(message) => {

@@ -45,12 +45,13 @@ impl Page {
 
     // Writes what waits. `false` is a fault.
     fn put_out<R, O: Sink>(&mut self, rt: &R, output: &mut O) -> bool
-        ensures all { OnTrue result (O.taken output.new
-            ≡ append_known (O.taken output.old) self.old) }
+        ensures all { OnTrue result ((O.words output.new).taken
+            ≡ append_known (O.words output.old).taken self.old) }
         ensures nothing { OnTrue result (self.new ≡ []) }
-        ensures part { GoesPartly self.old (O.taken output.old) (O.taken output.new) }
-        ensures later { O.faults output.old ≤ O.faults output.new }
-        ensures failed { OnFalse result (Rose (O.faults output.old) (O.faults output.new)) }
+        ensures part { GoesPartly self.old (O.words output.old).taken (O.words output.new).taken }
+        ensures later { (O.words output.old).faults ≤ (O.words output.new).faults }
+        ensures failed { OnFalse result (Rose (O.words output.old).faults
+            (O.words output.new).faults) }
     {
         if !put_all(rt, output, self.waiting.as_slice()) {
             return false;
@@ -69,12 +70,13 @@ impl Page {
 
     // Adds bytes that don't fit in. `false` is a fault.
     fn put_more<R, O: Sink>(&mut self, rt: &R, output: &mut O, bytes: &[u8]) -> bool
-        ensures all { OnTrue result (IsBuffered (self.old ++ bytes.now) (O.taken output.old)
-            (O.taken output.new) self.new) }
-        ensures part { OnFalse result (GoesPartly (self.old ++ bytes.now) (O.taken output.old)
-            (O.taken output.new)) }
-        ensures later { O.faults output.old ≤ O.faults output.new }
-        ensures failed { OnFalse result (Rose (O.faults output.old) (O.faults output.new)) }
+        ensures all { OnTrue result (IsBuffered (self.old ++ bytes.now) (O.words output.old).taken
+            (O.words output.new).taken self.new) }
+        ensures part { OnFalse result (GoesPartly (self.old ++ bytes.now) (O.words output.old).taken
+            (O.words output.new).taken) }
+        ensures later { (O.words output.old).faults ≤ (O.words output.new).faults }
+        ensures failed { OnFalse result (Rose (O.words output.old).faults
+            (O.words output.new).faults) }
     {
         if !self.put_out(rt, output) {
             return false;
@@ -88,12 +90,13 @@ impl Page {
 
     // Adds bytes. `false` is a fault.
     fn put<R, O: Sink>(&mut self, rt: &R, output: &mut O, bytes: &[u8]) -> bool
-        ensures all { OnTrue result (IsBuffered (self.old ++ bytes.now) (O.taken output.old)
-            (O.taken output.new) self.new) }
-        ensures part { OnFalse result (GoesPartly (self.old ++ bytes.now) (O.taken output.old)
-            (O.taken output.new)) }
-        ensures later { O.faults output.old ≤ O.faults output.new }
-        ensures failed { OnFalse result (Rose (O.faults output.old) (O.faults output.new)) }
+        ensures all { OnTrue result (IsBuffered (self.old ++ bytes.now) (O.words output.old).taken
+            (O.words output.new).taken self.new) }
+        ensures part { OnFalse result (GoesPartly (self.old ++ bytes.now) (O.words output.old).taken
+            (O.words output.new).taken) }
+        ensures later { (O.words output.old).faults ≤ (O.words output.new).faults }
+        ensures failed { OnFalse result (Rose (O.words output.old).faults
+            (O.words output.new).faults) }
     {
         if bytes.len() > ROOM - self.waiting.len() {
             return self.put_more(rt, output, bytes);
@@ -105,11 +108,12 @@ impl Page {
     // Adds a line and its end. `false` is a fault.
     fn put_line<R, O: Sink>(&mut self, rt: &R, output: &mut O, line: &[u8]) -> bool
         ensures all { OnTrue result (IsBuffered (self.old ++ (line.now ++ 10 ∷ []))
-            (O.taken output.old) (O.taken output.new) self.new) }
+            (O.words output.old).taken (O.words output.new).taken self.new) }
         ensures part { OnFalse result (GoesPartly (self.old ++ (line.now ++ 10 ∷ []))
-            (O.taken output.old) (O.taken output.new)) }
-        ensures later { O.faults output.old ≤ O.faults output.new }
-        ensures failed { OnFalse result (Rose (O.faults output.old) (O.faults output.new)) }
+            (O.words output.old).taken (O.words output.new).taken) }
+        ensures later { (O.words output.old).faults ≤ (O.words output.new).faults }
+        ensures failed { OnFalse result (Rose (O.words output.old).faults
+            (O.words output.new).faults) }
     {
         if !self.put(rt, output, line) {
             return false;
@@ -119,12 +123,14 @@ impl Page {
 
     // Adds lines. `false` is a fault.
     fn put_lines<R, O: Sink>(&mut self, rt: &R, output: &mut O, lines: &[Line]) -> bool
-        ensures all { OnTrue result (IsBuffered (self.old ++ flat lines.now) (O.taken output.old)
-            (O.taken output.new) self.new) }
+        ensures all { OnTrue result (IsBuffered (self.old
+            ++ flat lines.now) (O.words output.old).taken
+            (O.words output.new).taken self.new) }
         ensures part { OnFalse result (GoesPartly (self.old ++ flat lines.now)
-            (O.taken output.old) (O.taken output.new)) }
-        ensures later { O.faults output.old ≤ O.faults output.new }
-        ensures failed { OnFalse result (Rose (O.faults output.old) (O.faults output.new)) }
+            (O.words output.old).taken (O.words output.new).taken) }
+        ensures later { (O.words output.old).faults ≤ (O.words output.new).faults }
+        ensures failed { OnFalse result (Rose (O.words output.old).faults
+            (O.words output.new).faults) }
     {
         for line in lines {
             if !self.put_line(rt, output, line.as_slice()) {
@@ -156,14 +162,16 @@ impl Page {
         text: &LineList,
     ) -> bool
         requires { self.old ≡ [] }
-        ensures all { OnTrue result (O.taken output.new ≡ append_known (O.taken output.old)
+        ensures all { OnTrue result ((O.words output.new).taken
+            ≡ append_known (O.words output.old).taken
             (text_heading tick (length text.now) ++ flat text.now)) }
         ensures nothing { OnTrue result (self.new ≡ []) }
         ensures part { OnFalse result (GoesPartly
             (text_heading tick (length text.now) ++ flat text.now)
-            (O.taken output.old) (O.taken output.new)) }
-        ensures later { O.faults output.old ≤ O.faults output.new }
-        ensures failed { OnFalse result (Rose (O.faults output.old) (O.faults output.new)) }
+            (O.words output.old).taken (O.words output.new).taken) }
+        ensures later { (O.words output.old).faults ≤ (O.words output.new).faults }
+        ensures failed { OnFalse result (Rose (O.words output.old).faults
+            (O.words output.new).faults) }
     {
         self.keep_heading(tick, text.len());
         if !self.put_lines(rt, output, text.as_slice()) {

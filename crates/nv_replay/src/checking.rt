@@ -46,11 +46,12 @@ fn pass_one<R, I: Source, W: Watcher>(
 ) -> Result<Step, Unread>
     requires light { IsLightEvent (plain_event upcoming.heading.entry.event) }
     ensures goes { (bytes : List ℕ)
-        × Gave (I.taken source.old) (I.taken source.new) (I.left source.old) (I.left source.new)
+        × Gave (I.words source.old).taken (I.words source.new).taken (I.words source.old).left
+        (I.words source.new).left
         bytes
         × ((fed : List ℕ) (records played : List Recorded) (seen : List Sight)
         → IsComing fed records played seen upcoming tally.old replay.old
-        → GoesOver (fed ++ bytes) (I.left source.new) records played seen result tally.new
+        → GoesOver (fed ++ bytes) (I.words source.new).left records played seen result tally.new
         replay.new) }
     ensures count { OnOk result (length watchers.new.items ≡ length watchers.old.items) }
     ensures along { IfOk result (λ made. (i : ℕ) (old new : W)
@@ -58,9 +59,9 @@ fn pass_one<R, I: Source, W: Watcher>(
         → GoesAlong follows replay.old.world (sight replay.new.world made) (W.HasSeen old)
         (W.IsBehind old) (W.HasSeen new) (W.IsBehind new) (W.Breaks old) (W.Breaks new)) }
     ensures same { replay.new.start ≡ replay.old.start }
-    ensures later { I.faults source.old ≤ I.faults source.new }
+    ensures later { (I.words source.old).faults ≤ (I.words source.new).faults }
     ensures fault { result ≡ Err Unread.ReadFault
-        → Rose (I.faults source.old) (I.faults source.new) }
+        → Rose (I.words source.old).faults (I.words source.new).faults }
 {
     prepare(watchers, replay.world(), &upcoming.heading.entry.event)?;
     let step = compare_next(rt, replay, source, upcoming, tally)?;
@@ -76,11 +77,12 @@ fn go_over<R, I: Source, W: Watcher>(
     watchers: &mut Vec<W>,
 ) -> Result<Tally, Unread>
     ensures goes { (bytes : List ℕ)
-        × Gave (I.taken source.old) (I.taken source.new) (I.left source.old) (I.left source.new)
+        × Gave (I.words source.old).taken (I.words source.new).taken (I.words source.old).left
+        (I.words source.new).left
         bytes
         × (seen : List Sight)
         × ((fed : List ℕ) → IsReplaying fed [] [] replay.old
-        → GoesOverAll (fed ++ bytes) (I.left source.new) seen result replay.new)
+        → GoesOverAll (fed ++ bytes) (I.words source.new).left seen result replay.new)
         × OnOk result ((i : ℕ) (old new : W) (before : List Sight)
         → slice_get watchers.old.items i ≡ Some old → slice_get watchers.new.items i ≡ Some new
         → W.HasSeen old before → W.HasSeen new (before ++ seen)) }
@@ -89,9 +91,9 @@ fn go_over<R, I: Source, W: Watcher>(
         → slice_get watchers.old.items i ≡ Some old → slice_get watchers.new.items i ≡ Some new
         → W.Breaks old before x ↔ W.Breaks new before x) }
     ensures same { replay.new.start ≡ replay.old.start }
-    ensures later { I.faults source.old ≤ I.faults source.new }
+    ensures later { (I.words source.old).faults ≤ (I.words source.new).faults }
     ensures fault { result ≡ Err Unread.ReadFault
-        → Rose (I.faults source.old) (I.faults source.new) }
+        → Rose (I.words source.old).faults (I.words source.new).faults }
 {
     let mut tally = Tally {
         bytes: 0,
@@ -125,10 +127,10 @@ fn conclude<R, S: Sink>(
 ) -> ReplayEnd
     ensures concludes { (count : ℕ) (verdicts : List PlainVerdict) → SaysNoFirst count verdicts no
         → Concludes gone result (plain_entries kept.old.entries) (plain_entries kept.new.entries)
-        (S.taken output.old) (S.taken output.new) count verdicts }
-    ensures later { S.faults output.old ≤ S.faults output.new }
+        (S.words output.old).taken (S.words output.new).taken count verdicts }
+    ensures later { (S.words output.old).faults ≤ (S.words output.new).faults }
     ensures fault { result ≡ ReplayEnd.WriteFault
-        → Rose (S.faults output.old) (S.faults output.new) }
+        → Rose (S.words output.old).faults (S.words output.new).faults }
 {
     let GoneOver { history, tally } = gone;
     let Ok(line) = summary(alloc, history.entries(), tally.bytes) else {
@@ -159,21 +161,23 @@ fn check_replay<R, I: Source, S: Sink, W: Watcher>(
     kept: &mut History,
 ) -> ReplayEnd
     ensures ends { (bytes : List ℕ)
-        × Gave (I.taken source.old) (I.taken source.new) (I.left source.old) (I.left source.new)
+        × Gave (I.words source.old).taken (I.words source.new).taken (I.words source.old).left
+        (I.words source.new).left
         bytes
         × (seen : List Sight) × (verdicts : List PlainVerdict)
         × ((fed : List ℕ) → IsReplaying fed [] [] replay
-        → CheckEnds replay.start.limits result (fed ++ bytes) (I.left source.new)
-        (plain_entries kept.old.entries) (plain_entries kept.new.entries) (S.taken output.old)
-        (S.taken output.new) (length watchers.old.items) seen verdicts)
+        → CheckEnds replay.start.limits result (fed ++ bytes) (I.words source.new).left
+        (plain_entries kept.old.entries) (plain_entries kept.new.entries) (S.words output.old).taken
+        (S.words output.new).taken (length watchers.old.items) seen verdicts)
         × ((i : ℕ) (w : W) (v : PlainVerdict) (before : List Sight)
         → slice_get watchers.old.items i ≡ Some w → slice_get verdicts i ≡ Some v
         → W.HasSeen w before → IsVerdict (W.Breaks w) (before ++ seen) v) }
-    ensures read_later { I.faults source.old ≤ I.faults source.new }
-    ensures read { result ≡ ReplayEnd.ReadFault → Rose (I.faults source.old) (I.faults source.new) }
-    ensures write_later { S.faults output.old ≤ S.faults output.new }
+    ensures read_later { (I.words source.old).faults ≤ (I.words source.new).faults }
+    ensures read { result ≡ ReplayEnd.ReadFault → Rose (I.words source.old).faults
+        (I.words source.new).faults }
+    ensures write_later { (S.words output.old).faults ≤ (S.words output.new).faults }
     ensures write { result ≡ ReplayEnd.WriteFault
-        → Rose (S.faults output.old) (S.faults output.new) }
+        → Rose (S.words output.old).faults (S.words output.new).faults }
 {
     let mut replay = replay;
     match go_over(rt, &mut replay, source, watchers) {
@@ -199,20 +203,23 @@ pub fn check<R, I: Source, S: Sink, W: Watcher>(
     kept: &mut History,
 ) -> ReplayEnd
     ensures ends { (bytes : List ℕ)
-        × Gave (I.taken source.old) (I.taken source.new) (I.left source.old) (I.left source.new)
+        × Gave (I.words source.old).taken (I.words source.new).taken (I.words source.old).left
+        (I.words source.new).left
         bytes
         × (seen : List Sight) × (verdicts : List PlainVerdict)
-        × CheckEnds usual_limits result bytes (I.left source.new) (plain_entries kept.old.entries)
-        (plain_entries kept.new.entries) (S.taken output.old) (S.taken output.new)
+        × CheckEnds usual_limits result bytes (I.words source.new).left
+        (plain_entries kept.old.entries)
+        (plain_entries kept.new.entries) (S.words output.old).taken (S.words output.new).taken
         (length watchers.old.items) seen verdicts
         × ((i : ℕ) (w : W) (v : PlainVerdict) (before : List Sight)
         → slice_get watchers.old.items i ≡ Some w → slice_get verdicts i ≡ Some v
         → W.HasSeen w before → IsVerdict (W.Breaks w) (before ++ seen) v) }
-    ensures read_later { I.faults source.old ≤ I.faults source.new }
-    ensures read { result ≡ ReplayEnd.ReadFault → Rose (I.faults source.old) (I.faults source.new) }
-    ensures write_later { S.faults output.old ≤ S.faults output.new }
+    ensures read_later { (I.words source.old).faults ≤ (I.words source.new).faults }
+    ensures read { result ≡ ReplayEnd.ReadFault → Rose (I.words source.old).faults
+        (I.words source.new).faults }
+    ensures write_later { (S.words output.old).faults ≤ (S.words output.new).faults }
     ensures write { result ≡ ReplayEnd.WriteFault
-        → Rose (S.faults output.old) (S.faults output.new) }
+        → Rose (S.words output.old).faults (S.words output.new).faults }
 {
     match Replay::open(rt, alloc, usual_limits(), source) {
         Ok(replay) => check_replay(rt, alloc, replay, source, watchers, output, kept),

@@ -30,10 +30,12 @@ pub fn keep_book<R, S: Sink>(
     requires outbox { IsOutboxSize start.outbox }
     requires limits { 1 ≤ start.limits.entries }
     requires runs { IsSome (run start.outbox start.limits (plain_entries history.now.entries)) }
-    ensures ends { WriteEnds start result (plain_entries history.now.entries) (S.taken sink.old)
-        (S.taken sink.new) }
-    ensures later { S.faults sink.old ≤ S.faults sink.new }
-    ensures fault { result ≡ WriteEnd.WriteFault → Rose (S.faults sink.old) (S.faults sink.new) }
+    ensures ends { WriteEnds start result (plain_entries history.now.entries)
+        (S.words sink.old).taken
+        (S.words sink.new).taken }
+    ensures later { (S.words sink.old).faults ≤ (S.words sink.new).faults }
+    ensures fault { result ≡ WriteEnd.WriteFault → Rose (S.words sink.old).faults
+        (S.words sink.new).faults }
 {
     match write_book(rt, alloc, start, history, sink) {
         Ok(()) => WriteEnd::Done,
@@ -98,11 +100,11 @@ pub fn generate<R, S: Sink>(
     requires limits { 1 ≤ limits.entries }
     requires outbox { IsOutboxSize outbox }
     ensures ends { WriteEnds (start_within outbox limits) result
-        (entered (fresh_world outbox limits) (script_of number)) (S.taken output.old)
-        (S.taken output.new) }
-    ensures later { S.faults output.old ≤ S.faults output.new }
+        (entered (fresh_world outbox limits) (script_of number)) (S.words output.old).taken
+        (S.words output.new).taken }
+    ensures later { (S.words output.old).faults ≤ (S.words output.new).faults }
     ensures fault { result ≡ WriteEnd.WriteFault
-        → Rose (S.faults output.old) (S.faults output.new) }
+        → Rose (S.words output.old).faults (S.words output.new).faults }
 {
     match history_of_script(alloc, limits, outbox, number) {
         Ok(history) => keep_book(rt, alloc, Start { outbox, limits }, &history, output),

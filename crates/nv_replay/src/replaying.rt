@@ -32,10 +32,10 @@ fn write_outputs<R, S: Sink>(
     requires fit { AreWritable (plain_entries book.history.entries) }
     ensures kept { kept.new.entries ≡ book.history.entries }
     ensures writes { WritesOutputs book.start result (plain_entries book.history.entries)
-        (S.taken output.old) (S.taken output.new) }
-    ensures later { S.faults output.old ≤ S.faults output.new }
+        (S.words output.old).taken (S.words output.new).taken }
+    ensures later { (S.words output.old).faults ≤ (S.words output.new).faults }
     ensures fault { result ≡ ReplayEnd.WriteFault
-        → Rose (S.faults output.old) (S.faults output.new) }
+        → Rose (S.words output.old).faults (S.words output.new).faults }
 {
     let written = write_replay(rt, alloc, book.start, &book.history, output);
     *kept = book.history;
@@ -58,16 +58,18 @@ pub fn replay<R, I: Source, S: Sink>(
     kept: &mut History,
 ) -> ReplayEnd
     ensures ends { (bytes : List ℕ)
-        × Gave (I.taken source.old) (I.taken source.new) (I.left source.old) (I.left source.new)
+        × Gave (I.words source.old).taken (I.words source.new).taken (I.words source.old).left
+        (I.words source.new).left
         bytes
-        × ReplayEnds usual_limits result bytes (I.left source.new)
-        (plain_entries kept.old.entries) (plain_entries kept.new.entries) (S.taken output.old)
-        (S.taken output.new) }
-    ensures read_later { I.faults source.old ≤ I.faults source.new }
-    ensures read { result ≡ ReplayEnd.ReadFault → Rose (I.faults source.old) (I.faults source.new) }
-    ensures write_later { S.faults output.old ≤ S.faults output.new }
+        × ReplayEnds usual_limits result bytes (I.words source.new).left
+        (plain_entries kept.old.entries) (plain_entries kept.new.entries) (S.words output.old).taken
+        (S.words output.new).taken }
+    ensures read_later { (I.words source.old).faults ≤ (I.words source.new).faults }
+    ensures read { result ≡ ReplayEnd.ReadFault → Rose (I.words source.old).faults
+        (I.words source.new).faults }
+    ensures write_later { (S.words output.old).faults ≤ (S.words output.new).faults }
     ensures write { result ≡ ReplayEnd.WriteFault
-        → Rose (S.faults output.old) (S.faults output.new) }
+        → Rose (S.words output.old).faults (S.words output.new).faults }
 {
     match read_book(rt, alloc, usual_limits(), source) {
         Ok(book) => write_outputs(rt, alloc, book, output, kept),

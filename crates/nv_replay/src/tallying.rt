@@ -43,18 +43,19 @@ pub fn compare_next<R, I: Source>(
 ) -> Result<Step, Unread>
     requires light { IsLightEvent (plain_event upcoming.heading.entry.event) }
     ensures goes { (bytes : List ℕ)
-        × Gave (I.taken source.old) (I.taken source.new) (I.left source.old) (I.left source.new)
+        × Gave (I.words source.old).taken (I.words source.new).taken (I.words source.old).left
+        (I.words source.new).left
         bytes
         × ((fed : List ℕ) (records played : List Recorded) (seen : List Sight)
         → IsComing fed records played seen upcoming tally.old replay.old
-        → GoesOver (fed ++ bytes) (I.left source.new) records played seen result tally.new
+        → GoesOver (fed ++ bytes) (I.words source.new).left records played seen result tally.new
         replay.new) }
     ensures enters { IfOk result
         (HasEntered upcoming.heading.entry replay.old.world replay.new.world) }
     ensures same { replay.new.start ≡ replay.old.start }
-    ensures later { I.faults source.old ≤ I.faults source.new }
+    ensures later { (I.words source.old).faults ≤ (I.words source.new).faults }
     ensures fault { result ≡ Err Unread.ReadFault
-        → Rose (I.faults source.old) (I.faults source.new) }
+        → Rose (I.words source.old).faults (I.words source.new).faults }
 {
     let step = replay.play(rt, source, upcoming)?;
     tally.add(step.at, replay.recorded(), step.sent.as_slice());

@@ -4,6 +4,7 @@ use Rattle.std.specs.Prelude.{IsSome, take}
 use Rattle.std.specs.Io.KnownBytes.{append_known}
 use Rattle.std.proofs.lemmas.List.{append-nil}
 use Rattle.nv_io.specs.Faults.{Rose}
+use Rattle.nv_io.specs.Words.{SinkWords, SourceWords}
 use Rattle.nv_dispatch.specs.Runs.{usual_limits}
 use Rattle.nv_history.specs.Events.{Entry}
 use Rattle.nv_world.specs.Contents.{plain_entries}
@@ -59,21 +60,21 @@ plays_run : (check : Bool) (count : ℕ) (Say : List Sight → List Verdict → 
 plays_run true count Say ended bytes left found kept before after none h = check_runs ended bytes left found kept before after count h.0 h.1 none h.2
 plays_run false count Say ended bytes left found kept before after none h = replay_runs ended bytes left found kept before after none h
 
-pub file_runs : {I : Type 0} (taken rest : I → Option (List ℕ)) (faults : I → ℕ) (ended : ReplayEnd) (rose : Type 0) (check : Bool) (count : ℕ) (Say : List Sight → List Verdict → Type 0) (found : List world.Entry) (kept : List Entry)
+pub file_runs : {I : Type 0} (words : I → SourceWords) (ended : ReplayEnd) (rose : Type 0) (check : Bool) (count : ℕ) (Say : List Sight → List Verdict → Type 0) (found : List world.Entry) (kept : List Entry)
     (before after : Option (List ℕ)) (olds news : Option (List I)) → found ≡ []
-    → LeavesFile taken rest faults ended rose (IsNothingDone (plain_entries found) kept before after) (λ bytes left. PlaysBook check count Say ended bytes left (plain_entries found) kept before after) olds news → RunsSomehow kept
-file_runs taken rest faults ended rose check count Say found kept before after olds news none (inl h) =
-    plays_run check count Say ended h.bytes (rest h.back) (plain_entries found) kept before after (ap plain_entries none) h.plays
-file_runs taken rest faults ended rose check count Say found kept before after olds news none (inr h) =
+    → LeavesFile words ended rose (IsNothingDone (plain_entries found) kept before after) (λ bytes left. PlaysBook check count Say ended bytes left (plain_entries found) kept before after) olds news → RunsSomehow kept
+file_runs words ended rose check count Say found kept before after olds news none (inl h) =
+    plays_run check count Say ended h.bytes (words h.back).left (plain_entries found) kept before after (ap plain_entries none) h.plays
+file_runs words ended rose check count Say found kept before after olds news none (inr h) =
     nothing_runs_so (plain_entries found) kept before after (ap plain_entries none) h.none
 
 -- ---- books
 
-pub book_written : {S : Type 0} (taken : S → Option (List ℕ)) (faults : S → ℕ) (start : Start) (kept : List Entry) (written : WriteEnd) (ended later : ServerEnd) (given back : S) → WriteEnds start written kept (taken given) (taken back)
-    → IsEndOfBook written ended later → (written ≡ write.WriteFault → Rose (faults given) (faults back)) → WritesBook taken faults start kept later given back
-book_written taken faults start kept write.Done ended later given back h end fault = inl h
-book_written taken faults start kept write.NoMemory ended later given back h end fault = inr (h, inl end)
-book_written taken faults start kept write.WriteFault ended later given back h end fault = inr (h, inr (fault refl))
+pub book_written : {S : Type 0} (words : S → SinkWords) (start : Start) (kept : List Entry) (written : WriteEnd) (ended later : ServerEnd) (given back : S) → WriteEnds start written kept (words given).taken (words back).taken
+    → IsEndOfBook written ended later → (written ≡ write.WriteFault → Rose (words given).faults (words back).faults) → WritesBook words start kept later given back
+book_written words start kept write.Done ended later given back h end fault = inl h
+book_written words start kept write.NoMemory ended later given back h end fault = inr (h, inl end)
+book_written words start kept write.WriteFault ended later given back h end fault = inr (h, inr (end, fault refl))
 
 no_fault : (e : ServerEnd) → e ≡ server.NoMemory → e ≡ server.WriteFault → ⊥
 no_fault e h k = memory_is (sym h ∙ k)

@@ -14,7 +14,7 @@ use Rattle.nv_model.specs.declared.parts.Limits.{Limits}
 use Rattle.nv_dispatch.specs.Runs.{usual_limits}
 use Rattle.nv_serve.specs.Headline.{ServerLeaves}
 use Rattle.nv_serve.specs.Jobs.{lanes_of}
-use Rattle.nv_serve.specs.Links.{LanesTell}
+use Rattle.nv_serve.specs.Links.{LanesWords}
 use Rattle.nv_serve.specs.declared.job.Job.{Job}
 use Rattle.nv_run.specs.Commands.{usual_start}
 use Rattle.nv_run.specs.Serving.{LeavesLanes, ServerEnds, ServesLanes, ServesNobody, ServesWell, ServesWithFault}
@@ -48,7 +48,7 @@ lent_whole xs ys n e = take-append-le n ys (drop (length ys) xs) (omega (arith, 
 pub back_whole : {L : Type 0} (before mid after : Option (List L)) (whole news : List (Job L)) → after ≡ append_items mid (lanes_of whole) → mid ≡ before → whole ≡ news → after ≡ append_items before (lanes_of news)
 back_whole before mid after whole news e f h = e ∙ ap (λ known. append_items known (lanes_of whole)) f ∙ ap (λ js. append_items before (lanes_of js)) h
 
-module _ {L I S : Type 0} (t : LanesTell L I S) (start : Start) where
+module _ {L I S : Type 0} (t : LanesWords L I S) (start : Start) where
   -- the history of a server runs
   lanes_run : (sessions : ℕ) (kept : List Entry) (olds news : List L) → ServesLanes t start sessions kept olds news → IsSome (world_after start kept)
   lanes_run sessions kept olds news h = some_there (world_after start kept) h.1.world h.1.runs
@@ -129,7 +129,7 @@ module _ {L I S : Type 0} (t : LanesTell L I S) (start : Start) where
 
   -- the port failed, and the lanes that it gave came back
   pub port_failed : (sessions : ℕ) (kept : List world.Entry) (rose : Type 0) (lanes : List L) (before after : Option (List L)) → kept ≡ [] → rose
-      → All (λ lane. IsFreshLane (t.over lane) (t.lent lane) (t.faults lane)) lanes → after ≡ append_items before lanes → ServerEnds t start sessions (plain_entries kept) Failed rose before after
+      → All (λ lane. IsFreshLane (t.lane lane).over (t.lane lane).lent (t.lane lane).faults) lanes → after ≡ append_items before lanes → ServerEnds t start sessions (plain_entries kept) Failed rose before after
   port_failed sessions kept rose lanes before after none rises fresh back = record {
     olds = lanes;
     news = lanes;
@@ -140,7 +140,7 @@ module _ {L I S : Type 0} (t : LanesTell L I S) (start : Start) where
 
   -- the lanes were served, that were lent for it
   pub lanes_served : (n sessions : ℕ) (kept : List Entry) (ended : ServerEnd) (rose : Type 0) (lent olds news : List L) (before after : Option (List L)) → n ≡ sessions → lent ≡ olds
-      → All (λ lane. IsFreshLane (t.over lane) (t.lent lane) (t.faults lane)) olds → after ≡ append_items before news → LeavesLanes t start n kept ended ⊥ lent news
+      → All (λ lane. IsFreshLane (t.lane lane).over (t.lane lane).lent (t.lane lane).faults) olds → after ≡ append_items before news → LeavesLanes t start n kept ended ⊥ lent news
       → ServerEnds t start sessions kept ended rose before after
   lanes_served n sessions kept ended rose lent olds news before after e same fresh back leaves = record {
     olds = olds;
@@ -150,7 +150,7 @@ module _ {L I S : Type 0} (t : LanesTell L I S) (start : Start) where
     leaves = leaves_so_many n sessions kept ended rose olds news e (subst (λ (l : List L). LeavesLanes t start n kept ended ⊥ l news) same leaves);
   }
 
-module _ {L I S : Type 0} (t : LanesTell L I S) (outbox n : ℕ) (kept : List Entry) (spent failed : Bool) (olds news : List L) where
+module _ {L I S : Type 0} (t : LanesWords L I S) (outbox n : ℕ) (kept : List Entry) (spent failed : Bool) (olds news : List L) where
   left_so : (start : Start) (ended : ServerEnd) → length olds ≡ n → ServerLeaves t start kept spent failed olds news → (ended ≡ Done → (spent ≡ false) × (failed ≡ false)) → (ended ≡ Failed → (spent ≡ false) × (failed ≡ true))
       → (ended ≡ WriteFault → ⊥) → LeavesLanes t start n kept ended ⊥ olds news
   left_so start Done e h done fault other = let d = done refl in ((e, h.served), h.well d.0 d.1)

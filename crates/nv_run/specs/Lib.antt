@@ -3,6 +3,7 @@ pub mod Following
 pub mod Mirroring
 pub mod Notices
 pub mod Replaying
+pub mod Runs
 pub mod Serving
 pub mod Statuses
 pub mod inside

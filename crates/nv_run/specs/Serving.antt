@@ -3,15 +3,16 @@ use Rattle.std.specs.Prelude.{◌≡◌, ◌⊎◌, ℕ, List, [], ◌∷◌, le
 use Rattle.nv_io.specs.Faults.{Rose}
 use Rattle.nv_io.specs.Known.{append_items, IsUnused}
 use Rattle.nv_io.specs.Lanes.{IsFreshLane}
+use Rattle.nv_io.specs.Words.{SinkWords}
 use Rattle.nv_history.specs.Events.{Entry}
 use Rattle.nv_world.specs.declared.story.Start.{Start}
 use Rattle.nv_book.specs.Writing.{WroteBook, WroteBookFront}
 use Rattle.nv_serve.specs.Headline.{AreServed, AreServedOrFailed, HasFault, Headline}
-use Rattle.nv_serve.specs.Links.{LanesTell}
+use Rattle.nv_serve.specs.Links.{LanesWords}
 use Rattle.nv_run.specs.declared.serving.ServerEnd.{ServerEnd}
 use Rattle.nv_run.specs.declared.serving.ServerEnd.TheVariants.{Done, Failed, NoMemory, WriteFault}
 
-module _ {L I S : Type 0} (t : LanesTell L I S) (start : Start) (sessions : ℕ)
+module _ {L I S : Type 0} (t : LanesWords L I S) (start : Start) (sessions : ℕ)
     (kept : List Entry) where
   -- nobody was served: the history is empty, and the lanes are as they were
   abbrev pub ServesNobody : List L → List L → Type 0
@@ -45,28 +46,30 @@ module _ {L I S : Type 0} (t : LanesTell L I S) (start : Start) (sessions : ℕ)
       : Type 0 where
     pub olds : List L
     pub news : List L
-    pub fresh : All (λ lane. IsFreshLane (t.over lane) (t.lent lane) (t.faults lane)) olds
+    pub fresh : All (λ lane. IsFreshLane (t.lane lane).over (t.lane lane).lent
+        (t.lane lane).faults) olds
     pub back : after ≡ append_items before news
     pub leaves : LeavesLanes ended rose olds news
 
-module _ {S : Type 0} (taken : S → Option (List ℕ)) (faults : S → ℕ) (start : Start)
-    (kept : List Entry) (ended : ServerEnd) where
-  -- the book of the history went out to a sink, as it was given and as it came back; or where
-  -- memory was wanting or writing failed a prefix of it did
+module _ {S : Type 0} (words : S → SinkWords) (start : Start) (kept : List Entry)
+    (ended : ServerEnd) where
+  -- The book of the history went out to a sink, as it was given and as it came back. Or a prefix of
+  -- it did, where memory was wanting, or where the sink's faults rose and the end isn't Done.
   abbrev pub WritesBook : S → S → Type 0
   WritesBook given back =
-      WroteBook start kept (taken given) (taken back)
-      ⊎ (WroteBookFront start kept (taken given) (taken back)
-      × ((ended ≡ NoMemory) ⊎ Rose (faults given) (faults back)))
+      WroteBook start kept (words given).taken (words back).taken
+      ⊎ (WroteBookFront start kept (words given).taken (words back).taken
+      × ((ended ≡ NoMemory)
+      ⊎ ((ended ≡ Done → ⊥) × Rose (words given).faults (words back).faults)))
 
   -- a fresh sink was given for the book, and came back
   pub record BookBack (before after : Option (List S)) : Type 0 where
     pub given : S
     pub back : S
-    pub fresh : IsUnused (taken given) (faults given)
+    pub fresh : IsUnused (words given).taken (words given).faults
     pub returned : after ≡ append_items before (back ∷ [])
     pub writes : WritesBook given back
-    pub fault : ended ≡ WriteFault → Rose (faults given) (faults back)
+    pub fault : ended ≡ WriteFault → Rose (words given).faults (words back).faults
 
   -- or none was given, where memory was wanting or the count of faults of the files rose, as `rose`
   -- says; and nobody was served

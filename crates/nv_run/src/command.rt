@@ -1,29 +1,16 @@
 //! The command line: what the program does for its words.
-ghost use Rattle.std.specs.Prelude.{◌≡◌, ◌⊎◌, ◌++◌, ℕ, pos, List, [], IsSome, None, Some, length, map, slice_get};
+ghost use Rattle.std.specs.Prelude.{◌≡◌, ◌⊎◌, ℕ, List, [], IsSome, Some, length, map};
 ghost use Rattle.nv_io.specs.Faults.{Rose};
-ghost use Rattle.nv_io.specs.Streams.{GaveEach, Tells, words_of};
+ghost use Rattle.nv_io.specs.Streams.{GaveEach, Tells};
 ghost use Rattle.nv_io.specs.declared.lanes.Ended.{Ended};
-ghost use Rattle.nv_dispatch.specs.Runs.{usual_limits};
-ghost use Rattle.nv_history.specs.Worlds.{fresh_world};
-ghost use Rattle.nv_gen.specs.Story.{script_of};
-ghost use Rattle.nv_watch.specs.Verdicts.{IsVerdict, Sight};
-ghost use Rattle.nv_watch.specs.declared.verdict.Verdict.{Verdict};
-ghost use Rattle.nv_replay.specs.Ends.{IsNothingDone, WriteEnds};
-ghost use Rattle.nv_replay.specs.Entering.{entered};
-ghost use Rattle.nv_words.specs.Commands.{AreWords, HasFairNumbers, command_asked, plain_command};
+ghost use Rattle.nv_words.specs.Commands.{HasFairNumbers, command_asked, plain_command};
 ghost use Rattle.nv_world.specs.Contents.{plain_entries};
 ghost use Rattle.nv_session.specs.Ends.{SessionEnds};
 ghost use Rattle.nv_session.specs.Sending.{world_after, HasSession};
-ghost use Rattle.nv_run.specs.Commands.{IfEmbed, IfFollow, IfGenerate, IfNotice, IfReplay, IfServer, MayDial, MayListen, MayOpen, RunsAs, usual_start};
-ghost use Rattle.nv_run.specs.Following.{HasMarksInPlace, IsFolded, IsShown};
-ghost use Rattle.nv_run.specs.Mirroring.{LeavesDial};
-ghost use Rattle.nv_run.specs.Notices.{WritesText, text_of_notice};
-ghost use Rattle.nv_run.specs.declared.mirroring.FollowEnd.{FollowEnd};
-ghost use Rattle.nv_mirror.specs.declared.followed.Followed.TheVariants.{OutputFault};
-ghost use Rattle.nv_run.specs.Replaying.{LeavesFile, PlaysBook};
-ghost use Rattle.nv_run.specs.Serving.{IfBook, LeavesBook, ServerEnds};
-ghost use Rattle.nv_run.specs.Statuses.{line_of, line_of_follow, line_of_refusal, line_of_replay, line_of_script, line_of_server, status_of, status_of_follow, status_of_replay, status_of_script, status_of_server};
-ghost use Rattle.nv_run.specs.declared.serving.ServerEnd.{ServerEnd};
+ghost use Rattle.nv_run.specs.Commands.{MayDial, MayListen, MayOpen, RunsAs, usual_start};
+ghost use Rattle.nv_run.specs.Replaying.{AreVerdicts};
+ghost use Rattle.nv_run.specs.Runs.{CommandEnds, RunEnds};
+ghost use Rattle.nv_run.specs.Statuses.{line_of_refusal};
 ghost use Rattle.nv_world.specs.Worlds.{IsOutboxSize};
 
 use crate::mirroring::follow;
@@ -56,8 +43,7 @@ pub const USUAL_OUTBOX: u32 = 4_096;
 fn refuse<R, E: Sink>(rt: &R, errors: &mut E, refusal: Refusal) -> u8
     ensures memory { refusal ≡ Refusal.NoMemory → result ≡ 1 }
     ensures bad { refusal ≡ Refusal.BadWords → result ≡ 2 }
-    ensures line { Tells (line_of_refusal result) (E.taken errors.old) (E.taken errors.new)
-        (E.faults errors.old) (E.faults errors.new) }
+    ensures line { Tells (line_of_refusal result) (E.words errors.old) (E.words errors.new) }
 {
     match refusal {
         Refusal::NoMemory => {
@@ -83,15 +69,17 @@ fn embed<R, I: Source, S: Sink>(
     requires outbox { IsOutboxSize outbox }
     requires empty { kept.old.entries ≡ [] }
     ensures ends { (pieces : List (List ℕ))
-        × GaveEach (words_of I.taken I.left I.reads input.old)
-        (words_of I.taken I.left I.reads input.new) pieces
-        × SessionEnds (usual_start outbox) result pieces (I.left input.new)
-        (plain_entries kept.new.entries) (S.taken output.old) (S.taken output.new) }
+        × GaveEach (I.words input.old)
+        (I.words input.new) pieces
+        × SessionEnds (usual_start outbox) result pieces (I.words input.new).left
+        (plain_entries kept.new.entries) (S.words output.old).taken (S.words output.new).taken }
     ensures has { (kept.new.entries ≡ [])
         ⊎ HasSession (usual_start outbox) (plain_entries kept.new.entries) }
     ensures runs { IsSome (world_after (usual_start outbox) (plain_entries kept.new.entries)) }
-    ensures read { result ≡ Ended.ReadFault → Rose (I.faults input.old) (I.faults input.new) }
-    ensures write { result ≡ Ended.WriteFault → Rose (S.faults output.old) (S.faults output.new) }
+    ensures read { result ≡ Ended.ReadFault → Rose (I.words input.old).faults
+        (I.words input.new).faults }
+    ensures write { result ≡ Ended.WriteFault → Rose (S.words output.old).faults
+        (S.words output.new).faults }
 {
     let Ok(mut world) = World::new(alloc, usual_limits(), outbox) else {
         return Ended::NoMemory;
@@ -134,102 +122,45 @@ fn perform<
     requires dial { MayDial D.may (Some (plain_command command)) }
     requires empty { kept.old.entries ≡ [] }
     ensures other { result ≡ 2 → ⊥ }
-    ensures session { IfEmbed (Some (plain_command command.entry)) (λ outbox.
-        (ended : Ended) × (pieces : List (List ℕ)) × (result ≡ status_of ended)
-        × GaveEach (words_of I.taken I.left I.reads input.old)
-        (words_of I.taken I.left I.reads input.new) pieces
-        × SessionEnds (usual_start outbox) ended pieces (I.left input.new)
-        (plain_entries kept.new.entries) (S.taken output.old) (S.taken output.new)
-        × (ended ≡ Ended.ReadFault → Rose (I.faults input.old) (I.faults input.new))
-        × (ended ≡ Ended.WriteFault → Rose (S.faults output.old) (S.faults output.new))
-        × (files.new ≡ files.old) × (port.new ≡ port.old) × (dial.new ≡ dial.old)
-        × Tells (line_of ended) (E.taken errors.old) (E.taken errors.new) (E.faults errors.old)
-        (E.faults errors.new)) }
-    ensures server { IfServer (Some (plain_command command.entry)) (λ sessions outbox book.
-        (ended : ServerEnd) × (result ≡ status_of_server ended)
-        × ServerEnds (record {
-          ends = record {
-            taken = P.Line.In.Source.taken;
-            left = P.Line.In.Source.left;
-            sent = P.Line.Out.Sink.taken;
-            faults = P.Line.Out.Sink.faults;
-          };
-          read_faults = P.Line.In.Source.faults;
-          coming = P.Line.Lane.coming;
-          over = P.Line.Lane.over;
-          lent = P.Line.Lane.lent;
-          faults = P.Line.Lane.faults;
-        }) (usual_start outbox) sessions (plain_entries kept.new.entries) ended
-        (Rose (P.faults port.old) (P.faults port.new)) (P.returned port.old) (P.returned port.new)
-        × IfBook book (files.new ≡ files.old)
-        (LeavesBook F.To.Sink.taken F.To.Sink.faults (usual_start outbox)
-        (plain_entries kept.new.entries) ended (Rose (F.faults files.old) (F.faults files.new))
-        (F.returned_sinks files.old) (F.returned_sinks files.new))
-        × (F.returned_sources files.new ≡ F.returned_sources files.old)
-        × (P.lent port.new ≡ P.lent port.old)
-        × (input.new ≡ input.old) × (output.new ≡ output.old) × (dial.new ≡ dial.old)
-        × Tells (line_of_server ended) (E.taken errors.old) (E.taken errors.new)
-        (E.faults errors.old) (E.faults errors.new)) }
-    ensures replay { IfReplay (Some (plain_command command.entry)) (λ check.
-        (ended : ReplayEnd) × (result ≡ status_of_replay ended)
-        × LeavesFile F.From.Source.taken F.From.Source.left F.From.Source.faults ended
-        (Rose (F.faults files.old) (F.faults files.new))
-        (IsNothingDone (plain_entries kept.old.entries) (plain_entries kept.new.entries)
-        (S.taken output.old) (S.taken output.new))
-        (λ bytes left. PlaysBook check (length watchers.items)
-        (λ seen verdicts. (i : ℕ) (w : W) (v : Verdict) (before : List Sight)
-        → slice_get watchers.items i ≡ Some w → slice_get verdicts i ≡ Some v
-        → W.HasSeen w before → IsVerdict (W.Breaks w) (before ++ seen) v)
-        ended bytes left (plain_entries kept.old.entries) (plain_entries kept.new.entries)
-        (S.taken output.old) (S.taken output.new))
-        (F.returned_sources files.old) (F.returned_sources files.new)
-        × (ended ≡ ReplayEnd.WriteFault → Rose (S.faults output.old) (S.faults output.new))
-        × (F.returned_sinks files.new ≡ F.returned_sinks files.old)
-        × (input.new ≡ input.old) × (port.new ≡ port.old) × (dial.new ≡ dial.old)
-        × Tells (line_of_replay ended) (E.taken errors.old) (E.taken errors.new)
-        (E.faults errors.old) (E.faults errors.new)) }
-    ensures generate { IfGenerate (Some (plain_command command.entry)) (λ number.
-        (ended : WriteEnd) × (result ≡ status_of_script ended)
-        × WriteEnds (usual_start USUAL_OUTBOX) ended
-        (entered (fresh_world USUAL_OUTBOX usual_limits) (script_of number)) (S.taken output.old)
-        (S.taken output.new)
-        × (ended ≡ WriteEnd.WriteFault → Rose (S.faults output.old) (S.faults output.new))
-        × (kept.new ≡ kept.old)
-        × (input.new ≡ input.old) × (files.new ≡ files.old) × (port.new ≡ port.old)
-        × (dial.new ≡ dial.old)
-        × Tells (line_of_script ended) (E.taken errors.old) (E.taken errors.new)
-        (E.faults errors.old) (E.faults errors.new)) }
-    ensures follow { IfFollow (Some (plain_command command.entry)) (λ buffer.
-        (ended : FollowEnd) × (result ≡ status_of_follow ended)
-        × LeavesDial (record {
-          taken = D.In.Source.taken;
-          left = D.In.Source.left;
-          reads = D.In.Source.reads;
-          read_faults = D.In.Source.faults;
-          sent = D.Out.Sink.taken;
-          sent_faults = D.Out.Sink.faults;
-        }) (pos buffer) ended (
-          (D.faults dial.old, D.faults dial.new),
-          (D.returned dial.old, D.returned dial.new),
-        ) (S.taken output.old, S.taken output.new)
-        × (ended ≡ FollowEnd.Connected OutputFault
-        → Rose (S.faults output.old) (S.faults output.new))
-        × (kept.new ≡ kept.old)
-        × (input.new ≡ input.old) × (files.new ≡ files.old) × (port.new ≡ port.old)
-        × Tells (line_of_follow ended) (E.taken errors.old) (E.taken errors.new)
-        (E.faults errors.old) (E.faults errors.new)) }
-    ensures notice { IfNotice (Some (plain_command command.entry)) (λ notice.
-        (ended : WriteEnd) × (result ≡ status_of_script ended)
-        × WritesText (text_of_notice notice) ended (S.taken output.old) (S.taken output.new)
-        × (ended ≡ WriteEnd.WriteFault → Rose (S.faults output.old) (S.faults output.new))
-        × (kept.new ≡ kept.old)
-        × (input.new ≡ input.old) × (files.new ≡ files.old) × (port.new ≡ port.old)
-        × (dial.new ≡ dial.old)
-        × Tells (line_of_script ended) (E.taken errors.old) (E.taken errors.new)
-        (E.faults errors.old) (E.faults errors.new)) }
-    ensures back { (F.lent_sources files.new ≡ F.lent_sources files.old)
-        × (F.lent_sinks files.new ≡ F.lent_sinks files.old)
-        × (D.lent dial.new ≡ D.lent dial.old) }
+    ensures command { CommandEnds (record {
+      input = I.words;
+      output = S.words;
+      errors = E.words;
+      files = F.words;
+      from = F.From.Source.words;
+      to = F.To.Sink.words;
+      port = P.words;
+      lanes = record {
+        input = P.Line.In.Source.words;
+        output = P.Line.Out.Sink.words;
+        lane = P.Line.Lane.words;
+      };
+      dial = D.words;
+      halves = record {
+        input = D.In.Source.words;
+        output = D.Out.Sink.words;
+      };
+    }) result (record {
+      input = input.old;
+      output = output.old;
+      errors = errors.old;
+      files = files.old;
+      port = port.old;
+      dial = dial.old;
+      kept = kept.old;
+    }) (record {
+      input = input.new;
+      output = output.new;
+      errors = errors.new;
+      files = files.new;
+      port = port.new;
+      dial = dial.new;
+      kept = kept.new;
+    }) (length watchers.items) (AreVerdicts W.HasSeen W.Breaks watchers.items)
+        (Some (plain_command command.entry)) }
+    ensures back { ((F.words files.new).lent_sources ≡ (F.words files.old).lent_sources)
+        × ((F.words files.new).lent_sinks ≡ (F.words files.old).lent_sinks)
+        × ((D.words dial.new).lent ≡ (D.words dial.old).lent) }
     ensures runs { RunsAs (Some (plain_command command.entry)) (plain_entries kept.new.entries) }
 {
     match command {
@@ -321,149 +252,47 @@ pub fn run<
     requires dial { MayDial D.may (command_asked (map (λ word. word.now) words.now)) }
 
     // Exactly the words are refused that the parser refuses for another cause than memory, help and
-    // version excepted, and then nothing is read, kept or written to `output`, nor where no command
-    // is found for want of it.
-    ensures words { result ≡ 2 → AreWords (map (λ word. word.now) words.now) → ⊥ }
-    ensures refused { (AreWords (map (λ word. word.now) words.now) → ⊥)
-        ⊎ (command_asked (map (λ word. word.now) words.now) ≡ None)
-        → ((result ≡ 1) ⊎ (result ≡ 2))
-        × (input.new ≡ input.old) × (output.new ≡ output.old) × (kept.new ≡ kept.old)
-        × (files.new ≡ files.old) × (port.new ≡ port.old) × (dial.new ≡ dial.old)
-        × Tells (line_of_refusal result) (E.taken errors.old) (E.taken errors.new)
-        (E.faults errors.old) (E.faults errors.new) }
-
-    // Where the words ask for one session, there is an end of it that the status and the line tell,
-    // of what each read gave and the history that was kept. Faults come only where they rose.
-    ensures session { AreWords (map (λ word. word.now) words.now)
-        → IfEmbed (command_asked (map (λ word. word.now) words.now)) (λ outbox.
-        (ended : Ended) × (pieces : List (List ℕ)) × (result ≡ status_of ended)
-        × GaveEach (words_of I.taken I.left I.reads input.old)
-        (words_of I.taken I.left I.reads input.new) pieces
-        × SessionEnds (usual_start outbox) ended pieces (I.left input.new)
-        (plain_entries kept.new.entries) (S.taken output.old) (S.taken output.new)
-        × (ended ≡ Ended.ReadFault → Rose (I.faults input.old) (I.faults input.new))
-        × (ended ≡ Ended.WriteFault → Rose (S.faults output.old) (S.faults output.new))
-        × (files.new ≡ files.old) × (port.new ≡ port.old) × (dial.new ≡ dial.old)
-        × Tells (line_of ended) (E.taken errors.old) (E.taken errors.new) (E.faults errors.old)
-        (E.faults errors.new)) }
-
-    // Where they ask for a server, there is an end of it that the status and the line tell: what
-    // its lanes served, by the one history that was kept, and the book of that. Each lane that the
-    // port gave came back, and nothing was read or written elsewhere.
-    ensures server { AreWords (map (λ word. word.now) words.now)
-        → IfServer (command_asked (map (λ word. word.now) words.now)) (λ sessions outbox book.
-        (ended : ServerEnd) × (result ≡ status_of_server ended)
-        × ServerEnds (record {
-          ends = record {
-            taken = P.Line.In.Source.taken;
-            left = P.Line.In.Source.left;
-            sent = P.Line.Out.Sink.taken;
-            faults = P.Line.Out.Sink.faults;
-          };
-          read_faults = P.Line.In.Source.faults;
-          coming = P.Line.Lane.coming;
-          over = P.Line.Lane.over;
-          lent = P.Line.Lane.lent;
-          faults = P.Line.Lane.faults;
-        }) (usual_start outbox) sessions (plain_entries kept.new.entries) ended
-        (Rose (P.faults port.old) (P.faults port.new)) (P.returned port.old) (P.returned port.new)
-        × IfBook book (files.new ≡ files.old)
-        (LeavesBook F.To.Sink.taken F.To.Sink.faults (usual_start outbox)
-        (plain_entries kept.new.entries) ended (Rose (F.faults files.old) (F.faults files.new))
-        (F.returned_sinks files.old) (F.returned_sinks files.new))
-        × (F.returned_sources files.new ≡ F.returned_sources files.old)
-        × (P.lent port.new ≡ P.lent port.old)
-        × (input.new ≡ input.old) × (output.new ≡ output.old) × (dial.new ≡ dial.old)
-        × Tells (line_of_server ended) (E.taken errors.old) (E.taken errors.new)
-        (E.faults errors.old) (E.faults errors.new)) }
-
-    // Where they ask for a replay, there is an end of it that the status and the line tell, of the
-    // bytes that were read of the file.
-    ensures replay { AreWords (map (λ word. word.now) words.now)
-        → IfReplay (command_asked (map (λ word. word.now) words.now)) (λ check.
-        (ended : ReplayEnd) × (result ≡ status_of_replay ended)
-        × LeavesFile F.From.Source.taken F.From.Source.left F.From.Source.faults ended
-        (Rose (F.faults files.old) (F.faults files.new))
-        (IsNothingDone (plain_entries kept.old.entries) (plain_entries kept.new.entries)
-        (S.taken output.old) (S.taken output.new))
-        (λ bytes left. PlaysBook check (length watchers.items)
-        (λ seen verdicts. (i : ℕ) (w : W) (v : Verdict) (before : List Sight)
-        → slice_get watchers.items i ≡ Some w → slice_get verdicts i ≡ Some v
-        → W.HasSeen w before → IsVerdict (W.Breaks w) (before ++ seen) v)
-        ended bytes left (plain_entries kept.old.entries) (plain_entries kept.new.entries)
-        (S.taken output.old) (S.taken output.new))
-        (F.returned_sources files.old) (F.returned_sources files.new)
-        × (ended ≡ ReplayEnd.WriteFault → Rose (S.faults output.old) (S.faults output.new))
-        × (F.returned_sinks files.new ≡ F.returned_sinks files.old)
-        × (input.new ≡ input.old) × (port.new ≡ port.old) × (dial.new ≡ dial.old)
-        × Tells (line_of_replay ended) (E.taken errors.old) (E.taken errors.new)
-        (E.faults errors.old) (E.faults errors.new)) }
-
-    // Where they ask for the book of a script, there is an end of it that the status and the line
-    // tell.
-    ensures generate { AreWords (map (λ word. word.now) words.now)
-        → IfGenerate (command_asked (map (λ word. word.now) words.now)) (λ number.
-        (ended : WriteEnd) × (result ≡ status_of_script ended)
-        × WriteEnds (usual_start USUAL_OUTBOX) ended
-        (entered (fresh_world USUAL_OUTBOX usual_limits) (script_of number)) (S.taken output.old)
-        (S.taken output.new)
-        × (ended ≡ WriteEnd.WriteFault → Rose (S.faults output.old) (S.faults output.new))
-        × (kept.new ≡ kept.old)
-        × (input.new ≡ input.old) × (files.new ≡ files.old) × (port.new ≡ port.old)
-        × (dial.new ≡ dial.old)
-        × Tells (line_of_script ended) (E.taken errors.old) (E.taken errors.new)
-        (E.faults errors.old) (E.faults errors.new)) }
-
-    // Where they ask to follow a buffer, there is an end that the status and the line tell, of the
-    // bytes that came by the connection that was dialed, whose halves came back.
-    ensures follow { AreWords (map (λ word. word.now) words.now)
-        → IfFollow (command_asked (map (λ word. word.now) words.now)) (λ buffer.
-        (ended : FollowEnd) × (result ≡ status_of_follow ended)
-        × LeavesDial (record {
-          taken = D.In.Source.taken;
-          left = D.In.Source.left;
-          reads = D.In.Source.reads;
-          read_faults = D.In.Source.faults;
-          sent = D.Out.Sink.taken;
-          sent_faults = D.Out.Sink.faults;
-        }) (pos buffer) ended (
-          (D.faults dial.old, D.faults dial.new),
-          (D.returned dial.old, D.returned dial.new),
-        ) (S.taken output.old, S.taken output.new)
-        × (ended ≡ FollowEnd.Connected OutputFault
-        → Rose (S.faults output.old) (S.faults output.new))
-        × (kept.new ≡ kept.old)
-        × (input.new ≡ input.old) × (files.new ≡ files.old) × (port.new ≡ port.old)
-        × Tells (line_of_follow ended) (E.taken errors.old) (E.taken errors.new)
-        (E.faults errors.old) (E.faults errors.new)) }
-
-    // Where they ask for help or for the version, the text of that goes to the output, and the
-    // status is 0, unless a write failed or memory was wanting.
-    ensures notice { AreWords (map (λ word. word.now) words.now)
-        → IfNotice (command_asked (map (λ word. word.now) words.now)) (λ notice.
-        (ended : WriteEnd) × (result ≡ status_of_script ended)
-        × WritesText (text_of_notice notice) ended (S.taken output.old) (S.taken output.new)
-        × (ended ≡ WriteEnd.WriteFault → Rose (S.faults output.old) (S.faults output.new))
-        × (kept.new ≡ kept.old)
-        × (input.new ≡ input.old) × (files.new ≡ files.old) × (port.new ≡ port.old)
-        × (dial.new ≡ dial.old)
-        × Tells (line_of_script ended) (E.taken errors.old) (E.taken errors.new)
-        (E.faults errors.old) (E.faults errors.new)) }
-
-    // What the files and the dial gave came back.
-    ensures back { (F.lent_sources files.new ≡ F.lent_sources files.old)
-        × (F.lent_sinks files.new ≡ F.lent_sinks files.old)
-        × (D.lent dial.new ≡ D.lent dial.old) }
-
-    // The history runs. Whatever the world begins with in which it does: folding the events that a
+    // version excepted. What is asked for is done, as the status and the line tell, and the history
+    // that is kept runs. Whatever the world begins with in which it does: folding the events that a
     // session was sent gives each buffer at the changedtick that they tell, folding the redraw
     // events shows the screen of the editor with each batch that has a scene, and each mark stands
     // where the edits put it.
-    ensures runs { RunsAs (command_asked (map (λ word. word.now) words.now))
-        (plain_entries kept.new.entries) }
-    ensures folds { (start : Start) → IsFolded start (plain_entries kept.new.entries) }
-    ensures screens { (start : Start) → IsShown start (plain_entries kept.new.entries) }
-    ensures marks { (start : Start) → HasMarksInPlace start (plain_entries kept.new.entries) }
+    ensures { RunEnds (record {
+      input = I.words;
+      output = S.words;
+      errors = E.words;
+      files = F.words;
+      from = F.From.Source.words;
+      to = F.To.Sink.words;
+      port = P.words;
+      lanes = record {
+        input = P.Line.In.Source.words;
+        output = P.Line.Out.Sink.words;
+        lane = P.Line.Lane.words;
+      };
+      dial = D.words;
+      halves = record {
+        input = D.In.Source.words;
+        output = D.Out.Sink.words;
+      };
+    }) result (record {
+      input = input.old;
+      output = output.old;
+      errors = errors.old;
+      files = files.old;
+      port = port.old;
+      dial = dial.old;
+      kept = kept.old;
+    }) (record {
+      input = input.new;
+      output = output.new;
+      errors = errors.new;
+      files = files.new;
+      port = port.new;
+      dial = dial.new;
+      kept = kept.new;
+    }) (length watchers.items) (AreVerdicts W.HasSeen W.Breaks watchers.items)
+        (map (λ word. word.now) words.now) }
 {
     fold_law();
     screen_law();

@@ -22,12 +22,14 @@ pub fn take_lanes<R, P: Port>(
     requires room { count ≤ vec_capacity jobs.old }
     ensures all { OnTrue result (vec_len jobs.new ≡ count) }
     ensures few { vec_len jobs.new ≤ count }
-    ensures fresh { All (λ lane. IsFreshLane (P.Line.Lane.over lane) (P.Line.Lane.lent lane)
-        (P.Line.Lane.faults lane)) (lanes_of jobs.new.items) }
-    ensures returned { P.returned port.new ≡ P.returned port.old }
-    ensures lent { P.lent port.new ≡ option_map (λ n. n + vec_len jobs.new) (P.lent port.old) }
-    ensures later { P.faults port.old ≤ P.faults port.new }
-    ensures failed { OnFalse result (Rose (P.faults port.old) (P.faults port.new)) }
+    ensures fresh { All (λ lane. IsFreshLane (P.Line.Lane.words lane).over
+        (P.Line.Lane.words lane).lent
+        (P.Line.Lane.words lane).faults) (lanes_of jobs.new.items) }
+    ensures returned { (P.words port.new).returned ≡ (P.words port.old).returned }
+    ensures lent { (P.words port.new).lent ≡ option_map (λ n. n + vec_len jobs.new)
+        (P.words port.old).lent }
+    ensures later { (P.words port.old).faults ≤ (P.words port.new).faults }
+    ensures failed { OnFalse result (Rose (P.words port.old).faults (P.words port.new).faults) }
 {
     for _ in 0..count {
         let Some(lane) = port.lane(rt) else {
@@ -40,11 +42,12 @@ pub fn take_lanes<R, P: Port>(
 
 /// Hands lanes back that are out, in order.
 pub fn give_back<P: Port>(port: &mut P, jobs: Vec<Job<P::Line>>)
-    requires out { AreOut (P.lent port.old) (vec_len jobs) }
-    ensures returned { P.returned port.new
-        ≡ append_items (P.returned port.old) (lanes_of jobs.items) }
-    ensures lent { P.lent port.old ≡ option_map (λ n. n + vec_len jobs) (P.lent port.new) }
-    ensures later { P.faults port.old ≤ P.faults port.new }
+    requires out { AreOut (P.words port.old).lent (vec_len jobs) }
+    ensures returned { (P.words port.new).returned
+        ≡ append_items (P.words port.old).returned (lanes_of jobs.items) }
+    ensures lent { (P.words port.old).lent ≡ option_map (λ n. n + vec_len jobs)
+        (P.words port.new).lent }
+    ensures later { (P.words port.old).faults ≤ (P.words port.new).faults }
 {
     for job in jobs {
         port.back(job.lane);

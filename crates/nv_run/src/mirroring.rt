@@ -40,19 +40,13 @@ pub fn follow<R: Net<Listener = TcpListener, Stream = TcpStream>, S: Sink, D: Di
     requires may { D.may address.now }
     requires number { buffer ≤ 4611686018427387904 }
     ensures leaves { LeavesDial (record {
-      taken = D.In.Source.taken;
-      left = D.In.Source.left;
-      reads = D.In.Source.reads;
-      read_faults = D.In.Source.faults;
-      sent = D.Out.Sink.taken;
-      sent_faults = D.Out.Sink.faults;
-    }) (pos buffer) result (
-      (D.faults dial.old, D.faults dial.new),
-      (D.returned dial.old, D.returned dial.new),
-    ) (S.taken output.old, S.taken output.new) }
-    ensures lent { D.lent dial.new ≡ D.lent dial.old }
+      input = D.In.Source.words;
+      output = D.Out.Sink.words;
+    }) (pos buffer) result (D.words dial.old) (D.words dial.new) (S.words output.old).taken
+        (S.words output.new).taken }
+    ensures lent { (D.words dial.new).lent ≡ (D.words dial.old).lent }
     ensures write { result ≡ FollowEnd.Connected OutputFault
-        → Rose (S.faults output.old) (S.faults output.new) }
+        → Rose (S.words output.old).faults (S.words output.new).faults }
 {
     let Some((mut input, mut server)) = dial.dial(rt, address) else {
         return FollowEnd::Unconnected;

@@ -64,10 +64,10 @@ fn text_of(notice: Notice) -> &'static str
 
 /// Writes the text of a notice to `output`.
 pub fn show<R, S: Sink>(rt: &R, output: &mut S, notice: Notice) -> WriteEnd
-    ensures writes { WritesText (text_of_notice notice) result (S.taken output.old)
-        (S.taken output.new) }
+    ensures writes { WritesText (text_of_notice notice) result (S.words output.old).taken
+        (S.words output.new).taken }
     ensures write { result ≡ WriteEnd.WriteFault
-        → Rose (S.faults output.old) (S.faults output.new) }
+        → Rose (S.words output.old).faults (S.words output.new).faults }
 {
     if put_all(rt, output, text_of(notice).as_bytes()) {
         WriteEnd::Done

@@ -1,12 +1,10 @@
 //! Files whose books are replayed.
-ghost use Rattle.std.specs.Prelude.{◌≡◌, ◌++◌, ℕ, List, [], Some, length, slice_get};
+ghost use Rattle.std.specs.Prelude.{◌≡◌, ℕ, List, length};
 ghost use Rattle.nv_io.specs.Faults.{Rose};
 ghost use Rattle.nv_io.specs.Streams.{Gave};
 ghost use Rattle.nv_world.specs.Contents.{plain_entries};
-ghost use Rattle.nv_watch.specs.Verdicts.{IsVerdict, Sight};
-ghost use Rattle.nv_watch.specs.declared.verdict.Verdict.{Verdict};
 ghost use Rattle.nv_replay.specs.Ends.{IsNothingDone};
-ghost use Rattle.nv_run.specs.Replaying.{LeavesFile, PlaysBook};
+ghost use Rattle.nv_run.specs.Replaying.{AreVerdicts, LeavesFile, PlaysBook};
 
 use nv_io::{Files, Sink, Source};
 use nv_replay::ReplayEnd;
@@ -26,18 +24,16 @@ fn play<R, I: Source, S: Sink, W: Watcher>(
     watchers: Vec<W>,
     kept: &mut History,
 ) -> ReplayEnd
-    ensures plays { (bytes : List ℕ) × Gave (I.taken source.old) (I.taken source.new)
-        (I.left source.old) (I.left source.new) bytes
+    ensures plays { (bytes : List ℕ) × Gave (I.words source.old).taken (I.words source.new).taken
+        (I.words source.old).left (I.words source.new).left bytes
         × PlaysBook is_check (length watchers.items)
-        (λ seen verdicts. (i : ℕ) (w : W) (v : Verdict) (before : List Sight)
-        → slice_get watchers.items i ≡ Some w → slice_get verdicts i ≡ Some v
-        → W.HasSeen w before → IsVerdict (W.Breaks w) (before ++ seen) v)
-        result bytes (I.left source.new) (plain_entries kept.old.entries)
-        (plain_entries kept.new.entries) (S.taken output.old) (S.taken output.new) }
+        (AreVerdicts W.HasSeen W.Breaks watchers.items)
+        result bytes (I.words source.new).left (plain_entries kept.old.entries)
+        (plain_entries kept.new.entries) (S.words output.old).taken (S.words output.new).taken }
     ensures read { result ≡ ReplayEnd.ReadFault
-        → Rose (I.faults source.old) (I.faults source.new) }
+        → Rose (I.words source.old).faults (I.words source.new).faults }
     ensures write { result ≡ ReplayEnd.WriteFault
-        → Rose (S.faults output.old) (S.faults output.new) }
+        → Rose (S.words output.old).faults (S.words output.new).faults }
 {
     if is_check {
         let mut watchers = watchers;
@@ -60,22 +56,20 @@ pub fn replay<R: SystemFiles<File = File>, S: Sink, F: Files, W: Watcher>(
     kept: &mut History,
 ) -> ReplayEnd
     requires { F.may name.now }
-    ensures file { LeavesFile F.From.Source.taken F.From.Source.left F.From.Source.faults result
-        (Rose (F.faults files.old) (F.faults files.new))
+    ensures file { LeavesFile F.From.Source.words result
+        (Rose (F.words files.old).faults (F.words files.new).faults)
         (IsNothingDone (plain_entries kept.old.entries) (plain_entries kept.new.entries)
-        (S.taken output.old) (S.taken output.new))
+        (S.words output.old).taken (S.words output.new).taken)
         (λ bytes left. PlaysBook is_check (length watchers.items)
-        (λ seen verdicts. (i : ℕ) (w : W) (v : Verdict) (before : List Sight)
-        → slice_get watchers.items i ≡ Some w → slice_get verdicts i ≡ Some v
-        → W.HasSeen w before → IsVerdict (W.Breaks w) (before ++ seen) v)
+        (AreVerdicts W.HasSeen W.Breaks watchers.items)
         result bytes left (plain_entries kept.old.entries) (plain_entries kept.new.entries)
-        (S.taken output.old) (S.taken output.new))
-        (F.returned_sources files.old) (F.returned_sources files.new) }
+        (S.words output.old).taken (S.words output.new).taken)
+        (F.words files.old).returned_sources (F.words files.new).returned_sources }
     ensures write { result ≡ ReplayEnd.WriteFault
-        → Rose (S.faults output.old) (S.faults output.new) }
-    ensures sinks { F.returned_sinks files.new ≡ F.returned_sinks files.old }
-    ensures all { (F.lent_sources files.new ≡ F.lent_sources files.old)
-        × (F.lent_sinks files.new ≡ F.lent_sinks files.old) }
+        → Rose (S.words output.old).faults (S.words output.new).faults }
+    ensures sinks { (F.words files.new).returned_sinks ≡ (F.words files.old).returned_sinks }
+    ensures all { ((F.words files.new).lent_sources ≡ (F.words files.old).lent_sources)
+        × ((F.words files.new).lent_sinks ≡ (F.words files.old).lent_sinks) }
 {
     let Some(mut source) = files.source(rt, name) else {
         return ReplayEnd::ReadFault;

@@ -62,17 +62,9 @@ fn serve_lanes<
     requires outbox { IsOutboxSize outbox }
     requires empty { kept.old.entries ≡ [] }
     ensures left { LeavesLanes (record {
-      ends = record {
-        taken = L.In.Source.taken;
-        left = L.In.Source.left;
-        sent = L.Out.Sink.taken;
-        faults = L.Out.Sink.faults;
-      };
-      read_faults = L.In.Source.faults;
-      coming = L.Lane.coming;
-      over = L.Lane.over;
-      lent = L.Lane.lent;
-      faults = L.Lane.faults;
+      input = L.In.Source.words;
+      output = L.Out.Sink.words;
+      lane = L.Lane.words;
     }) (usual_start outbox) (length jobs.old) (plain_entries kept.new.entries) result ⊥
         (lanes_of jobs.old) (lanes_of jobs.new) }
     ensures other { result ≡ ServerEnd.WriteFault → ⊥ }
@@ -98,11 +90,13 @@ fn open<R: SystemFiles<File = File> + Net<Listener = TcpListener, Stream = TcpSt
     requires room { count ≤ vec_capacity jobs.old }
     ensures all { OnTrue result (vec_len jobs.new ≡ count) }
     ensures few { vec_len jobs.new ≤ count }
-    ensures fresh { All (λ lane. IsFreshLane (P.Line.Lane.over lane) (P.Line.Lane.lent lane)
-        (P.Line.Lane.faults lane)) (lanes_of jobs.new.items) }
-    ensures returned { P.returned port.new ≡ P.returned port.old }
-    ensures lent { P.lent port.new ≡ option_map (λ n. n + vec_len jobs.new) (P.lent port.old) }
-    ensures failed { OnFalse result (Rose (P.faults port.old) (P.faults port.new)) }
+    ensures fresh { All (λ lane. IsFreshLane (P.Line.Lane.words lane).over
+        (P.Line.Lane.words lane).lent
+        (P.Line.Lane.words lane).faults) (lanes_of jobs.new.items) }
+    ensures returned { (P.words port.new).returned ≡ (P.words port.old).returned }
+    ensures lent { (P.words port.new).lent ≡ option_map (λ n. n + vec_len jobs.new)
+        (P.words port.old).lent }
+    ensures failed { OnFalse result (Rose (P.words port.old).faults (P.words port.new).faults) }
 {
     if !port.listen(rt, address) {
         return false;
@@ -133,21 +127,13 @@ fn serve_port<
     requires outbox { IsOutboxSize outbox }
     requires empty { kept.old.entries ≡ [] }
     ensures ends { ServerEnds (record {
-      ends = record {
-        taken = P.Line.In.Source.taken;
-        left = P.Line.In.Source.left;
-        sent = P.Line.Out.Sink.taken;
-        faults = P.Line.Out.Sink.faults;
-      };
-      read_faults = P.Line.In.Source.faults;
-      coming = P.Line.Lane.coming;
-      over = P.Line.Lane.over;
-      lent = P.Line.Lane.lent;
-      faults = P.Line.Lane.faults;
+      input = P.Line.In.Source.words;
+      output = P.Line.Out.Sink.words;
+      lane = P.Line.Lane.words;
     }) (usual_start outbox) sessions (plain_entries kept.new.entries) result
-        (Rose (P.faults port.old) (P.faults port.new)) (P.returned port.old)
-        (P.returned port.new) }
-    ensures lent { P.lent port.new ≡ P.lent port.old }
+        (Rose (P.words port.old).faults (P.words port.new).faults) (P.words port.old).returned
+        (P.words port.new).returned }
+    ensures lent { (P.words port.new).lent ≡ (P.words port.old).lent }
     ensures other { result ≡ ServerEnd.WriteFault → ⊥ }
 {
     let Ok(mut jobs) = Vec::with_capacity(alloc, sessions) else {
@@ -192,9 +178,10 @@ fn leave_book<R, S: Sink>(
     requires runs { IsSome (world_after (usual_start outbox) (plain_entries kept.now.entries)) }
     requires other { ended ≡ ServerEnd.WriteFault → ⊥ }
     ensures later { IsLater ended result }
-    ensures writes { WritesBook S.taken S.faults (usual_start outbox)
+    ensures writes { WritesBook S.words (usual_start outbox)
         (plain_entries kept.now.entries) result sink.old sink.new }
-    ensures fault { result ≡ ServerEnd.WriteFault → Rose (S.faults sink.old) (S.faults sink.new) }
+    ensures fault { result ≡ ServerEnd.WriteFault → Rose (S.words sink.old).faults
+        (S.words sink.new).faults }
 {
     let start = Start {
         outbox,
@@ -231,28 +218,22 @@ pub fn serve<
     requires outbox { IsOutboxSize outbox }
     requires empty { kept.old.entries ≡ [] }
     ensures ends { ServerEnds (record {
-      ends = record {
-        taken = P.Line.In.Source.taken;
-        left = P.Line.In.Source.left;
-        sent = P.Line.Out.Sink.taken;
-        faults = P.Line.Out.Sink.faults;
-      };
-      read_faults = P.Line.In.Source.faults;
-      coming = P.Line.Lane.coming;
-      over = P.Line.Lane.over;
-      lent = P.Line.Lane.lent;
-      faults = P.Line.Lane.faults;
+      input = P.Line.In.Source.words;
+      output = P.Line.Out.Sink.words;
+      lane = P.Line.Lane.words;
     }) (usual_start outbox) sessions (plain_entries kept.new.entries) result
-        (Rose (P.faults port.old) (P.faults port.new)) (P.returned port.old)
-        (P.returned port.new) }
-    ensures lent { P.lent port.new ≡ P.lent port.old }
-    ensures book { IfBook (option_map (λ name. name.now) book.entry) (files.new ≡ files.old)
-        (LeavesBook F.To.Sink.taken F.To.Sink.faults (usual_start outbox)
-        (plain_entries kept.new.entries) result (Rose (F.faults files.old) (F.faults files.new))
-        (F.returned_sinks files.old) (F.returned_sinks files.new)) }
-    ensures sources { F.returned_sources files.new ≡ F.returned_sources files.old }
-    ensures all { (F.lent_sources files.new ≡ F.lent_sources files.old)
-        × (F.lent_sinks files.new ≡ F.lent_sinks files.old) }
+        (Rose (P.words port.old).faults (P.words port.new).faults) (P.words port.old).returned
+        (P.words port.new).returned }
+    ensures lent { (P.words port.new).lent ≡ (P.words port.old).lent }
+    ensures book { IfBook (option_map (λ name. name.now) book.entry)
+        ((files.new ≡ files.old) × (result ≡ ServerEnd.WriteFault → ⊥))
+        (LeavesBook F.To.Sink.words (usual_start outbox)
+        (plain_entries kept.new.entries) result (Rose (F.words files.old).faults
+        (F.words files.new).faults)
+        (F.words files.old).returned_sinks (F.words files.new).returned_sinks) }
+    ensures sources { (F.words files.new).returned_sources ≡ (F.words files.old).returned_sources }
+    ensures all { ((F.words files.new).lent_sources ≡ (F.words files.old).lent_sources)
+        × ((F.words files.new).lent_sinks ≡ (F.words files.old).lent_sinks) }
 {
     let Some(name) = book else {
         return serve_port(rt, alloc, address, sessions, outbox, port, kept);

@@ -86,8 +86,8 @@ pub fn status_of_follow(ended: &FollowEnd) -> u8
 
 /// Writes the parts of a line to `errors`, one after another, up to a fault.
 pub fn tell<R, E: Sink>(rt: &R, errors: &mut E, parts: &[&str])
-    ensures { Tells (flat_map (λ part. part.now) parts.now) (E.taken errors.old)
-        (E.taken errors.new) (E.faults errors.old) (E.faults errors.new) }
+    ensures { Tells (flat_map (λ part. part.now) parts.now) (E.words errors.old)
+        (E.words errors.new) }
 {
     for part in parts {
         if !put_all(rt, errors, part.as_bytes()) {
@@ -111,8 +111,7 @@ fn word_of(flaw: Flaw) -> (&'static str, u64)
 
 /// Writes the line of an end to `errors`, where it has one.
 pub fn tell_end<R, E: Sink>(rt: &R, errors: &mut E, ended: Ended)
-    ensures { Tells (line_of ended) (E.taken errors.old) (E.taken errors.new) (E.faults errors.old)
-        (E.faults errors.new) }
+    ensures { Tells (line_of ended) (E.words errors.old) (E.words errors.new) }
 {
     let mut digits = Buffer::new();
     match ended {
@@ -142,8 +141,7 @@ pub fn tell_end<R, E: Sink>(rt: &R, errors: &mut E, ended: Ended)
 
 /// Writes the line of the end of a server to `errors`, where it has one.
 pub fn tell_server<R, E: Sink>(rt: &R, errors: &mut E, ended: ServerEnd)
-    ensures { Tells (line_of_server ended) (E.taken errors.old) (E.taken errors.new)
-        (E.faults errors.old) (E.faults errors.new) }
+    ensures { Tells (line_of_server ended) (E.words errors.old) (E.words errors.new) }
 {
     match ended {
         ServerEnd::Done => tell(rt, errors, &[]),
@@ -155,8 +153,8 @@ pub fn tell_server<R, E: Sink>(rt: &R, errors: &mut E, ended: ServerEnd)
 
 // Writes a line to `errors` that ends with a number.
 fn tell_number<R, E: Sink>(rt: &R, errors: &mut E, words: &str, number: u64)
-    ensures { Tells (words.now ++ (decimal number ++ codes "\n")) (E.taken errors.old)
-        (E.taken errors.new) (E.faults errors.old) (E.faults errors.new) }
+    ensures { Tells (words.now ++ (decimal number ++ codes "\n")) (E.words errors.old)
+        (E.words errors.new) }
 {
     let mut digits = Buffer::new();
     let number = digits.format(number);
@@ -165,8 +163,8 @@ fn tell_number<R, E: Sink>(rt: &R, errors: &mut E, words: &str, number: u64)
 
 // Writes the line of the watcher that says no to `errors`.
 fn tell_no<R, E: Sink>(rt: &R, errors: &mut E, watcher: u64, entry: u64)
-    ensures { Tells (line_of_replay (Objects watcher entry)) (E.taken errors.old)
-        (E.taken errors.new) (E.faults errors.old) (E.faults errors.new) }
+    ensures { Tells (line_of_replay (Objects watcher entry)) (E.words errors.old)
+        (E.words errors.new) }
 {
     let mut digits = Buffer::new();
     let mut more = Buffer::new();
@@ -187,8 +185,7 @@ fn tell_no<R, E: Sink>(rt: &R, errors: &mut E, watcher: u64, entry: u64)
 
 /// Writes the line of the end of a replay to `errors`, where it has one.
 pub fn tell_replay<R, E: Sink>(rt: &R, errors: &mut E, ended: ReplayEnd)
-    ensures { Tells (line_of_replay ended) (E.taken errors.old) (E.taken errors.new)
-        (E.faults errors.old) (E.faults errors.new) }
+    ensures { Tells (line_of_replay ended) (E.words errors.old) (E.words errors.new) }
 {
     match ended {
         ReplayEnd::Done => tell(rt, errors, &[]),
@@ -207,8 +204,7 @@ pub fn tell_replay<R, E: Sink>(rt: &R, errors: &mut E, ended: ReplayEnd)
 
 /// Writes the line of the end of the writing of a script's book to `errors`, where it has one.
 pub fn tell_script<R, E: Sink>(rt: &R, errors: &mut E, ended: WriteEnd)
-    ensures { Tells (line_of_script ended) (E.taken errors.old) (E.taken errors.new)
-        (E.faults errors.old) (E.faults errors.new) }
+    ensures { Tells (line_of_script ended) (E.words errors.old) (E.words errors.new) }
 {
     match ended {
         WriteEnd::Done => tell(rt, errors, &[]),
@@ -219,8 +215,7 @@ pub fn tell_script<R, E: Sink>(rt: &R, errors: &mut E, ended: WriteEnd)
 
 // Writes bytes that needn't be UTF-8 to `errors`, and the end of the line.
 fn tell_bytes<R, E: Sink>(rt: &R, errors: &mut E, bytes: &[u8])
-    ensures { Tells (bytes.now ++ codes "\n") (E.taken errors.old) (E.taken errors.new)
-        (E.faults errors.old) (E.faults errors.new) }
+    ensures { Tells (bytes.now ++ codes "\n") (E.words errors.old) (E.words errors.new) }
 {
     if !put_all(rt, errors, bytes) {
         return;
@@ -230,8 +225,8 @@ fn tell_bytes<R, E: Sink>(rt: &R, errors: &mut E, bytes: &[u8])
 
 // Writes the line of a refusal with this message to `errors`.
 fn tell_refusal<R, E: Sink>(rt: &R, errors: &mut E, message: &[u8])
-    ensures { Tells (codes "nvimd: refused: " ++ (message.now ++ codes "\n")) (E.taken errors.old)
-        (E.taken errors.new) (E.faults errors.old) (E.faults errors.new) }
+    ensures { Tells (codes "nvimd: refused: " ++ (message.now
+        ++ codes "\n")) (E.words errors.old) (E.words errors.new) }
 {
     if !put_all(rt, errors, b"nvimd: refused: ") {
         return;
@@ -241,8 +236,8 @@ fn tell_refusal<R, E: Sink>(rt: &R, errors: &mut E, message: &[u8])
 
 // Writes the line of how a client that was connected ended to `errors`, where it has one.
 fn tell_followed<R, E: Sink>(rt: &R, errors: &mut E, followed: &Followed)
-    ensures { Tells (line_of_follow (Connected followed.now)) (E.taken errors.old)
-        (E.taken errors.new) (E.faults errors.old) (E.faults errors.new) }
+    ensures { Tells (line_of_follow (Connected followed.now)) (E.words errors.old)
+        (E.words errors.new) }
 {
     match followed {
         Followed::Ended | Followed::Detached => tell(rt, errors, &[]),
@@ -257,8 +252,8 @@ fn tell_followed<R, E: Sink>(rt: &R, errors: &mut E, followed: &Followed)
 
 // Writes the line of an event that doesn't fit to `errors`.
 fn tell_misfit<R, E: Sink>(rt: &R, errors: &mut E, number: u64)
-    ensures { Tells (codes "nvimd: event " ++ (decimal number ++ codes " does not fit\n"))
-        (E.taken errors.old) (E.taken errors.new) (E.faults errors.old) (E.faults errors.new) }
+    ensures { Tells (codes "nvimd: event " ++ (decimal number
+        ++ codes " does not fit\n")) (E.words errors.old) (E.words errors.new) }
 {
     let mut digits = Buffer::new();
     let number = digits.format(number);
@@ -267,8 +262,7 @@ fn tell_misfit<R, E: Sink>(rt: &R, errors: &mut E, number: u64)
 
 /// Writes the line of the end of following a buffer to `errors`, where it has one.
 pub fn tell_follow<R, E: Sink>(rt: &R, errors: &mut E, ended: &FollowEnd)
-    ensures { Tells (line_of_follow ended.now) (E.taken errors.old) (E.taken errors.new)
-        (E.faults errors.old) (E.faults errors.new) }
+    ensures { Tells (line_of_follow ended.now) (E.words errors.old) (E.words errors.new) }
 {
     match ended {
         FollowEnd::NoMemory => tell_end(rt, errors, Ended::NoMemory),

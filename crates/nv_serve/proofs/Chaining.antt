@@ -19,7 +19,7 @@ use Rattle.nv_halves.specs.Passes.{WorldPass, plain_pass}
 use Rattle.nv_halves.proofs.Plains.{own_plain, plain_begins, plain_same}
 use Rattle.nv_session.specs.Openings.{opening_entry}
 use Rattle.nv_session.specs.Connections.{ServesSession, ServesNone}
-use Rattle.nv_serve.specs.Links.{LanesTell, Link}
+use Rattle.nv_serve.specs.Links.{AreUnusedEnds, LanesWords, Link, halves_of}
 use Rattle.nv_serve.specs.inside.Sharing.{IsIdle, IsOpened, Chain, IsLane}
 use Rattle.nv_serve.specs.inside.Lanes.{session_of_link, one_of_link, other_of_link, IsIdleLink, IsOpenedLink, IsMet, ServesLane, ServesAll, ServesLink, PassesLink, PassesNone, GivesLink, IfLast, ReturnsLink, StepsLane, LooksOnly}
 use Rattle.nv_serve.specs.declared.job.LaneEnd.{LaneEnd}
@@ -124,7 +124,7 @@ pub each_on : {X : Type 0} (P Q : X → Type 0) (xs : List X) → ((x : X) → P
 each_on P Q [] f h = tt
 each_on P Q (x ∷ xs) f h = (f x h.0, each_on P Q xs f h.1)
 
-module _ {L I S : Type 0} (t : LanesTell L I S) (start : Option Start) where
+module _ {L I S : Type 0} (t : LanesWords L I S) (start : Option Start) where
   pub met_on : (a a_later b b_later : List Entry) (x : Link I S) → IsPrefix a a_later → IsPrefix b b_later → IsMet t start a b x → IsMet t start a_later b_later x
   met_on a a_later b b_later x p q (inl h) = inl (record {
     session_is = h.session_is;
@@ -165,7 +165,7 @@ module _ {L I S : Type 0} (t : LanesTell L I S) (start : Option Start) where
   pub lane_begun : (n m : ℕ) (old : L) (a b : List Entry) → a ≡ [] → b ≡ [] → ServesLane t start n m old old a b
   lane_begun n m old a b first second = record {
     links = [];
-    order = record { came = prepend_none (t.coming old); went = append_none (t.over old); lent = refl };
+    order = record { came = prepend_none (t.lane old).coming; went = append_none (t.lane old).over; lent = refl; unused = tt };
     later = omega arith;
     lane = record { own_one = ap (own n) first; own_other = ap (own m) second; chain = tt };
     each = tt;
@@ -178,12 +178,13 @@ module _ {L I S : Type 0} (t : LanesTell L I S) (start : Option Start) where
     links = h.links ++ x ∷ [];
     order = record {
       came = h.order.came ∙ ap (prepend_items (map (λ (y : Link I S). (y.input, y.output)) h.links)) k.came
-          ∙ prepend_then (map (λ (y : Link I S). (y.input, y.output)) h.links) ((x.input, x.output) ∷ []) (t.coming later)
-          ∙ ap (λ (l : List (I × S)). prepend_items l (t.coming later)) (sym (map-append (λ (y : Link I S). (y.input, y.output)) h.links (x ∷ [])));
+          ∙ prepend_then (map (λ (y : Link I S). (y.input, y.output)) h.links) ((x.input, x.output) ∷ []) (t.lane later).coming
+          ∙ ap (λ (l : List (I × S)). prepend_items l (t.lane later).coming) (sym (map-append (λ (y : Link I S). (y.input, y.output)) h.links (x ∷ [])));
       went = k.went ∙ ap (λ (l : Option (List (Over I S))). append_items l (x.over ∷ [])) h.order.went
-          ∙ append_then (t.over old) (map (λ (y : Link I S). y.over) h.links) (x.over ∷ [])
-          ∙ ap (λ (l : List (Over I S)). append_items (t.over old) l) (sym (map-append (λ (y : Link I S). y.over) h.links (x ∷ [])));
+          ∙ append_then (t.lane old).over (map (λ (y : Link I S). y.over) h.links) (x.over ∷ [])
+          ∙ ap (λ (l : List (Over I S)). append_items (t.lane old).over l) (sym (map-append (λ (y : Link I S). y.over) h.links (x ∷ [])));
       lent = k.lent ∙ h.order.lent;
+      unused = each_push (λ (y : Link I S). AreUnusedEnds t y.input y.output) h.links x h.order.unused k.unused;
     };
     later = (let a = h.later in let b = k.later in omega (arith, a, b));
     lane = record {
@@ -201,7 +202,7 @@ module _ {L I S : Type 0} (t : LanesTell L I S) (start : Option Start) where
 
 -- ---- one connection
 
-module _ {L I S : Type 0} (t : LanesTell L I S) where
+module _ {L I S : Type 0} (t : LanesWords L I S) where
   -- a connection that ended so, by these passes
   pub record Linked (start : Option Start) (p q p_after q_after : WorldPass) (input input_after : I) (output output_after : S) (s : ℕ) (how : Ended) : Type 0 where
     pub link : Link I S
@@ -211,8 +212,8 @@ module _ {L I S : Type 0} (t : LanesTell L I S) where
     pub serves : ServesLink t start p q p_after q_after link
 
   session_link : (p q p_one q_after p_after : WorldPass) (input input_after : I) (output output_after : S) (s : ℕ) (how : Ended) → LooksOnly p_one p_after → s ≢ 0
-      → ServesSession t.ends p q p_one q_after input input_after output output_after s how
-      → (how ≡ ReadFault → Rose (t.read_faults input) (t.read_faults input_after)) → (how ≡ WriteFault → Rose (t.ends.faults output) (t.ends.faults output_after))
+      → ServesSession (halves_of t) p q p_one q_after input input_after output output_after s how
+      → (how ≡ ReadFault → Rose (t.input input).faults (t.input input_after).faults) → (how ≡ WriteFault → Rose (t.output output).faults (t.output output_after).faults)
       → Linked p.start p q p_after q_after input input_after output output_after s how
   session_link p q p_one q_after p_after input input_after output output_after s how look some h read_fault write_fault = record {
     link = record {
@@ -254,7 +255,7 @@ module _ {L I S : Type 0} (t : LanesTell L I S) where
   }
 
   none_link : (p q p_one q_after p_after : WorldPass) (input input_after : I) (output output_after : S) (s : ℕ) (how : Ended) → LooksOnly p_one p_after → s ≡ 0
-      → ServesNone t.ends p q p_one q_after input input_after output output_after how → Linked p.start p q p_after q_after input input_after output output_after s how
+      → ServesNone (halves_of t) p q p_one q_after input input_after output output_after how → Linked p.start p q p_after q_after input input_after output output_after s how
   none_link p q p_one q_after p_after input input_after output output_after s how look none h = record {
     link = record {
       input = input;
@@ -286,8 +287,8 @@ module _ {L I S : Type 0} (t : LanesTell L I S) where
   }
 
   pub linked : (p q p_one q_after p_after : WorldPass) (input input_after : I) (output output_after : S) (s : ℕ) (how : Ended) → LooksOnly p_one p_after
-      → (s ≢ 0 → ServesSession t.ends p q p_one q_after input input_after output output_after s how) → (s ≡ 0 → ServesNone t.ends p q p_one q_after input input_after output output_after how)
-      → (how ≡ ReadFault → Rose (t.read_faults input) (t.read_faults input_after)) → (how ≡ WriteFault → Rose (t.ends.faults output) (t.ends.faults output_after))
+      → (s ≢ 0 → ServesSession (halves_of t) p q p_one q_after input input_after output output_after s how) → (s ≡ 0 → ServesNone (halves_of t) p q p_one q_after input input_after output output_after how)
+      → (how ≡ ReadFault → Rose (t.input input).faults (t.input input_after).faults) → (how ≡ WriteFault → Rose (t.output output).faults (t.output output_after).faults)
       → Linked p.start p q p_after q_after input input_after output output_after s how
   linked p q p_one q_after p_after input input_after output output_after zero how look served unserved read_fault write_fault =
       none_link p q p_one q_after p_after input input_after output output_after zero how look refl (unserved refl)
@@ -299,30 +300,31 @@ module _ {L I S : Type 0} (t : LanesTell L I S) where
 
   -- the connection is back at its lane
   pub given_back : (start : Option Start) (p q p_after q_after : WorldPass) (old new : L) (input input_after : I) (output output_after : S) (s : ℕ) (how : Ended)
-      → (k : Linked start p q p_after q_after input input_after output output_after s how) → t.coming new ≡ t.coming old
-      → t.over new ≡ append_items (t.over old) (record { input = input_after; output = output_after; session = s; how = how } ∷ []) → t.lent old ≡ option_map (λ (n : ℕ). n + 1) (t.lent new)
-      → t.faults old ≤ t.faults new → GivesLink t start p q p_after q_after old new input output k.link
+      → (k : Linked start p q p_after q_after input input_after output output_after s how) → (t.lane new).coming ≡ (t.lane old).coming
+      → (t.lane new).over ≡ append_items (t.lane old).over (record { input = input_after; output = output_after; session = s; how = how } ∷ []) → (t.lane old).lent ≡ option_map (λ (n : ℕ). n + 1) (t.lane new).lent
+      → (t.lane old).faults ≤ (t.lane new).faults → GivesLink t start p q p_after q_after old new input output k.link
   given_back start p q p_after q_after old new input input_after output output_after s how k coming went lent later = record {
     input_is = k.input_is;
     output_is = k.output_is;
     serves = k.serves;
     coming = coming;
-    went = went ∙ ap (λ (o : Over I S). append_items (t.over old) (o ∷ [])) (sym k.over_is);
+    went = went ∙ ap (λ (o : Over I S). append_items (t.lane old).over (o ∷ [])) (sym k.over_is);
     lent = lent;
     later = later;
   }
 
   -- the lane gave it before
   passed : (start : Option Start) (p q p_after q_after : WorldPass) (old given new : L) (input : I) (output : S) (x : Link I S) → GivesLink t start p q p_after q_after given new input output x
-      → t.coming old ≡ prepend_items ((input, output) ∷ []) (t.coming given) → t.over given ≡ t.over old → t.lent given ≡ option_map (λ (n : ℕ). n + 1) (t.lent old) → t.faults old ≤ t.faults given
+      → (t.lane old).coming ≡ prepend_items ((input, output) ∷ []) (t.lane given).coming → (t.lane given).over ≡ (t.lane old).over → (t.lane given).lent ≡ option_map (λ (n : ℕ). n + 1) (t.lane old).lent → (t.lane old).faults ≤ (t.lane given).faults → AreUnusedEnds t input output
       → PassesLink t start old new x
-  passed start p q p_after q_after old given new input output x h came over lent later = record {
+  passed start p q p_after q_after old given new input output x h came over lent later fresh = record {
     came = came ∙ ap (λ (l : Option (List (I × S))). prepend_items ((input, output) ∷ []) l) (sym h.coming)
-        ∙ ap (λ (i : I). prepend_items ((i, output) ∷ []) (t.coming new)) (sym h.input_is)
-        ∙ ap (λ (o : S). prepend_items ((x.input, o) ∷ []) (t.coming new)) (sym h.output_is);
+        ∙ ap (λ (i : I). prepend_items ((i, output) ∷ []) (t.lane new).coming) (sym h.input_is)
+        ∙ ap (λ (o : S). prepend_items ((x.input, o) ∷ []) (t.lane new).coming) (sym h.output_is);
     went = h.went ∙ ap (λ (l : Option (List (Over I S))). append_items l (x.over ∷ [])) over;
-    lent = same_out (t.lent old) (t.lent new) (sym lent ∙ h.lent);
+    lent = same_out (t.lane old).lent (t.lane new).lent (sym lent ∙ h.lent);
     later = (let a = later in let b = h.later in omega (arith, a, b));
+    unused = subst (λ (i : I). AreUnusedEnds t i x.output) (sym h.input_is) (subst (λ (o : S). AreUnusedEnds t input o) (sym h.output_is) fresh);
   }
 
   -- a connection was served and given back, and its lane ended with it or not
@@ -333,20 +335,20 @@ module _ {L I S : Type 0} (t : LanesTell L I S) where
       (k.link, gives, subst (λ (o : Over I S). IfLast end o.how) (sym k.over_is) last)
 
   pub steps_on : (end : Option LaneEnd) (start : Option Start) (p q p_after q_after : WorldPass) (old given new : L) (input : I) (output : S) → ReturnsLink t start end p q p_after q_after given new input output
-      → t.coming old ≡ prepend_items ((input, output) ∷ []) (t.coming given) → t.over given ≡ t.over old → t.lent given ≡ option_map (λ (n : ℕ). n + 1) (t.lent old) → t.faults old ≤ t.faults given
+      → (t.lane old).coming ≡ prepend_items ((input, output) ∷ []) (t.lane given).coming → (t.lane given).over ≡ (t.lane old).over → (t.lane given).lent ≡ option_map (λ (n : ℕ). n + 1) (t.lane old).lent → (t.lane old).faults ≤ (t.lane given).faults → AreUnusedEnds t input output
       → StepsLane t start end p q p_after q_after old new
-  steps_on None start p q p_after q_after old given new input output h came over lent later =
-      (h.0, (h.1.serves, passed start p q p_after q_after old given new input output h.0 h.1 came over lent later))
-  steps_on (Some stop.Quit) start p q p_after q_after old given new input output h came over lent later =
-      (h.0, (h.1.serves, passed start p q p_after q_after old given new input output h.0 h.1 came over lent later), h.2)
-  steps_on (Some stop.Spent) start p q p_after q_after old given new input output h came over lent later =
-      (h.0, (h.1.serves, passed start p q p_after q_after old given new input output h.0 h.1 came over lent later), h.2)
-  steps_on (Some stop.Done) start p q p_after q_after old given new input output h came over lent later = absurd h.2
-  steps_on (Some stop.Failed) start p q p_after q_after old given new input output h came over lent later = absurd h.2
+  steps_on None start p q p_after q_after old given new input output h came over lent later fresh =
+      (h.0, (h.1.serves, passed start p q p_after q_after old given new input output h.0 h.1 came over lent later fresh))
+  steps_on (Some stop.Quit) start p q p_after q_after old given new input output h came over lent later fresh =
+      (h.0, (h.1.serves, passed start p q p_after q_after old given new input output h.0 h.1 came over lent later fresh), h.2)
+  steps_on (Some stop.Spent) start p q p_after q_after old given new input output h came over lent later fresh =
+      (h.0, (h.1.serves, passed start p q p_after q_after old given new input output h.0 h.1 came over lent later fresh), h.2)
+  steps_on (Some stop.Done) start p q p_after q_after old given new input output h came over lent later fresh = absurd h.2
+  steps_on (Some stop.Failed) start p q p_after q_after old given new input output h came over lent later fresh = absurd h.2
 
 -- ---- the loop of a lane
 
-module _ {L I S : Type 0} (t : LanesTell L I S) where
+module _ {L I S : Type 0} (t : LanesWords L I S) where
   -- a lane that goes on: its two passes, as they began and as they are
   pub record LaneGoes (p q p_now q_now : PassState WorldEntry Start) (old now : L) : Type 0 where
     pub first : IsSamePass p p_now
@@ -399,6 +401,7 @@ module _ {L I S : Type 0} (t : LanesTell L I S) where
           came = s.order.came ∙ ap (prepend_items (map (λ (y : Link I S). (y.input, y.output)) s.links)) (sym h.came);
           went = h.went ∙ s.order.went;
           lent = h.lent ∙ s.order.lent;
+          unused = s.order.unused;
         };
         later = omega (arith, a, b);
         lane = subst (λ (z : WorldPass). IsLane session_of_link one_of_link other_of_link p.number q.number z.seen (plain_pass q_after).seen s.links) (sym h.first)
@@ -425,5 +428,5 @@ module _ {L I S : Type 0} (t : LanesTell L I S) where
   }
   lane_ends stop.Failed p q p_now q_now p_after q_after old now new g h = record {
     serves = goes_none p q p_now q_now p_after q_after old now new g h.0;
-    ends = rose_on (t.faults old) (t.faults now) (t.faults new) g.serves.later h.1;
+    ends = rose_on (t.lane old).faults (t.lane now).faults (t.lane new).faults g.serves.later h.1;
   }

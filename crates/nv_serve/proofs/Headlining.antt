@@ -27,7 +27,7 @@ use Rattle.nv_halves.specs.Laws.{own_close, SessionsAskInOrder, QuitsAreEnds}
 use Rattle.nv_halves.proofs.Plains.{own_plain, plain_begins}
 use Rattle.nv_session.specs.Openings.{opening_entry, IsWhyUnopened}
 use Rattle.nv_session.specs.Connections.{ConnectionEnds, Traffic, traffic_of}
-use Rattle.nv_serve.specs.Links.{LanesTell, Link, ServesInOrder, IsAtEnd, IsLastEnd}
+use Rattle.nv_serve.specs.Links.{LanesWords, Link, ServesInOrder, IsAtEnd, IsLastEnd, halves_of}
 use Rattle.nv_serve.specs.Jobs.{lanes_of}
 use Rattle.nv_serve.specs.Headline.{session_in, WasNoSession, WasSession, Headline, HasEnd, IsServed, AreServed, AreServedOrFailed, HasFault, ServerLeaves}
 use Rattle.nv_serve.specs.declared.job.Job.{Job}
@@ -60,7 +60,7 @@ number_of (suc n) c =
 
 -- ---- what a job came to
 
-module _ {L I S : Type 0} (t : LanesTell L I S) where
+module _ {L I S : Type 0} (t : LanesWords L I S) where
   before_is : (turn : TurnId) (start : Option Start) (i : ℕ) (old dealt run : Job L) → IsDealt turn start i old dealt → (r : ServesJob t dealt run)
       → r.before ≡ (first_pass turn start (first_number i), first_pass turn start (second_number i))
   before_is turn start i old dealt run d r = same_Some r.before (first_pass turn start (first_number i), first_pass turn start (second_number i)) (sym r.had ∙ d.passes_are)
@@ -200,7 +200,7 @@ failed_is stop.Quit h = absurd (cc (h))
 failed_is stop.Spent h = absurd (cc (h))
 
 -- how a lane ended is an end of a lane
-at_end_of : {L I S : Type 0} (t : LanesTell L I S) (end : LaneEnd) (old new : L) (links : List (Link I S)) → EndsLane t end old new links → IsAtEnd t old new links
+at_end_of : {L I S : Type 0} (t : LanesWords L I S) (end : LaneEnd) (old new : L) (links : List (Link I S)) → EndsLane t end old new links → IsAtEnd t old new links
 at_end_of t end old new links h = by_end end h
   where
     quits : (how : Ended) → IsLastOf stop.Quit how → IsLastEnd how
@@ -217,14 +217,14 @@ at_end_of t end old new links h = by_end end h
 
 -- ---- the headline
 
-module _ {L I S : Type 0} (t : LanesTell L I S) (start : Start) (kept : List Entry) (olds ran lasts : List (Job L)) (d : Job L) (len : length lasts ≡ length olds) (ran_len : length ran ≡ length olds)
+module _ {L I S : Type 0} (t : LanesWords L I S) (start : Start) (kept : List Entry) (olds ran lasts : List (Job L)) (d : Job L) (len : length lasts ≡ length olds) (ran_len : length ran ≡ length olds)
     (each : (i : ℕ) → i < length olds → (end : LaneEnd) × ((slice_index_or ran i d).end ≡ Some end)
     × ServesAll t (Some start) (first_number i) (second_number i) end (slice_index_or olds i d).lane (slice_index_or lasts i d).lane kept kept)
     (called : (e : Entry) → In e kept → HasLaneCaller (length olds) e) (world : World) (runs : world_of_run (Some start) kept ≡ Some world)
     (asks : SessionsAskInOrder) (quits : QuitsAreEnds) (counts : HistoriesCount) where
   record Shown (i : ℕ) (links : List (Link I S)) : Type 0 where
     order : ServesInOrder t (slice_index_or olds i d).lane (slice_index_or lasts i d).lane links
-    later : t.faults (slice_index_or olds i d).lane ≤ t.faults (slice_index_or lasts i d).lane
+    later : (t.lane (slice_index_or olds i d).lane).faults ≤ (t.lane (slice_index_or lasts i d).lane).faults
     end : LaneEnd
     end_is : (slice_index_or ran i d).end ≡ Some end
     ends : EndsLane t end (slice_index_or olds i d).lane (slice_index_or lasts i d).lane links
@@ -288,8 +288,8 @@ module _ {L I S : Type 0} (t : LanesTell L I S) (start : Start) (kept : List Ent
         read_fault = h.read_fault;
         write_fault = h.write_fault;
         quits = λ entry is. ends_of start kept world x.over.session entry quits runs
-            (quit_cause (Some start) x.over.session kept world (traffic_of t.ends h.bytes x.over.input x.output x.over.output) entry
-            (subst (λ (how : Ended). ConnectionEnds how (Some start) x.over.session kept world (traffic_of t.ends h.bytes x.over.input x.output x.over.output)) is ends));
+            (quit_cause (Some start) x.over.session kept world (traffic_of (halves_of t) h.bytes x.over.input x.output x.over.output) entry
+            (subst (λ (how : Ended). ConnectionEnds how (Some start) x.over.session kept world (traffic_of (halves_of t) h.bytes x.over.input x.output x.over.output)) is ends));
       }
 
   each_link : (i k : ℕ) (x : Link I S) → i < length olds → slice_get (links i) k ≡ Some x → WasNoSession t start kept x ⊎ WasSession t start kept world x
@@ -325,7 +325,7 @@ module _ {L I S : Type 0} (t : LanesTell L I S) (start : Start) (kept : List Ent
     lanes = lanes_length lasts ∙ len ∙ sym (lanes_length olds);
     in_order = λ i old new at_old at_new. in_lanes (λ l m. ServesInOrder t l m (links i)) i old new at_old at_new (λ lt. (shown i lt).order);
     at_end = λ i old new at_old at_new. in_lanes (λ l m. IsAtEnd t l m (links i)) i old new at_old at_new (λ lt. let s = shown i lt in at_end_of t s.end (slice_index_or olds i d).lane (slice_index_or lasts i d).lane (links i) s.ends);
-    later = λ i old new at_old at_new. in_lanes (λ l m. t.faults l ≤ t.faults m) i old new at_old at_new (λ lt. (shown i lt).later);
+    later = λ i old new at_old at_new. in_lanes (λ l m. (t.lane l).faults ≤ (t.lane m).faults) i old new at_old at_new (λ lt. (shown i lt).later);
     each = λ i k x lt h. each_link i k x (fewer i lt) h;
     apart = λ i j k l x y lt_i lt_j at_x at_y some same. apart_links i j k l x y (fewer i lt_i) (fewer j lt_j) at_x at_y some same;
     owned = λ front behind e is. let o = owned front behind e is in (o.0, o.1, o.2, more o.0 o.3, o.4, o.5);
@@ -352,7 +352,7 @@ module _ {L I S : Type 0} (t : LanesTell L I S) (start : Start) (kept : List Ent
 
   -- how a lane ended, unless for want of memory
   lane_over : (i : ℕ) → i < length olds → (end : LaneEnd) → EndsLane t end (slice_index_or olds i d).lane (slice_index_or lasts i d).lane (links i) → (end ≡ stop.Spent → ⊥)
-      → ((end ≡ stop.Failed) × Rose (t.faults (slice_index_or olds i d).lane) (t.faults (slice_index_or lasts i d).lane)) ⊎ IsServed t start kept (slice_index_or lasts i d).lane
+      → ((end ≡ stop.Failed) × Rose ((t.lane (slice_index_or olds i d).lane).faults) ((t.lane (slice_index_or lasts i d).lane).faults)) ⊎ IsServed t start kept (slice_index_or lasts i d).lane
   lane_over i lt stop.Done h other = inr (inl h)
   lane_over i lt stop.Failed h other = inl (refl, h)
   lane_over i lt stop.Quit h other = inr (inr (has_end i lt h))
@@ -365,7 +365,7 @@ module _ {L I S : Type 0} (t : LanesTell L I S) (start : Start) (kept : List Ent
 
   pub are_over : HasNoneEnded saw_spent ran → AreServedOrFailed t start kept (lanes_of olds) (lanes_of lasts)
   are_over none i old new at_old at_new =
-      in_lanes (λ l m. Rose (t.faults l) (t.faults m) ⊎ IsServed t start kept m) i old new at_old at_new (λ lt. let s = shown i lt in ⊎_elim (λ f. inl f.1) (λ h. inr h) (lane_over i lt s.end s.ends (not_ended saw_spent stop.Spent i refl none lt s)))
+      in_lanes (λ l m. Rose (t.lane l).faults (t.lane m).faults ⊎ IsServed t start kept m) i old new at_old at_new (λ lt. let s = shown i lt in ⊎_elim (λ f. inl f.1) (λ h. inr h) (lane_over i lt s.end s.ends (not_ended saw_spent stop.Spent i refl none lt s)))
 
   pub are_served : HasNoneEnded saw_spent ran → HasNoneEnded is_failed ran → AreServed t start kept (lanes_of lasts)
   are_served none well i new at_new =
@@ -397,7 +397,7 @@ runs_as k start seen some history is =
     let w = some_of (model_of k) some in
     (w.0, ap (λ (s : Start). world_of_run (Some s) (plain_entries seen)) (sym is) ∙ ap (λ (l : List WorldEntry). world_of_run (Some (record { outbox = k.capacity; limits = k.limits })) (plain_entries l)) (sym history) ∙ w.1)
 
-module _ {L I S : Type 0} (t : LanesTell L I S) where
+module _ {L I S : Type 0} (t : LanesWords L I S) where
   shows_with : (turn : TurnId) (start : Start) (olds dealt run lasts : List (Job L)) (d : Job L) (last : PassState WorldEntry Start) (k : WorldRecord) (spent failed : Bool) → 0 < length olds → length dealt ≡ length olds
       → length run ≡ length dealt → length lasts ≡ length run → AreDealt turn (Some start) olds dealt → ServesJobs t dealt run → AreJoined run lasts last → ((e : Job L) → StartsAsLane (slice_index_or run 0 e) last)
       → ((c : ℕ) → (c ≡ 0) ⊎ (2 * length olds < c) → entries_by caller_of c last.seen ≡ []) → k.history ≡ last.seen → last.start ≡ Some (record { outbox = k.capacity; limits = k.limits }) → IsSome (model_of k)

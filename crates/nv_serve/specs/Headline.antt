@@ -15,7 +15,7 @@ use Rattle.nv_halves.specs.Passes.{world_of_run}
 use Rattle.nv_halves.specs.Laws.{own_close}
 use Rattle.nv_session.specs.Openings.{IsWhyUnopened}
 use Rattle.nv_session.specs.Connections.{ConnectionEnds, traffic_of}
-use Rattle.nv_serve.specs.Links.{LanesTell, Link, ServesInOrder, IsAtEnd}
+use Rattle.nv_serve.specs.Links.{LanesWords, Link, ServesInOrder, IsAtEnd, halves_of}
 
 -- the session of an event behind which so many sessions were opened before
 abbrev pub session_in : ℕ → Event → ℕ
@@ -24,13 +24,13 @@ session_in before (request_of s call) = s
 session_in before (take_of s) = s
 session_in before (close_of s) = s
 
-module _ {L I S : Type 0} (t : LanesTell L I S) (start : Start) (kept : List Entry) where
+module _ {L I S : Type 0} (t : LanesWords L I S) (start : Start) (kept : List Entry) where
   -- A connection never was a session: nothing was read, and nothing went out. Memory was wanting,
   -- or an entry had ended the world before.
   pub record WasNoSession (x : Link I S) : Type 0 where
     pub session_is : x.over.session ≡ 0
     pub read : x.over.input ≡ x.input
-    pub sent : t.ends.sent x.over.output ≡ t.ends.sent x.output
+    pub sent : (t.output x.over.output).taken ≡ (t.output x.output).taken
     pub seen : List Entry
     pub begins : IsPrefix seen kept
     pub why : IsWhyUnopened x.over.how (Some start) seen
@@ -46,14 +46,14 @@ module _ {L I S : Type 0} (t : LanesTell L I S) (start : Start) (kept : List Ent
         ≡ open_session ∷ (map (request_of x.over.session) (calls_of x.over.session kept)
         ++ own_close x.over.session session.closed)
     pub bytes : List ℕ
-    pub read : Gave (t.ends.taken x.input) (t.ends.taken x.over.input) (t.ends.left x.input)
-        (t.ends.left x.over.input) bytes
+    pub read : Gave (t.input x.input).taken (t.input x.over.input).taken (t.input x.input).left
+        (t.input x.over.input).left bytes
     pub ends : ConnectionEnds x.over.how (Some start) x.over.session kept world
-        (traffic_of t.ends bytes x.over.input x.output x.over.output)
+        (traffic_of (halves_of t) bytes x.over.input x.output x.over.output)
     pub read_fault : x.over.how ≡ ReadFault
-        → Rose (t.read_faults x.input) (t.read_faults x.over.input)
+        → Rose (t.input x.input).faults (t.input x.over.input).faults
     pub write_fault : x.over.how ≡ WriteFault
-        → Rose (t.ends.faults x.output) (t.ends.faults x.over.output)
+        → Rose (t.output x.output).faults (t.output x.over.output).faults
     pub quits : (entry : ℕ) → x.over.how ≡ Quit entry → world.ended ≡ Some entry
 
   -- The lanes, before and after, served connections, each of which was a session of the one history
@@ -69,7 +69,7 @@ module _ {L I S : Type 0} (t : LanesTell L I S) (start : Start) (kept : List Ent
     pub at_end : (i : ℕ) (old new : L) → slice_get olds i ≡ Some old
         → slice_get news i ≡ Some new → IsAtEnd t old new (links i)
     pub later : (i : ℕ) (old new : L) → slice_get olds i ≡ Some old
-        → slice_get news i ≡ Some new → t.faults old ≤ t.faults new
+        → slice_get news i ≡ Some new → (t.lane old).faults ≤ (t.lane new).faults
     pub each : (i k : ℕ) (x : Link I S) → i < length olds → slice_get (links i) k ≡ Some x
         → WasNoSession x ⊎ WasSession world x
     pub apart : (i j k l : ℕ) (x y : Link I S) → i < length olds → j < length olds
@@ -90,7 +90,7 @@ module _ {L I S : Type 0} (t : LanesTell L I S) (start : Start) (kept : List Ent
 
   -- a lane was served to the end: no connection is to come, where it tells that, or the world ended
   abbrev pub IsServed : L → Type 0
-  IsServed lane = IsNoItem (t.coming lane) ⊎ HasEnd
+  IsServed lane = IsNoItem (t.lane lane).coming ⊎ HasEnd
 
   abbrev pub AreServed : List L → Type 0
   AreServed news = (i : ℕ) (new : L) → slice_get news i ≡ Some new → IsServed new
@@ -98,13 +98,13 @@ module _ {L I S : Type 0} (t : LanesTell L I S) (start : Start) (kept : List Ent
   -- each lane was served to the end, or its count of faults rose
   abbrev pub AreServedOrFailed : List L → List L → Type 0
   AreServedOrFailed olds news = (i : ℕ) (old new : L) → slice_get olds i ≡ Some old
-      → slice_get news i ≡ Some new → Rose (t.faults old) (t.faults new) ⊎ IsServed new
+      → slice_get news i ≡ Some new → Rose (t.lane old).faults (t.lane new).faults ⊎ IsServed new
 
   -- the count of faults of a lane rose
   abbrev pub HasFault : List L → List L → Type 0
   HasFault olds news =
       (i : ℕ) × (old : L) × (new : L) × (slice_get olds i ≡ Some old)
-      × (slice_get news i ≡ Some new) × Rose (t.faults old) (t.faults new)
+      × (slice_get news i ≡ Some new) × Rose (t.lane old).faults (t.lane new).faults
 
   -- How lanes are left that were served, where it is told whether memory was wanting to the world,
   -- and whether a lane failed. Unless memory was wanting, each lane was served to the end or has a

@@ -65,19 +65,11 @@ fn serve_link<R: Net<Listener = TcpListener, Stream = TcpStream> + Threads + Wai
     requires turn { (passes.0.turn ≡ turn.now.turn) × (passes.1.turn ≡ turn.now.turn) }
     requires start { passes.1.start ≡ passes.0.start }
     requires number { number < length bells.now }
-    requires out { IsOut (L.lent lane.old) }
+    requires out { IsOut (L.words lane.old).lent }
     ensures { ReturnsLink (record {
-      ends = record {
-        taken = L.In.taken;
-        left = L.In.left;
-        sent = L.Out.taken;
-        faults = L.Out.faults;
-      };
-      read_faults = L.In.faults;
-      coming = L.coming;
-      over = L.over;
-      lent = L.lent;
-      faults = L.faults;
+      input = L.In.words;
+      output = L.Out.words;
+      lane = L.words;
     }) passes.0.start result.1 (plain_pass passes.0) (plain_pass passes.1)
         (plain_pass result.0.0) (plain_pass result.0.1) lane.old lane.new input output }
 {
@@ -106,17 +98,9 @@ fn serve_next<R: Net<Listener = TcpListener, Stream = TcpStream> + Threads + Wai
     requires start { passes.1.start ≡ passes.0.start }
     requires number { number < length bells.now }
     ensures { StepsLane (record {
-      ends = record {
-        taken = L.In.taken;
-        left = L.In.left;
-        sent = L.Out.taken;
-        faults = L.Out.faults;
-      };
-      read_faults = L.In.faults;
-      coming = L.coming;
-      over = L.over;
-      lent = L.lent;
-      faults = L.faults;
+      input = L.In.words;
+      output = L.Out.words;
+      lane = L.words;
     }) passes.0.start result.1 (plain_pass passes.0) (plain_pass passes.1)
         (plain_pass result.0.0) (plain_pass result.0.1) lane.old lane.new }
 {
@@ -149,17 +133,9 @@ pub(crate) fn serve_lane<
     ensures first { IsSamePass passes.0 result.0.0 }
     ensures second { IsSamePass passes.1 result.0.1 }
     ensures serves { ServesAll (record {
-      ends = record {
-        taken = L.In.taken;
-        left = L.In.left;
-        sent = L.Out.taken;
-        faults = L.Out.faults;
-      };
-      read_faults = L.In.faults;
-      coming = L.coming;
-      over = L.over;
-      lent = L.lent;
-      faults = L.faults;
+      input = L.In.words;
+      output = L.Out.words;
+      lane = L.words;
     }) passes.0.start passes.0.number passes.1.number result.1 lane.old lane.new
         (plain_pass result.0.0).seen (plain_pass result.0.1).seen }
 {

@@ -55,17 +55,9 @@ fn serve_job<R: Net<Listener = TcpListener, Stream = TcpStream> + Threads + Wait
     requires number { number < length bells.now }
     requires ready { IsReadyJob turn.now.turn number job.old }
     ensures { ServesJob (record {
-      ends = record {
-        taken = L.In.taken;
-        left = L.In.left;
-        sent = L.Out.taken;
-        faults = L.Out.faults;
-      };
-      read_faults = L.In.faults;
-      coming = L.coming;
-      over = L.over;
-      lent = L.lent;
-      faults = L.faults;
+      input = L.In.words;
+      output = L.Out.words;
+      lane = L.words;
     }) job.old job.new }
 {
     let Some(passes) = job.passes.take() else {
@@ -86,17 +78,9 @@ fn run_lanes<
     requires ready { AreReady turn.now.turn jobs.old }
     ensures length { length jobs.new ≡ length jobs.old }
     ensures serves { ServesJobs (record {
-      ends = record {
-        taken = L.In.taken;
-        left = L.In.left;
-        sent = L.Out.taken;
-        faults = L.Out.faults;
-      };
-      read_faults = L.In.faults;
-      coming = L.coming;
-      over = L.over;
-      lent = L.lent;
-      faults = L.faults;
+      input = L.In.words;
+      output = L.Out.words;
+      lane = L.words;
     }) jobs.old jobs.new }
 {
     let count = jobs.len();
@@ -108,17 +92,9 @@ fn run_lanes<
             requires { IsSync R.row × IsSend L.row × (number < length bells.now)
                 × IsReadyJob turn.now.turn number job.now }
             ensures { ServesJob (record {
-              ends = record {
-                taken = L.In.taken;
-                left = L.In.left;
-                sent = L.Out.taken;
-                faults = L.Out.faults;
-              };
-              read_faults = L.In.faults;
-              coming = L.coming;
-              over = L.over;
-              lent = L.lent;
-              faults = L.faults;
+              input = L.In.words;
+              output = L.Out.words;
+              lane = L.words;
             }) job.entry.now job.exit.now }
         { serve_job(rt, alloc, turn, bells, number, job) },
     );
@@ -202,17 +178,9 @@ fn serve_world<
     ensures { (start : _) → passes.items
         ≡ first_passes turn.turn (Some start) (2 * length jobs.old)
         → ServerLeaves (record {
-          ends = record {
-            taken = L.In.taken;
-            left = L.In.left;
-            sent = L.Out.taken;
-            faults = L.Out.faults;
-          };
-          read_faults = L.In.faults;
-          coming = L.coming;
-          over = L.over;
-          lent = L.lent;
-          faults = L.faults;
+          input = L.In.words;
+          output = L.Out.words;
+          lane = L.words;
         }) start (plain_entries result.history.entries) result.spent result.failed
         (lanes_of jobs.old) (lanes_of jobs.new) }
 {
@@ -249,17 +217,9 @@ pub fn serve<
     requires outbox { IsOutboxSize outbox }
     requires entries { 1 ≤ limits.entries }
     ensures served { IfOk result (λ kept. ServerLeaves (record {
-      ends = record {
-        taken = L.In.taken;
-        left = L.In.left;
-        sent = L.Out.taken;
-        faults = L.Out.faults;
-      };
-      read_faults = L.In.faults;
-      coming = L.coming;
-      over = L.over;
-      lent = L.lent;
-      faults = L.faults;
+      input = L.In.words;
+      output = L.Out.words;
+      lane = L.words;
     }) (record { outbox = outbox; limits = limits }) (plain_entries kept.history.entries)
         kept.spent kept.failed (lanes_of jobs.old) (lanes_of jobs.new)) }
     ensures none { OnErr result (jobs.new ≡ jobs.old) }

@@ -15,19 +15,20 @@ use Rattle.nv_halves.specs.declared.ends.ReaderEnd.{ReaderEnd}
 use Rattle.nv_halves.specs.declared.ends.WriterEnd.{WriterEnd}
 use Rattle.nv_halves.specs.declared.ends.WriterEnd.TheVariants as w
 use Rattle.nv_halves.proofs.Onces.{same_then}
+use Rattle.nv_io.specs.Words.{HalvesWords}
 use Rattle.nv_session.specs.Openings.{opening_entry, OpensSession, OpensNone, IsWhyUnopened}
 use Rattle.nv_session.specs.Joined.{end_of_halves}
-use Rattle.nv_session.specs.Connections.{EndsOf, ConnectionEnds, traffic_of, ServesSession, ServesNone}
+use Rattle.nv_session.specs.Connections.{ConnectionEnds, traffic_of, ServesSession, ServesNone}
 use Rattle.nv_session.specs.inside.Opened.{ServesHalves}
 use Rattle.nv_session.proofs.Joining.{asks_so, ends_of_halves}
 
-module _ {I S : Type 0} (t : EndsOf I S) where
+module _ {I S : Type 0} (t : HalvesWords I S) where
   pub halves_serve : (p q p2 q2 : WorldPass) (input input2 : I) (output output2 : S) (s : ℕ) (reader : ReaderEnd) (writer : WriterEnd) → q.start ≡ p.start → IsSamePass p p2 → IsSamePass q q2
-      → ReadsHalf reader p p2 s (t.taken input) (t.taken input2) (t.left input) (t.left input2) → LeavesClosed reader p2 s
-      → WritesHalf writer q q2 s (t.sent output) (t.sent output2) → (writer ≡ w.WriteFault → Rose (t.faults output) (t.faults output2))
+      → ReadsHalf reader p p2 s (t.input input).taken (t.input input2).taken (t.input input).left (t.input input2).left → LeavesClosed reader p2 s
+      → WritesHalf writer q q2 s (t.output output).taken (t.output output2).taken → (writer ≡ w.WriteFault → Rose (t.output output).faults (t.output output2).faults)
       → ServesHalves t p q p2 q2 input input2 output output2 s (end_of_halves reader writer)
   halves_serve p q p2 q2 input input2 output output2 s reader writer start one other r closes h rose =
-      let a = asks_so reader p p2 s r.0 (t.left input2) r.2 closes in
+      let a = asks_so reader p p2 s r.0 (t.input input2).left r.2 closes in
       let begun : q2.start ≡ p.start = other.start ∙ start in
       record {
         first = one;
@@ -40,7 +41,7 @@ module _ {I S : Type 0} (t : EndsOf I S) where
         read = r.1;
         ends = λ history world runs begins also takes calls. ends_of_halves p.start s history world (traffic_of t r.0 input2 output output2) reader writer
             (a.says history world (subst (λ (b : Option Start). world_of_run b history ≡ Some world) (sym one.start) runs) begins (calls ∙ a.asks.calls_are))
-            (subst (λ (b : Option Start). WroteBy writer world s (AreBytesOf (out_of b s history)) (t.sent output) (t.sent output2)) begun
+            (subst (λ (b : Option Start). WroteBy writer world s (AreBytesOf (out_of b s history)) (t.output output).taken (t.output output2).taken) begun
             (h.wrote history world (subst (λ (b : Option Start). world_of_run b history ≡ Some world) (sym begun) runs) also takes))
             rose;
       }
@@ -73,7 +74,7 @@ module _ {I S : Type 0} (t : EndsOf I S) where
             (h.ends history world (subst (λ (b : Option Start). world_of_run b history ≡ Some world) (sym o.same.start) runs) begins also takes calls);
       }
 
-  pub refused_serves : (p p1 q p2 q2 : WorldPass) (input input2 : I) (output output2 : S) (how how2 : Ended) → OpensNone p p1 how → p2 ≡ p1 → q2 ≡ q → input2 ≡ input → t.sent output2 ≡ t.sent output → how2 ≡ how
+  pub refused_serves : (p p1 q p2 q2 : WorldPass) (input input2 : I) (output output2 : S) (how how2 : Ended) → OpensNone p p1 how → p2 ≡ p1 → q2 ≡ q → input2 ≡ input → (t.output output2).taken ≡ (t.output output).taken → how2 ≡ how
       → ServesNone t p q p2 q2 input input2 output output2 how2
   refused_serves p p1 q p2 q2 input input2 output output2 how how2 o first second read sent same =
       let none : OpensNone p p2 how2 = subst (λ (e : Ended). OpensNone p p2 e) (sym same) (subst (λ (a : WorldPass). OpensNone p a how) (sym first) o) in

@@ -18,7 +18,7 @@ use Rattle.nv_world.specs.declared.effect.Cause.{Cause as WorldCause}
 use Rattle.nv_world.specs.declared.effect.Cause.TheVariants as cause
 use Rattle.nv_world.specs.declared.story.Start.{Start}
 use Rattle.nv_halves.specs.Passes.{WorldPass, out_of, OfEach, IsClosedBy, IsOver}
-use Rattle.nv_halves.specs.Reading.{ReadsFrom, Reads, BeginWithCalls, WasRead, IsUnfinished, IfInside}
+use Rattle.nv_calls.specs.Reading.{ReadsFrom, Reads, BeginWithCalls, WasRead, IsUnfinished, IfInside}
 use Rattle.nv_halves.specs.Halves.{Asks, ReadBy, LeavesClosed, WroteAll, WroteFront, WroteBy}
 use Rattle.nv_halves.specs.declared.ends.ReaderEnd.{ReaderEnd}
 use Rattle.nv_halves.specs.declared.ends.ReaderEnd.TheVariants as r

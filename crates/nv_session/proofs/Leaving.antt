@@ -20,7 +20,7 @@ use Rattle.nv_world.specs.Contents.{plain_entries}
 use Rattle.nv_world.specs.Worlds.{cause_of}
 use Rattle.nv_world.specs.declared.story.Start.{Start}
 use Rattle.nv_session.specs.Sending.{world_after, batches_taken, history_of, cause_in, cause_after, HasSession}
-use Rattle.nv_halves.specs.Reading.{Calls}
+use Rattle.nv_calls.specs.Reading.{Calls}
 use Rattle.nv_session.specs.Ends.{AnswersAll, AnswersSome, AnswersUpTo, IsHistoryOf, IsFront, SessionEnds}
 use Rattle.nv_session.specs.inside.Alone.{HasNothingDue, IsClosing}
 use Rattle.nv_session.specs.inside.Worlds.{IsEndedBy}
@@ -28,7 +28,9 @@ use Rattle.nv_session.specs.inside.Leaving.{LeavesAll, LeavesWith, GainsClose, I
 use Rattle.nv_session.specs.inside.Serving.{SessionState, begun_with, session_entries, EndsIn}
 use Rattle.nv_session.proofs.Sending.{sent_alike, sent_nil}
 use Rattle.nv_session.proofs.Lone.{closing, closed_taken, closed_asked, closed_itself, rest_front, opened_taken, whatever, world_with, close_is, first_put, is_last, at_end_one}
-use Rattle.nv_session.proofs.Serving.{calls_read, known_none, leaves_before}
+use Rattle.nv_calls.proofs.Giving.{calls_read}
+use Rattle.nv_speech.proofs.Flowing.{known_none}
+use Rattle.nv_session.proofs.Serving.{leaves_before}
 use Rattle.nv_session.proofs.Steps.{alone_has}
 
 -- ---- what an end leaves

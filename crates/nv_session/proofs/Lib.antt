@@ -4,7 +4,6 @@ pub mod Leaving
 pub mod Lone
 pub mod Sending
 pub mod Serving
-pub mod Spelling
 pub mod Steps
 pub mod Taking
 pub mod Opening

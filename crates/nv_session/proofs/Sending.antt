@@ -10,13 +10,14 @@ use Rattle.nv_history.specs.Runs.{TakenBatch}
 use Rattle.nv_history.specs.Spoken.{events_of, told_with, ShowsIfGiven, AreSpoken, AreBytesOf}
 use Rattle.nv_world.specs.declared.story.Start.{Start}
 use Rattle.nv_session.specs.Sending.{batches_taken, AreBytesTaken}
-use Rattle.nv_session.specs.inside.Alone.{IsSent, bytes_of_batch}
+use Rattle.nv_speech.specs.Flows.{bytes_said}
+use Rattle.nv_session.specs.inside.Alone.{IsSent}
 
 -- batches, and one more behind them
 spoken_one : (start told : Told) (batches : List TakenBatch) (bytes : List ℕ) (events : List Redraw) (given : TakenBatch) (scene : Option Scene) → AreSpoken start batches bytes events told → ShowsIfGiven given.editor scene
-    → AreSpoken start (batches ++ given ∷ []) (bytes ++ bytes_of_batch told given.messages scene) (events ++ events_of told scene) (told_with told scene)
+    → AreSpoken start (batches ++ given ∷ []) (bytes ++ bytes_said told given.messages scene) (events ++ events_of told scene) (told_with told scene)
 spoken_one start told [] bytes events given scene h shows =
-    let first = bytes_of_batch start given.messages scene in
+    let first = bytes_said start given.messages scene in
     record {
       between = told_with start scene;
       first_bytes = first;
@@ -25,13 +26,13 @@ spoken_one start told [] bytes events given scene h shows =
       other_events = [];
       first = record { scene = scene; shows = shows; bytes_are = refl; events_are = refl; later_is = refl };
       rest = (refl, refl, ap (λ (t : Told). told_with t scene) h.2);
-      bytes_are = ap (λ (l : List ℕ). l ++ bytes_of_batch told given.messages scene) h.0
-          ∙ ap (λ (t : Told). bytes_of_batch t given.messages scene) h.2 ∙ sym (append-nil first);
+      bytes_are = ap (λ (l : List ℕ). l ++ bytes_said told given.messages scene) h.0
+          ∙ ap (λ (t : Told). bytes_said t given.messages scene) h.2 ∙ sym (append-nil first);
       events_are = ap (λ (l : List Redraw). l ++ events_of told scene) h.1
           ∙ ap (λ (t : Told). events_of t scene) h.2 ∙ sym (append-nil (events_of start scene));
     }
 spoken_one start told (b ∷ batches) bytes events given scene h shows =
-    let more = bytes_of_batch told given.messages scene in
+    let more = bytes_said told given.messages scene in
     record {
       between = h.between;
       first_bytes = h.first_bytes;
@@ -47,18 +48,18 @@ spoken_one start told (b ∷ batches) bytes events given scene h shows =
 
 -- a batch more was taken
 pub sent_more : (start : Start) (h k : List Entry) (given : TakenBatch) (scene : Option Scene) → batches_taken start k ≡ batches_taken start h ++ given ∷ [] → ShowsIfGiven given.editor scene
-    → (told : Told) (bytes : List ℕ) → IsSent start h told bytes → IsSent start k (told_with told scene) (bytes ++ bytes_of_batch told given.messages scene)
+    → (told : Told) (bytes : List ℕ) → IsSent start h told bytes → IsSent start k (told_with told scene) (bytes ++ bytes_said told given.messages scene)
 sent_more start h k given scene taken shows told bytes s = (
   s.0 ++ events_of told scene,
   subst
       (λ (bs : List TakenBatch).
-      AreSpoken nothing_told bs (bytes ++ bytes_of_batch told given.messages scene) (s.0 ++ events_of told scene) (told_with told scene))
+      AreSpoken nothing_told bs (bytes ++ bytes_said told given.messages scene) (s.0 ++ events_of told scene) (told_with told scene))
       (sym taken) (spoken_one nothing_told told (batches_taken start h) bytes s.0 given scene s.1 shows),
 )
 
 -- nothing more was taken
 pub sent_same : (start : Start) (h k : List Entry) (messages : List Sent) (scene : Option Scene) → messages ≡ [] → scene ≡ None → batches_taken start k ≡ batches_taken start h
-    → (told : Told) (bytes : List ℕ) → IsSent start h told bytes → IsSent start k (told_with told scene) (bytes ++ bytes_of_batch told messages scene)
+    → (told : Told) (bytes : List ℕ) → IsSent start h told bytes → IsSent start k (told_with told scene) (bytes ++ bytes_said told messages scene)
 sent_same start h k [] None e f taken told bytes s = (
   s.0,
   subst (λ (l : List ℕ). AreSpoken nothing_told (batches_taken start k) l s.0 told) (sym (append-nil bytes))

@@ -1,55 +1,48 @@
 -- What each step of a session is, in the words of its bytes.
-use Rattle.std.proofs.Common.{◌≡◌, ◌⊎◌, ℕ, ◌+◌, ◌<◌, ◌≤◌, List, [], ◌∷◌, ◌++◌, length, Option, Some, None, Result, Ok, Err, refl, sym, ap, ◌∙◌, subst, arith, length-append, inl, inr, ⊎_elim}
+use Rattle.std.proofs.Common.{◌≡◌, ℕ, ◌<◌, List, [], ◌∷◌, ◌++◌, length, Option, Some, None, Result, Ok, Err, refl, sym, ap, ◌∙◌, subst, arith, length-append}
 use Rattle.std.proofs.lemmas.List.{append-nil}
-use Rattle.std.specs.Option.{option_or}
 use Rattle.std.specs.Prelude.{IfOk, OnOk, OnErr}
 use Rattle.std.specs.Io.KnownBytes.{append_known}
-use Rattle.nv_value.specs.Content.{Tree}
 use Rattle.nv_io.specs.declared.lanes.Flaw.{Flaw}
 use Rattle.nv_io.specs.declared.lanes.Flaw.TheVariants.{Bad, TooDeep, TooLong, Inside, NoCall}
 use Rattle.nv_io.specs.declared.lanes.Ended.{Ended}
 use Rattle.nv_io.specs.declared.lanes.Ended.TheVariants.{Closed, Malformed, Overflowed, ReadFault, WriteFault, Quit, NoMemory}
-use Rattle.nv_msgpack.specs.Within.{SpellsWithin, IsPartial}
-use Rattle.nv_msgpack.proofs.Complete.{has_byte-in}
-use Rattle.nv_stream.specs.State.{State, behind_value, with_flaw, end_at, stream_end}
-use Rattle.nv_stream.specs.State as stream
-use Rattle.nv_stream.specs.Answers.{NeedsMore, IsAnswer, IsFlawAt, TakesTree}
-use Rattle.nv_stream.specs.declared.stream.Next.TheVariants.{Flaw as TheFlaw}
-use Rattle.nv_rpc.specs.Calls.{Call, call_in}
+use Rattle.nv_rpc.specs.Calls.{Call, request, notice}
 use Rattle.nv_rpc.specs.Messages.{Sent}
 use Rattle.nv_history.specs.Events.{open_session, Entry, Cause, overflowed_at, quit_at}
 use Rattle.nv_history.specs.Asking.{calls_of}
 use Rattle.nv_history.specs.Solo.{entry_alone}
-use Rattle.nv_world.specs.Worlds.{WorldRecord}
+use Rattle.nv_world.specs.Worlds.{WorldRecord, IsLightCall}
 use Rattle.nv_screen.specs.declared.scene.Scene.{Scene}
 use Rattle.nv_linegrid.specs.Told.{Told, nothing_told}
-use Rattle.nv_painter.specs.Painters.{Painting}
 use Rattle.nv_history.specs.Spoken.{told_with}
 use Rattle.nv_halves.specs.Passes.{start_of}
 use Rattle.nv_session.specs.Sending.{AreBytesTaken, history_of, cause_after, HasSession}
 use Rattle.nv_world.specs.declared.story.Start.{Start}
-use Rattle.nv_halves.specs.Reading.{most_depth, most_bytes, Calls, EndsAt, IsUnfinished, IfInside}
+use Rattle.nv_calls.specs.Reading.{EndsAt, IsUnfinished, IfInside}
+use Rattle.nv_calls.specs.Intakes.{IntakeState, IsShortCall, GivesCall, fresh_intake}
+use Rattle.nv_calls.proofs.Giving.{gave_fresh, gave_one}
 use Rattle.nv_session.specs.Ends.{IsFront}
-use Rattle.nv_session.specs.inside.Alone.{HasNothingDue, IsAlone, IsSent, bytes_of_batch, Answers, IsUnanswered, WentOn, WentPart, WentUpTo}
+use Rattle.nv_session.specs.inside.Alone.{HasNothingDue, IsAlone, IsClosing, IsSent, Answers, IsUnanswered, WentOn, WentPart, WentUpTo}
+use Rattle.nv_speech.specs.Flows.{bytes_said}
+use Rattle.nv_speech.specs.declared.saying.Unsaid.{Unsaid}
+use Rattle.nv_speech.specs.declared.saying.Unsaid.TheVariants as unsaid
 use Rattle.nv_session.specs.inside.Worlds.{entries_in, IsEndedBy}
-use Rattle.nv_session.specs.inside.Serving.{SessionState, begun_with, session_entries, client_told, IsReady, IsNew, AnswersCall, StopsAtCall, ServesCalls, FinishesCalls, StopsShort, StopsClosed, EndsIn, end_by_flaw}
+use Rattle.nv_session.specs.inside.Serving.{SessionState, begun_with, session_entries, client_told, IsReady, IsNew, AnswersCall, StopsAtCall, ServesCalls, FinishesCalls, StopsShort, StopsClosed, EndsIn, CutsShort, end_by_flaw, ended_unsaid}
 use Rattle.nv_session.proofs.Sending.{sent_bytes, sent_alike, sent_nil}
-use Rattle.nv_session.proofs.Serving.{known_none, went_none, served_none}
+use Rattle.nv_speech.proofs.Flowing.{known_none}
+use Rattle.nv_session.proofs.Serving.{went_none, take_all}
 use Rattle.nv_session.proofs.Lone.{alone_front, rest_front, closing, closed_taken, alone_if, whatever}
 
+-- a call that came in can be asked of a world
+pub light_call : (call : Call) → IsShortCall call → IsLightCall call
+light_call (request msgid method params) h = (omega (arith, h.0), omega (arith, h.1))
+light_call (notice method params) h = (omega (arith, h.0), omega (arith, h.1))
+
 -- a session to which no byte has come
-pub begun : (s : SessionState) → s.stream ≡ stream.empty_state most_depth most_bytes → IsAlone (begun_with s) (session_entries s) → session_entries s ≡ entry_alone open_session ∷ [] → s.number ≡ 0 → client_told s ≡ nothing_told → IsNew s × IsReady s
-begun s e alone t n untold =
-    let place : s.stream.start ≡ 0 = ap (λ (x : State). x.start) e in (
-      record { place = place; nothing = ap (λ (x : State). x.held) e; none = n; first = t; untold = untold },
-      record {
-        depth = ap (λ (x : State). x.depth) e;
-        most = ap (λ (x : State). x.most) e;
-        no_flaw = ap (λ (x : State). x.flaw) e;
-        counted = omega arith;
-        alone = alone;
-      },
-    )
+pub begun : (s : SessionState) → s.intake ≡ fresh_intake → IsAlone (begun_with s) (session_entries s) → session_entries s ≡ entry_alone open_session ∷ [] → client_told s ≡ nothing_told → IsNew s × IsReady s
+begun s e alone t untold =
+    (record { fresh = e; first = t; untold = untold }, record { live = ap (λ (x : IntakeState). x.flaw) e; alone = alone })
 
 -- the session of a history that goes on is there
 pub alone_has : (start : Start) (h : List Entry) → IsAlone start h → HasSession start h
@@ -90,229 +83,108 @@ cut_none bytes s last out r e = record {
   went = subst (λ (k : WorldRecord). WentPart (begun_with s) IsFront [] [] (session_entries s) (entries_in k) (client_told s) out out) (sym e) (none_part (begun_with s) [] (session_entries s) (client_told s) out r.alone);
 }
 
-held_at : (s : SessionState) (held : List ℕ) → (held ≡ []) ⊎ IsPartial most_depth most_bytes held → EndsAt s.number s.stream.start held (end_at s.stream.start held)
-held_at s [] h = refl
-held_at s (b ∷ held) (inl e) = absurd (omega (arith, ap (length {A = ℕ}) e))
-held_at s (b ∷ held) (inr p) = (refl, omega arith, p)
+-- ---- ends over what is held
 
-unfinished_at : (place : ℕ) (held : List ℕ) → IsUnfinished (end_at place held)
-unfinished_at place [] = tt
-unfinished_at place (b ∷ held) = tt
+-- the bytes held end so, and nothing was done with them
+finished_at : (flaw : Option Flaw) (s last : SessionState) (out : Option (List ℕ)) → IsReady s → last.world ≡ s.world → EndsAt s.intake.number s.intake.place s.intake.held flaw
+    → FinishesCalls flaw s.intake.held s last out out
+finished_at flaw s last out r same e = record {
+  calls = [];
+  reads = e;
+  later = client_told s;
+  went = subst (λ (x : WorldRecord). WentOn (begun_with s) [] (session_entries s) (entries_in x) (client_told s) (client_told s) out out) (sym same) (went_none (begun_with s) (session_entries s) (client_told s) out);
+  alone = subst (λ (x : WorldRecord). IsAlone (begun_with s) (entries_in x)) (sym same) r.alone;
+}
 
-finished_at : (s : SessionState) (held : List ℕ) (out : Option (List ℕ)) → IsReady s → (held ≡ []) ⊎ IsPartial most_depth most_bytes held → FinishesCalls (end_at s.stream.start held) held s s out out
-finished_at s [] out r h = record { calls = []; reads = refl; later = client_told s; went = went_none (begun_with s) (session_entries s) (client_told s) out; alone = r.alone }
-finished_at s (b ∷ held) out r (inl e) = absurd (omega (arith, ap (length {A = ℕ}) e))
-finished_at s (b ∷ held) out r (inr p) = record { calls = []; reads = (refl, omega arith, p); later = client_told s; went = went_none (begun_with s) (session_entries s) (client_told s) out; alone = r.alone }
+ends_by_flaw : (over : Type 0) (flaw : Option Flaw) (bytes : List ℕ) (s last : SessionState) (out : Option (List ℕ)) → over → IsUnfinished flaw → FinishesCalls flaw bytes s last out out → EndsIn over (end_by_flaw flaw) bytes s last out out
+ends_by_flaw over None bytes s last out o u f = (f, o)
+ends_by_flaw over (Some (Inside place)) bytes s last out o u f = (f, o)
+ends_by_flaw over (Some (Bad place)) bytes s last out o u f = absurd u
+ends_by_flaw over (Some (TooDeep place)) bytes s last out o u f = absurd u
+ends_by_flaw over (Some (TooLong place)) bytes s last out o u f = absurd u
+ends_by_flaw over (Some (NoCall place)) bytes s last out o u f = absurd u
 
--- what a session that is ready holds where it needs more bytes
-needs : (s : SessionState) → IsReady s → NeedsMore s.stream → (s.stream.held ≡ []) ⊎ IsPartial most_depth most_bytes s.stream.held
-needs s r h =
-    let P : ℕ → ℕ → Type 0 = λ d m. (s.stream.held ≡ []) ⊎ IsPartial d m s.stream.held in
-    subst (λ (d : ℕ). P d most_bytes) r.depth (subst (λ (m : ℕ). P s.stream.depth m) r.most h)
-
--- where a session stands that needs more bytes
-pub ends_there : (s : SessionState) → IsReady s → NeedsMore s.stream → (flaw : Option Flaw) × IsUnfinished flaw × EndsAt s.number s.stream.start s.stream.held flaw
-ends_there s r h = (end_at s.stream.start s.stream.held, unfinished_at s.stream.start s.stream.held, held_at s s.stream.held (needs s r h))
-
--- the end of what a session holds, as its stream tells it
-pub ends_all : (s : SessionState) → IsReady s → NeedsMore s.stream → IsUnfinished (stream_end s.stream) × EndsAt s.number s.stream.start s.stream.held (stream_end s.stream)
-ends_all s r h =
-    let e : stream_end s.stream ≡ end_at s.stream.start s.stream.held = ap (λ (o : Option Flaw). option_or o (end_at s.stream.start s.stream.held)) r.no_flaw in
-    subst (λ (o : Option Flaw). IsUnfinished o × EndsAt s.number s.stream.start s.stream.held o) (sym e)
-    (unfinished_at s.stream.start s.stream.held, held_at s s.stream.held (needs s r h))
-
--- the end of what a session holds
-held_ends : (s : SessionState) (out : Option (List ℕ)) → IsReady s → NeedsMore s.stream → (flaw : Option Flaw) × (flaw ≡ stream_end s.stream) × IsUnfinished flaw × FinishesCalls flaw s.stream.held s s out out
-held_ends s out r h = (
-  end_at s.stream.start s.stream.held,
-  sym (ap (λ (o : Option Flaw). option_or o (end_at s.stream.start s.stream.held)) r.no_flaw),
-  unfinished_at s.stream.start s.stream.held,
-  finished_at s s.stream.held out r (needs s r h),
-)
-
-ends_by_flaw : (over : Type 0) (flaw : Option Flaw) (bytes : List ℕ) (s : SessionState) (out : Option (List ℕ)) → over → IsUnfinished flaw → FinishesCalls flaw bytes s s out out → EndsIn over (end_by_flaw flaw) bytes s s out out
-ends_by_flaw over None bytes s out o u f = (f, o)
-ends_by_flaw over (Some (Inside place)) bytes s out o u f = (f, o)
-ends_by_flaw over (Some (Bad place)) bytes s out o u f = absurd u
-ends_by_flaw over (Some (TooDeep place)) bytes s out o u f = absurd u
-ends_by_flaw over (Some (TooLong place)) bytes s out o u f = absurd u
-ends_by_flaw over (Some (NoCall place)) bytes s out o u f = absurd u
-
--- a session to which no more bytes come
-pub ends_held : (over : Type 0) (ended : Ended) (s : SessionState) (out : Option (List ℕ)) → over → IsReady s → NeedsMore s.stream → ended ≡ end_by_flaw (stream_end s.stream) → EndsIn over ended s.stream.held s s out out
-ends_held over ended s out o r h e =
-    let w = held_ends s out r h in
-    let E : Ended → Type 0 = λ x. EndsIn over x s.stream.held s s out out in
-    subst E (ap end_by_flaw w.1 ∙ sym e) (ends_by_flaw over w.0 s.stream.held s out o w.2 w.3)
+-- how a session ends to which no more bytes come, by what its intake holds
+abbrev pub EndsHeld : Ended → IntakeState → Type 0
+EndsHeld ended t = (flaw : Option Flaw) × (ended ≡ end_by_flaw flaw) × IsUnfinished flaw × EndsAt t.number t.place t.held flaw
 
 -- with the nothing that came last
-pub ends_last : (over : Type 0) (ended : Ended) (s : SessionState) (out : Option (List ℕ)) → EndsIn over ended s.stream.held s s out out → EndsIn over ended (s.stream.held ++ []) s s out out
-ends_last over ended s out h = subst (λ (l : List ℕ). EndsIn over ended l s s out out) (sym (append-nil s.stream.held)) h
+with_nothing : (over : Type 0) (ended : Ended) (piece : List ℕ) (s last : SessionState) (out : Option (List ℕ)) → piece ≡ [] → EndsIn over ended s.intake.held s last out out → EndsIn over ended (s.intake.held ++ piece) s last out out
+with_nothing over ended piece s last out e h =
+    subst (λ (l : List ℕ). EndsIn over ended l s last out out) (sym (ap (λ (l : List ℕ). s.intake.held ++ l) e ∙ append-nil s.intake.held)) h
+
+pub ends_last : (over : Type 0) (ended : Ended) (piece : List ℕ) (s last : SessionState) (t : IntakeState) (out : Option (List ℕ)) → piece ≡ [] → t ≡ s.intake → last.world ≡ s.world → over → IsReady s → EndsHeld ended t
+    → EndsIn over ended (s.intake.held ++ piece) s last out out
+ends_last over ended piece s last t out e same kept o r h =
+    let w : EndsHeld ended s.intake = subst (λ (x : IntakeState). EndsHeld ended x) same h in
+    let E : Ended → Type 0 = λ x. EndsIn over x s.intake.held s last out out in
+    with_nothing over ended piece s last out e (subst E (sym w.1) (ends_by_flaw over w.0 s.intake.held s last out o w.2 (finished_at w.0 s last out r kept w.3)))
 
 -- a session whose source failed
-pub fails_held : (over : Type 0) (s : SessionState) (out : Option (List ℕ)) → IsReady s → NeedsMore s.stream → EndsIn over ReadFault (s.stream.held ++ []) s s out out
-fails_held over s out r h = let w = held_ends s out r h in ends_last over ReadFault s out (w.0, w.2, w.3)
+pub fails_last : (over : Type 0) (piece : List ℕ) (s last : SessionState) (out : Option (List ℕ)) → piece ≡ [] → last.world ≡ s.world → IsReady s → (flaw : Option Flaw) × IsUnfinished flaw × EndsAt s.intake.number s.intake.place s.intake.held flaw
+    → EndsIn over ReadFault (s.intake.held ++ piece) s last out out
+fails_last over piece s last out e kept r h =
+    with_nothing over ReadFault piece s last out e (h.0, h.1, finished_at h.0 s last out r kept h.2)
 
--- a session from which the stream has given a value
-pub record Given (v : Tree) (old middle : SessionState) : Type 0 where
-  pub gives : TakesTree v old.stream middle.stream
-  pub number : middle.number ≡ old.number
-  pub world : middle.world ≡ old.world
-  pub painter : middle.painter ≡ old.painter
+-- the intake met a flaw
+pub flawed : (flaw : Flaw) (s last : SessionState) (out : Option (List ℕ)) → IsReady s → last.world ≡ s.world → EndsAt s.intake.number s.intake.place s.intake.held (Some flaw) × IfInside flaw ⊥
+    → FinishesCalls (Some flaw) s.intake.held s last out out × IfInside flaw ⊥
+flawed flaw s last out r kept h = (finished_at (Some flaw) s last out r kept h.0, h.1)
 
-within_bounds : (v : Tree) (old middle : SessionState) (front : List ℕ) → IsReady old → SpellsWithin old.stream.depth old.stream.most v front → SpellsWithin most_depth most_bytes v front
-within_bounds v old middle front r h =
-    let P : ℕ → ℕ → Type 0 = λ d m. SpellsWithin d m v front in
-    subst (λ (d : ℕ). P d most_bytes) r.depth (subst (λ (m : ℕ). P old.stream.depth m) r.most h)
+-- ---- a call that was given
 
--- the value that was given is spelled within the bounds
-pub spelled_front : (v : Tree) (old : SessionState) (new : State) → IsReady old → TakesTree v old.stream new → (front : List ℕ) × SpellsWithin most_depth most_bytes v front
-spelled_front v old new r g = (g.0, within_bounds v old old g.0 r g.2)
-
-spelled_given : (v : Tree) (old middle : SessionState) (g : Given v old middle) → IsReady old → SpellsWithin most_depth most_bytes v g.gives.0
-spelled_given v old middle g r = within_bounds v old middle g.gives.0 r g.gives.2
-
-not_inside : (flaw : Flaw) (n : ℕ) → flaw ≡ NoCall n → IfInside flaw ⊥
-not_inside flaw n e = subst (λ (f : Flaw). IfInside f ⊥) (sym e) tt
-
-no_call_here : (flaw : Flaw) (v : Tree) (old middle new : SessionState) (before after : Option (List ℕ)) → IsReady old → (g : Given v old middle) → flaw ≡ NoCall middle.number → call_in v ≡ None → after ≡ before → new.world ≡ middle.world → FinishesCalls (Some flaw) old.stream.held old new before after
-no_call_here flaw v old middle new before after r g e n w k =
-    let E : Flaw → Type 0 = λ f. EndsAt old.number old.stream.start old.stream.held (Some f) in
-    let same : new.world ≡ old.world = k ∙ g.world in
-    record {
-      calls = [];
-      reads = subst E (sym e) (
-        g.number,
-        record {
-          value = v;
-          front = g.gives.0;
-          rest = middle.stream.held;
-          spelled = spelled_given v old middle g r;
-          parts = g.gives.3;
-          no_call = n;
-        },
-      );
-      later = client_told old;
-      went = subst (λ (x : WorldRecord). WentOn (begun_with old) [] (session_entries old) (entries_in x) (client_told old) (client_told old) before after) (sym same)
-          (subst (λ (o : Option (List ℕ)). WentOn (begun_with old) [] (session_entries old) (session_entries old) (client_told old) (client_told old) before o) (sym w)
-          (went_none (begun_with old) (session_entries old) (client_told old) before));
-      alone = subst (λ (x : WorldRecord). IsAlone (begun_with old) (entries_in x)) (sym same) r.alone;
-    }
-
-one_call : (v : Tree) (old middle : SessionState) (call : Call) (g : Given v old middle) → IsReady old → call_in v ≡ Some call → Calls (call ∷ []) g.gives.0
-one_call v old middle call g r e =
-    (g.gives.0, [], record { value = v; spelled = spelled_given v old middle g r; is_call = e }, sym (append-nil g.gives.0), refl)
-
--- a call was made in the world that a session had before the stream gave it, and to the same client
-from_old : (Q : Start → List Entry → Told → Type 0) (v : Tree) (old middle : SessionState) → Given v old middle → Q (begun_with middle) (session_entries middle) (client_told middle)
-    → Q (begun_with old) (session_entries old) (client_told old)
-from_old Q v old middle g h =
-    subst (λ (x : WorldRecord). Q (start_of x) (entries_in x) (client_told old)) g.world (subst (λ (q : Painting). Q (begun_with middle) (session_entries middle) q.told) g.painter h)
-
-cut_in_call : (Is : Start → List Call → List Entry → Type 0) (v : Tree) (old middle new : SessionState) (before after : Option (List ℕ)) (call : Call) → IsReady old → Given v old middle → call_in v ≡ Some call
-    → WentPart (begun_with middle) Is [] (call ∷ []) (session_entries middle) (session_entries new) (client_told middle) before after → StopsShort Is old.stream.held old new before after
-cut_in_call Is v old middle new before after call r g e b = record {
+cut_in_call : (Is : Start → List Call → List Entry → Type 0) (call : Call) (old new : SessionState) (t : IntakeState) (before after : Option (List ℕ)) → GivesCall call old.intake t
+    → WentPart (begun_with old) Is [] (call ∷ []) (session_entries old) (session_entries new) (client_told old) before after → StopsShort Is old.intake.held old new before after
+cut_in_call Is call old new t before after g b = record {
   calls = [];
   next = call ∷ [];
-  whole = g.gives.0;
-  rest = middle.stream.held;
-  parts = g.gives.3;
-  spelled = one_call v old middle call g r e;
-  went = from_old (λ d h t. WentPart d Is [] (call ∷ []) h (session_entries new) t before after) v old middle g b;
+  whole = g.front;
+  rest = t.held;
+  parts = g.parts;
+  spelled = (g.front, [], g.spelled, sym (append-nil g.front), refl);
+  went = b;
 }
 
-closed_in_call : (cause : Cause) (v : Tree) (old middle new : SessionState) (before after : Option (List ℕ)) (call : Call) → IsReady old → Given v old middle → call_in v ≡ Some call
-    → WentUpTo (begun_with middle) cause (call ∷ []) (session_entries middle) (session_entries new) (client_told middle) before after → StopsClosed cause old.stream.held old new before after
-closed_in_call cause v old middle new before after call r g e b = record {
+closed_in_call : (cause : Cause) (call : Call) (old new : SessionState) (t : IntakeState) (before after : Option (List ℕ)) → GivesCall call old.intake t
+    → WentUpTo (begun_with old) cause (call ∷ []) (session_entries old) (session_entries new) (client_told old) before after → StopsClosed cause old.intake.held old new before after
+closed_in_call cause call old new t before after g b = record {
   calls = call ∷ [];
-  whole = g.gives.0;
-  rest = middle.stream.held;
-  parts = g.gives.3;
-  spelled = one_call v old middle call g r e;
-  went = from_old (λ d h t. WentUpTo d cause (call ∷ []) h (session_entries new) t before after) v old middle g b;
+  whole = g.front;
+  rest = t.held;
+  parts = g.parts;
+  spelled = (g.front, [], g.spelled, sym (append-nil g.front), refl);
+  went = b;
 }
 
--- the stream gave a value that is no call
-pub refused : (v : Tree) (old middle new : SessionState) (out : Option (List ℕ)) → IsReady old → Given v old middle → call_in v ≡ None → new.world ≡ middle.world
-    → EndsIn ⊥ (Malformed (NoCall middle.number)) old.stream.held old new out out
-refused v old middle new out r g e w =
-    let flaw = NoCall middle.number in
-    (no_call_here flaw v old middle new out out r g refl e refl w, not_inside flaw middle.number refl)
+-- it ended the session
+pub stopped_at : (ended : Ended) (call : Call) (old new : SessionState) (t : IntakeState) (before after : Option (List ℕ)) → GivesCall call old.intake t
+    → StopsAtCall ended call old.world new.world (client_told old) before after → EndsIn ⊥ ended old.intake.held old new before after
+stopped_at (Malformed flaw) call old new t before after g h = absurd h
+stopped_at WriteFault call old new t before after g h = cut_in_call IsClosing call old new t before after g h
+stopped_at NoMemory call old new t before after g h = cut_in_call IsFront call old new t before after g h
+stopped_at (Overflowed entry) call old new t before after g h = closed_in_call (overflowed_at entry) call old new t before after g h
+stopped_at (Quit entry) call old new t before after g h = closed_in_call (quit_at entry) call old new t before after g h
+stopped_at Closed call old new t before after g h = absurd h
+stopped_at ReadFault call old new t before after g h = absurd h
 
--- the call that the stream gave ended the session
-pub stopped_at : (ended : Ended) (v : Tree) (call : Call) (old middle new : SessionState) (before after : Option (List ℕ)) → IsReady old → Given v old middle → call_in v ≡ Some call
-    → StopsAtCall ended call middle.world new.world (client_told middle) before after → EndsIn ⊥ ended old.stream.held old new before after
-stopped_at (Malformed flaw) v call old middle new before after r g e h = absurd h
-stopped_at WriteFault v call old middle new before after r g e h = absurd h
-stopped_at NoMemory v call old middle new before after r g e h = cut_in_call IsFront v old middle new before after call r g e h
-stopped_at (Overflowed entry) v call old middle new before after r g e h = closed_in_call (overflowed_at entry) v old middle new before after call r g e h
-stopped_at (Quit entry) v call old middle new before after r g e h = closed_in_call (quit_at entry) v old middle new before after call r g e h
-stopped_at Closed v call old middle new before after r g e h = absurd h
-stopped_at ReadFault v call old middle new before after r g e h = absurd h
-
--- the value that the stream gave was a call, and was answered
-pub served_one : (v : Tree) (old middle new : SessionState) (before after : Option (List ℕ)) (call : Call) → IsReady old → Given v old middle → call_in v ≡ Some call → AnswersCall call middle new before after
-    → ServesCalls old.stream.held old new before after × IsReady new × (length new.stream.held < length old.stream.held)
-served_one v old middle new before after call r g e a =
-    let front = g.gives.0 in
-    let state : new.stream ≡ behind_value old.stream (length g.gives.0) middle.stream.held = a.stream ∙ g.gives.4 in
-    let place : new.stream.start ≡ old.stream.start + length g.gives.0 = ap (λ (x : State). x.start) state in
-    let held : new.stream.held ≡ middle.stream.held = ap (λ (x : State). x.held) state in
-    let parts : old.stream.held ≡ g.gives.0 ++ new.stream.held = g.gives.3 ∙ ap (λ (l : List ℕ). g.gives.0 ++ l) (sym held) in
-    let some : 0 < length g.gives.0 = has_byte-in old.stream.depth v g.gives.0 g.gives.2.0 in
-    let number : new.number ≡ old.number + 1 = a.number ∙ ap (λ (n : ℕ). n + 1) g.number in
-    let fewer : old.number ≤ old.stream.start = r.counted in (
-      record {
-        calls = call ∷ [];
-        whole = g.gives.0;
-        spelled = one_call v old middle call g r e;
-        parts = parts;
-        place = place;
-        number = number;
-        begins = a.begins ∙ ap start_of g.world;
-        went = from_old (λ d h t. WentOn d (call ∷ []) h (session_entries new) t (client_told new) before after) v old middle g a.went;
-      },
-      record {
-        depth = ap (λ (x : State). x.depth) state ∙ r.depth;
-        most = ap (λ (x : State). x.most) state ∙ r.most;
-        no_flaw = ap (λ (x : State). x.flaw) state ∙ r.no_flaw;
-        counted = omega arith;
-        alone = subst (λ (d : Start). IsAlone d (session_entries new)) (sym a.begins) a.alone;
-      },
-      omega (arith, ap (length {A = ℕ}) parts, length-append g.gives.0 new.stream.held),
+-- it was answered
+pub served_one : (call : Call) (old new : SessionState) (t : IntakeState) (before after : Option (List ℕ)) → GivesCall call old.intake t → AnswersCall call (record old { intake = t }) new before after
+    → ServesCalls old.intake.held old new before after × IsReady new × (length new.intake.held < length old.intake.held)
+served_one call old new t before after g a =
+    let given : GivesCall call old.intake new.intake = subst (λ (x : IntakeState). GivesCall call old.intake x) (sym a.intake) g in (
+      record { calls = call ∷ []; gave = gave_one call old.intake new.intake given; begins = a.begins; went = a.went },
+      record { live = given.live; alone = subst (λ (d : Start). IsAlone d (session_entries new)) (sym a.begins) a.alone },
+      omega (arith, ap (length {A = ℕ}) given.parts, length-append given.front new.intake.held, given.some),
     )
-
-flaw_here : (flaw : Flaw) (s new : SessionState) (out : Option (List ℕ)) → IsReady s → new.world ≡ s.world → IsFlawAt most_depth most_bytes s.stream.start s.stream.held flaw → FinishesCalls (Some flaw) s.stream.held s new out out × IfInside flaw ⊥
-flaw_here flaw s new out r same h = by flaw h
-  where
-    finished : (f : Flaw) → EndsAt s.number s.stream.start s.stream.held (Some f) → FinishesCalls (Some f) s.stream.held s new out out
-    finished f e = record {
-      calls = [];
-      reads = e;
-      later = client_told s;
-      went = subst (λ (x : WorldRecord). WentOn (begun_with s) [] (session_entries s) (entries_in x) (client_told s) (client_told s) out out) (sym same) (went_none (begun_with s) (session_entries s) (client_told s) out);
-      alone = subst (λ (x : WorldRecord). IsAlone (begun_with s) (entries_in x)) (sym same) r.alone;
-    }
-
-    by : (f : Flaw) → IsFlawAt most_depth most_bytes s.stream.start s.stream.held f → FinishesCalls (Some f) s.stream.held s new out out × IfInside f ⊥
-    by (Bad place) h = (finished (Bad place) h, tt)
-    by (TooDeep place) h = (finished (TooDeep place) h, tt)
-    by (TooLong place) h = (finished (TooLong place) h, tt)
-    by (Inside place) h = absurd h
-    by (NoCall place) h = absurd h
-
--- the stream met a flaw
-pub flawed : (flaw : Flaw) (s last : SessionState) (new : State) (out : Option (List ℕ)) → IsReady s → last.world ≡ s.world → IsAnswer (TheFlaw flaw) s.stream new → FinishesCalls (Some flaw) s.stream.held s last out out × IfInside flaw ⊥
-flawed flaw s last new out r same g =
-    let P : ℕ → ℕ → Type 0 = λ d m. IsFlawAt d m s.stream.start s.stream.held flaw in
-    let met : IsFlawAt most_depth most_bytes s.stream.start s.stream.held flaw =
-    ⊎_elim (λ e. let c : None ≡ Some flaw = sym r.no_flaw ∙ e in cc)
-    (λ w. subst (λ (d : ℕ). P d most_bytes) r.depth (subst (λ (m : ℕ). P s.stream.depth m) r.most w.1)) g.1 in
-    flaw_here flaw s last out r same met
 
 -- a session to which nothing came
 pub served_new : (s : SessionState) (out : Option (List ℕ)) → IsNew s → ServesCalls [] s s out out
-served_new s out n = subst (λ (l : List ℕ). ServesCalls l s s out out) n.nothing (served_none s out)
+served_new s out n = record {
+  calls = [];
+  gave = gave_fresh s.intake (ap (λ (x : IntakeState). x.held) n.fresh);
+  begins = refl;
+  went = went_none (begun_with s) (session_entries s) (client_told s) out;
+}
 
 -- ---- a call, and what it made due, on its way out
 
@@ -329,34 +201,46 @@ unanswered_part start h k call told out a u = record {
   is = subst (λ (l : List Call). IsFront start (l ++ call ∷ []) k) (sym (append-nil (calls_of 1 h))) u.front;
 }
 
--- a call was answered, and memory was wanting for the bytes of its answer
-pub unspoken_part : (start : Start) (h k : List Entry) (call : Call) (messages : List Sent) (scene : Option Scene) (told : Told) (out : Option (List ℕ)) → IsAlone start h → Answers start call messages scene h k
-    → WentPart start IsFront [] (call ∷ []) h k told out out
-unspoken_part start h k call messages scene told out a w = record {
+-- a call was answered, and its answer went out in part: how that is, by what its history is
+cut_part : (start : Start) (Is : Start → List Call → List Entry → Type 0) (h k : List Entry) (call : Call) (messages : List Sent) (scene : Option Scene) (told : Told) → IsAlone start h → Answers start call messages scene h k
+    → Is start (calls_of 1 k) k → WentPart start Is [] (call ∷ []) h k told (Some []) (Some (bytes_said told messages scene))
+cut_part start Is h k call messages scene told a w is = record {
   has = due_has start k w.nothing_due;
   gave = [];
-  last = bytes_of_batch told messages scene;
-  count = 0;
+  last = bytes_said told messages scene;
+  count = length (bytes_said told messages scene);
   answered = λ bytes s. rest_answered start h told a.nothing_due bytes s;
   sent = λ bytes s.
-      subst (λ (l : List ℕ). AreBytesTaken start k (l ++ bytes_of_batch told messages scene)) (sym (append-nil bytes))
-      (sent_bytes start k (told_with told scene) (bytes ++ bytes_of_batch told messages scene) (w.sent told bytes s));
-  written = known_none out;
-  is = subst (λ (l : List Call). IsFront start (l ++ call ∷ []) k) (sym (append-nil (calls_of 1 h))) (subst (λ (l : List Call). IsFront start l k) w.asked (rest_front start k w.nothing_due));
+      subst (λ (l : List ℕ). AreBytesTaken start k (l ++ bytes_said told messages scene)) (sym (append-nil bytes))
+      (sent_bytes start k (told_with told scene) (bytes ++ bytes_said told messages scene) (w.sent told bytes s));
+  written = ap (λ (l : List ℕ). Some l) (sym (take_all (bytes_said told messages scene)));
+  is = subst (λ (l : List Call). Is start (l ++ call ∷ []) k) (sym (append-nil (calls_of 1 h))) (subst (λ (l : List Call). Is start l k) w.asked is);
 }
+
+-- a batch didn't go out whole
+pub cut_at : (ended : Ended) (old new : WorldRecord) (call : Call) (messages : List Sent) (scene : Option Scene) (told : Told) → CutsShort ended → IsAlone (start_of old) (entries_in old)
+    → Answers (start_of old) call messages scene (entries_in old) (entries_in new) → StopsAtCall ended call old new told (Some []) (Some (bytes_said told messages scene))
+cut_at WriteFault old new call messages scene told short a w =
+    cut_part (start_of old) IsClosing (entries_in old) (entries_in new) call messages scene told a w (closing (start_of old) (entries_in new) w.nothing_due)
+cut_at NoMemory old new call messages scene told short a w =
+    cut_part (start_of old) IsFront (entries_in old) (entries_in new) call messages scene told a w (rest_front (start_of old) (entries_in new) w.nothing_due)
+cut_at Closed old new call messages scene told short a w = absurd short
+cut_at (Malformed flaw) old new call messages scene told short a w = absurd short
+cut_at ReadFault old new call messages scene told short a w = absurd short
+cut_at (Overflowed entry) old new call messages scene told short a w = absurd short
+cut_at (Quit entry) old new call messages scene told short a w = absurd short
 
 -- all of it waits
 spoken_all : (start : Start) (h k : List Entry) (call : Call) (messages : List Sent) (scene : Option Scene) (told : Told) (before after : Option (List ℕ)) → Answers start call messages scene h k
-    → after ≡ append_known before (bytes_of_batch told messages scene) → WentOn start (call ∷ []) h k told (told_with told scene) before after
+    → after ≡ append_known before (bytes_said told messages scene) → WentOn start (call ∷ []) h k told (told_with told scene) before after
 spoken_all start h k call messages scene told before after w e =
-    record { gave = bytes_of_batch told messages scene; asked = w.asked; sent = λ bytes s. w.sent told bytes s; written = e }
+    record { gave = bytes_said told messages scene; asked = w.asked; sent = λ bytes s. w.sent told bytes s; written = e }
 
-pub goes_on : (call : Call) (messages : List Sent) (scene : Option Scene) (old new : SessionState) (before after : Option (List ℕ)) → new.stream ≡ old.stream → new.number ≡ old.number + 1 → begun_with new ≡ begun_with old
-    → client_told new ≡ told_with (client_told old) scene → Answers (begun_with old) call messages scene (session_entries old) (session_entries new) → after ≡ append_known before (bytes_of_batch (client_told old) messages scene)
+pub goes_on : (call : Call) (messages : List Sent) (scene : Option Scene) (old new : SessionState) (before after : Option (List ℕ)) → new.intake ≡ old.intake → begun_with new ≡ begun_with old
+    → client_told new ≡ told_with (client_told old) scene → Answers (begun_with old) call messages scene (session_entries old) (session_entries new) → after ≡ append_known before (bytes_said (client_told old) messages scene)
     → cause_after (begun_with old) (session_entries new) ≡ None → AnswersCall call old new before after
-goes_on call messages scene old new before after s n begins told w e c = record {
-  stream = s;
-  number = n;
+goes_on call messages scene old new before after s begins told w e c = record {
+  intake = s;
   begins = begins;
   alone = alone_if (begun_with old) (session_entries new) w.nothing_due c;
   went = subst (λ (t : Told). WentOn (begun_with old) (call ∷ []) (session_entries old) (session_entries new) (client_told old) t before after) (sym told)
@@ -364,7 +248,7 @@ goes_on call messages scene old new before after s n begins told w e c = record 
 }
 
 goes_up_to : (start : Start) (cause : Cause) (call : Call) (messages : List Sent) (scene : Option Scene) (h k : List Entry) (told : Told) (before after : Option (List ℕ)) → Answers start call messages scene h k
-    → after ≡ append_known before (bytes_of_batch told messages scene) → cause_after start k ≡ Some cause → WentUpTo start cause (call ∷ []) h k told before after
+    → after ≡ append_known before (bytes_said told messages scene) → cause_after start k ≡ Some cause → WentUpTo start cause (call ∷ []) h k told before after
 goes_up_to start cause call messages scene h k told before after w e c = record {
   later = told_with told scene;
   went = spoken_all start h k call messages scene told before after w e;
@@ -374,7 +258,7 @@ goes_up_to start cause call messages scene h k told before after w e c = record 
 }
 
 pub ended_call : (ended : Ended) (call : Call) (messages : List Sent) (scene : Option Scene) (old new : WorldRecord) (told : Told) (before after : Option (List ℕ))
-    → Answers (start_of old) call messages scene (entries_in old) (entries_in new) → after ≡ append_known before (bytes_of_batch told messages scene) → IsEndedBy (Some ended) (cause_after (start_of old) (entries_in new))
+    → Answers (start_of old) call messages scene (entries_in old) (entries_in new) → after ≡ append_known before (bytes_said told messages scene) → IsEndedBy (Some ended) (cause_after (start_of old) (entries_in new))
     → StopsAtCall ended call old new told before after
 ended_call (Overflowed entry) call messages scene old new told before after w e h = goes_up_to (start_of old) (overflowed_at entry) call messages scene (entries_in old) (entries_in new) told before after w e h
 ended_call (Quit entry) call messages scene old new told before after w e h = goes_up_to (start_of old) (quit_at entry) call messages scene (entries_in old) (entries_in new) told before after w e h
@@ -383,6 +267,16 @@ ended_call (Malformed flaw) call messages scene old new told before after w e h 
 ended_call ReadFault call messages scene old new told before after w e h = absurd h
 ended_call WriteFault call messages scene old new told before after w e h = absurd h
 ended_call NoMemory call messages scene old new told before after w e h = absurd h
+
+-- ---- a batch that didn't go out whole
+
+pub unsaid_cut : (why : Unsaid) → CutsShort (ended_unsaid why)
+unsaid_cut unsaid.WriteFault = tt
+unsaid_cut unsaid.NoMemory = tt
+
+pub unsaid_fault : {T : Type 0} (why : Unsaid) (ended : Ended) (r : Result T Ended) → ended ≡ ended_unsaid why → r ≡ Err ended → r ≡ Err WriteFault → why ≡ unsaid.WriteFault
+unsaid_fault unsaid.WriteFault ended r e f g = cc
+unsaid_fault unsaid.NoMemory ended r e f g = cc
 
 -- ---- answers under a result
 

@@ -5,6 +5,7 @@ use mathlib.Core.List.{IsPrefix}
 use Rattle.nv_turn.specs.Passes.{IsSamePass}
 use Rattle.nv_io.specs.Faults.{Rose}
 use Rattle.nv_io.specs.Streams.{Gave}
+use Rattle.nv_io.specs.Words.{HalvesWords}
 use Rattle.nv_io.specs.declared.lanes.Flaw.{Flaw}
 use Rattle.nv_io.specs.declared.lanes.Ended.{Ended}
 use Rattle.nv_io.specs.declared.lanes.Ended.TheVariants.{Closed, Malformed, Overflowed, ReadFault, WriteFault, Quit, NoMemory}
@@ -13,18 +14,10 @@ use Rattle.nv_history.specs.Worlds.{World}
 use Rattle.nv_history.specs.Asking.{takes_by, calls_of}
 use Rattle.nv_history.specs.Spoken.{AreBytesOf}
 use Rattle.nv_world.specs.declared.story.Start.{Start}
-use Rattle.nv_halves.specs.Reading.{Reads, BeginWithCalls, WasRead, IsUnfinished, IfInside}
+use Rattle.nv_calls.specs.Reading.{Reads, BeginWithCalls, WasRead, IsUnfinished, IfInside}
 use Rattle.nv_halves.specs.Halves.{WroteAll, WroteFront}
 use Rattle.nv_halves.specs.Passes.{WorldPass, out_of, OfEach, IsFromReader, IsFromWriter, EachEvent, Gained, GainedEach, IsClosedBy, IsOver}
 use Rattle.nv_session.specs.Openings.{opening_entry, HasOpening, IsWhyUnopened}
-
--- What the two ends of connections of one kind tell: the bytes that were taken from one and those
--- that are left, the bytes that the other took, and its count of faults.
-pub record EndsOf (I S : Type 0) : Type 0 where
-  pub taken : I → Option (List ℕ)
-  pub left : I → Option (List ℕ)
-  pub sent : S → Option (List ℕ)
-  pub faults : S → ℕ
 
 -- What went over a connection: the bytes read, and what is left of them; and of the end where bytes
 -- go out what it had taken, and its faults, before and after.
@@ -86,16 +79,16 @@ ConnectionEnds WriteFault start s history world x =
 ConnectionEnds NoMemory start s history world x =
     BeginWithCalls (calls_of s history) x.read × SendsFront start s history x
 
-module _ {I S : Type 0} (t : EndsOf I S) where
+module _ {I S : Type 0} (t : HalvesWords I S) where
   -- the traffic of a connection of which these bytes were read
   abbrev pub traffic_of : List ℕ → I → S → S → Traffic
   traffic_of bytes input_after output output_after = record {
     read = bytes;
-    left = t.left input_after;
-    sent_before = t.sent output;
-    sent_after = t.sent output_after;
-    faults_before = t.faults output;
-    faults_after = t.faults output_after;
+    left = (t.input input_after).left;
+    sent_before = (t.output output).taken;
+    sent_after = (t.output output_after).taken;
+    faults_before = (t.output output).faults;
+    faults_after = (t.output output_after).faults;
   }
 
   -- A connection was served as the session s. The first pass gained its opening, and then entries
@@ -113,7 +106,8 @@ module _ {I S : Type 0} (t : EndsOf I S) where
     pub each_asked : EachEvent (IsFromReader s) asked
     pub gains_other : GainedEach (IsFromWriter s) q.number q.seen q_after.seen taken
     pub bytes : List ℕ
-    pub read : Gave (t.taken input) (t.taken input_after) (t.left input) (t.left input_after) bytes
+    pub read : Gave (t.input input).taken (t.input input_after).taken (t.input input).left
+        (t.input input_after).left bytes
     pub ends : OfEach p.start p_after.seen (λ history world.
         IsPrefix q_after.seen history → takes_by s history ≡ takes_by s taken
         → calls_of s history ≡ calls_of s asked
@@ -128,5 +122,5 @@ module _ {I S : Type 0} (t : EndsOf I S) where
     pub gains_one : Gained p.number p.seen p_after.seen []
     pub second : q_after ≡ q
     pub read : input_after ≡ input
-    pub sent : t.sent output_after ≡ t.sent output
+    pub sent : (t.output output_after).taken ≡ (t.output output).taken
     pub why : IsWhyUnopened how p.start p_after.seen

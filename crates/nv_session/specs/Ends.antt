@@ -9,7 +9,7 @@ use Rattle.nv_rpc.specs.Calls.{Call}
 use Rattle.nv_history.specs.Events.{Entry, Cause, closed_at, overflowed_at, quit_at}
 use Rattle.nv_history.specs.Asking.{calls_of}
 use Rattle.nv_world.specs.declared.story.Start.{Start}
-use Rattle.nv_halves.specs.Reading.{Calls, Reads, WasRead, IsUnfinished, IfInside}
+use Rattle.nv_calls.specs.Reading.{Calls, Reads, WasRead, IsUnfinished, IfInside}
 use Rattle.nv_session.specs.Sending.{AreBytesTaken, history_of, cause_after}
 
 -- The bytes read hold calls and then this flaw or none; the history is that of a session that makes

@@ -14,11 +14,11 @@ ghost use Rattle.nv_session.specs.Connections.{ServesSession, ServesNone};
 ghost use Rattle.nv_session.specs.inside.Opened.{ServesHalves, what_was_opened};
 
 use nv_halves::{
-    Bell, ReaderEnd, ReaderHalf, Voice, WriterEnd, WriterHalf, open, reader_half, unread_half,
-    writer_half,
+    Bell, ReaderEnd, ReaderHalf, WriterEnd, WriterHalf, open, reader_half, unread_half, writer_half,
 };
 use nv_io::{Ended, Sink, Source};
 use nv_painter::Painter;
+use nv_speech::Voice;
 use nv_turn::{Pass, Turn};
 use nv_world::{Cause, Unopened, World};
 use std::alloc::Global;
@@ -129,10 +129,10 @@ fn write_apart<R: Threads + Wait + Sync, S: Sink + Send + Drop, V: Voice + Send 
     requires told { V.told voice ≡ nothing_told }
     ensures pass { IsSamePass (plain_pass pass) (plain_pass result.pass) }
     ensures wrote { WritesHalf result.end (plain_pass pass) (plain_pass result.pass) session
-        (S.taken output) (S.taken result.output) }
-    ensures later { S.faults output ≤ S.faults result.output }
+        (S.words output).taken (S.words result.output).taken }
+    ensures later { (S.words output).faults ≤ (S.words result.output).faults }
     ensures fault { result.end ≡ WriterEnd.WriteFault
-        → Rose (S.faults output) (S.faults result.output) }
+        → Rose (S.words output).faults (S.words result.output).faults }
 {
     join(
         rt,
@@ -141,10 +141,10 @@ fn write_apart<R: Threads + Wait + Sync, S: Sink + Send + Drop, V: Voice + Send 
                 × (lane < length bells.now) × (V.told voice ≡ nothing_told) }
             ensures pass { IsSamePass (plain_pass pass) (plain_pass result.pass) }
             ensures wrote { WritesHalf result.end (plain_pass pass) (plain_pass result.pass)
-                session (S.taken output) (S.taken result.output) }
-            ensures later { S.faults output ≤ S.faults result.output }
+                session (S.words output).taken (S.words result.output).taken }
+            ensures later { (S.words output).faults ≤ (S.words result.output).faults }
             ensures fault { result.end ≡ WriterEnd.WriteFault
-                → Rose (S.faults output) (S.faults result.output) }
+                → Rose (S.words output).faults (S.words result.output).faults }
         { writer_half(rt, alloc, turn, bells, lane, pass, session, output, voice) },
         || (),
     )
@@ -165,11 +165,12 @@ fn read_if<R: Wait, I: Source>(
     requires { pass.turn ≡ turn.now.turn }
     ensures pass { IsSamePass (plain_pass pass) (plain_pass result.pass) }
     ensures read { ReadsHalf result.end (plain_pass pass) (plain_pass result.pass) session
-        (I.taken input) (I.taken result.input) (I.left input) (I.left result.input) }
+        (I.words input).taken (I.words result.input).taken (I.words input).left
+        (I.words result.input).left }
     ensures closes { LeavesClosed result.end (plain_pass result.pass) session }
-    ensures later { I.faults input ≤ I.faults result.input }
+    ensures later { (I.words input).faults ≤ (I.words result.input).faults }
     ensures fault { result.end ≡ ReaderEnd.ReadFault
-        → Rose (I.faults input) (I.faults result.input) }
+        → Rose (I.words input).faults (I.words result.input).faults }
 {
     if has_thread.load(Ordering::SeqCst) {
         reader_half(rt, alloc, turn, bells, pass, session, input)
@@ -191,10 +192,11 @@ impl<I: Source> Promise<ReaderHalf<I>> for Reading<I> {
 
     ghost kept_by = { λ p r. IsSamePass (plain_pass p.pass.value) (plain_pass r.pass)
         × ReadsHalf r.end (plain_pass p.pass.value) (plain_pass r.pass) p.session
-        (I.taken p.input.value) (I.taken r.input) (I.left p.input.value) (I.left r.input)
+        (I.words p.input.value).taken (I.words r.input).taken (I.words p.input.value).left
+        (I.words r.input).left
         × LeavesClosed r.end (plain_pass r.pass) p.session
-        × (I.faults p.input.value ≤ I.faults r.input)
-        × (r.end ≡ ReadFault → Rose (I.faults p.input.value) (I.faults r.input)) };
+        × ((I.words p.input.value).faults ≤ (I.words r.input).faults)
+        × (r.end ≡ ReadFault → Rose (I.words p.input.value).faults (I.words r.input).faults) };
 }
 
 // Runs both halves of a session, each in a thread of its own. Where no thread can be had for the
@@ -222,17 +224,18 @@ pub(crate) fn run_halves<
     requires told { V.told voice ≡ nothing_told }
     ensures first { IsSamePass (plain_pass first) (plain_pass result.0.pass) }
     ensures read { ReadsHalf result.0.end (plain_pass first) (plain_pass result.0.pass) session
-        (I.taken input) (I.taken result.0.input) (I.left input) (I.left result.0.input) }
+        (I.words input).taken (I.words result.0.input).taken (I.words input).left
+        (I.words result.0.input).left }
     ensures closes { LeavesClosed result.0.end (plain_pass result.0.pass) session }
-    ensures read_later { I.faults input ≤ I.faults result.0.input }
+    ensures read_later { (I.words input).faults ≤ (I.words result.0.input).faults }
     ensures read_fault { result.0.end ≡ ReaderEnd.ReadFault
-        → Rose (I.faults input) (I.faults result.0.input) }
+        → Rose (I.words input).faults (I.words result.0.input).faults }
     ensures second { IsSamePass (plain_pass second) (plain_pass result.1.pass) }
     ensures wrote { WritesHalf result.1.end (plain_pass second) (plain_pass result.1.pass) session
-        (S.taken output) (S.taken result.1.output) }
-    ensures write_later { S.faults output ≤ S.faults result.1.output }
+        (S.words output).taken (S.words result.1.output).taken }
+    ensures write_later { (S.words output).faults ≤ (S.words result.1.output).faults }
     ensures write_fault { result.1.end ≡ WriterEnd.WriteFault
-        → Rose (S.faults output) (S.faults result.1.output) }
+        → Rose (S.words output).faults (S.words result.1.output).faults }
 {
     let has_thread = AtomicBool::new(true);
     let has_thread = &has_thread;
@@ -245,18 +248,19 @@ pub(crate) fn run_halves<
                 × (lane < length bells.now) × (V.told voice ≡ nothing_told) }
             ensures first { IsSamePass (plain_pass first) (plain_pass result.0.pass) }
             ensures read { ReadsHalf result.0.end (plain_pass first) (plain_pass result.0.pass)
-                session (I.taken input) (I.taken result.0.input) (I.left input)
-                (I.left result.0.input) }
+                session (I.words input).taken (I.words result.0.input).taken (I.words input).left
+                (I.words result.0.input).left }
             ensures closes { LeavesClosed result.0.end (plain_pass result.0.pass) session }
-            ensures read_later { I.faults input ≤ I.faults result.0.input }
+            ensures read_later { (I.words input).faults ≤ (I.words result.0.input).faults }
             ensures read_fault { result.0.end ≡ ReaderEnd.ReadFault
-                → Rose (I.faults input) (I.faults result.0.input) }
+                → Rose (I.words input).faults (I.words result.0.input).faults }
             ensures second { IsSamePass (plain_pass second) (plain_pass result.1.pass) }
             ensures wrote { WritesHalf result.1.end (plain_pass second)
-                (plain_pass result.1.pass) session (S.taken output) (S.taken result.1.output) }
-            ensures write_later { S.faults output ≤ S.faults result.1.output }
+                (plain_pass result.1.pass) session (S.words output).taken
+                (S.words result.1.output).taken }
+            ensures write_later { (S.words output).faults ≤ (S.words result.1.output).faults }
             ensures write_fault { result.1.end ≡ WriterEnd.WriteFault
-                → Rose (S.faults output) (S.faults result.1.output) }
+                → Rose (S.words output).faults (S.words result.1.output).faults }
         {
             let promise = Reading {
                 pass: Snapshot::of(&first),
@@ -267,12 +271,12 @@ pub(crate) fn run_halves<
                 requires { IsSync R.row × IsSend I.row × (first.turn ≡ turn.now.turn) }
                 ensures pass { IsSamePass (plain_pass first) (plain_pass result.pass) }
                 ensures read { ReadsHalf result.end (plain_pass first) (plain_pass result.pass)
-                    session (I.taken input) (I.taken result.input) (I.left input)
-                    (I.left result.input) }
+                    session (I.words input).taken (I.words result.input).taken (I.words input).left
+                    (I.words result.input).left }
                 ensures closes { LeavesClosed result.end (plain_pass result.pass) session }
-                ensures later { I.faults input ≤ I.faults result.input }
+                ensures later { (I.words input).faults ≤ (I.words result.input).faults }
                 ensures fault { result.end ≡ ReaderEnd.ReadFault
-                    → Rose (I.faults input) (I.faults result.input) }
+                    → Rose (I.words input).faults (I.words result.input).faults }
             { read_if(rt, alloc, turn, bells, first, session, input, has_thread) };
             match scope.spawn_with(promise, reader) {
                 Ok(child) => {
@@ -314,15 +318,18 @@ fn serve_session<R: Threads + Wait + Sync, I: Source + Send + Drop, S: Sink + Se
     requires told { painter.told ≡ nothing_told }
     ensures session { result.session ≡ session }
     ensures serves { ServesHalves
-        (record { taken = I.taken; left = I.left; sent = S.taken; faults = S.faults })
+        (record {
+          input = I.words;
+          output = S.words;
+        })
         (plain_pass first) (plain_pass second) (plain_pass result.passes.0)
         (plain_pass result.passes.1) input result.input output result.output session result.how }
-    ensures read_later { I.faults input ≤ I.faults result.input }
+    ensures read_later { (I.words input).faults ≤ (I.words result.input).faults }
     ensures read_fault { result.how ≡ Ended.ReadFault
-        → Rose (I.faults input) (I.faults result.input) }
-    ensures write_later { S.faults output ≤ S.faults result.output }
+        → Rose (I.words input).faults (I.words result.input).faults }
+    ensures write_later { (S.words output).faults ≤ (S.words result.output).faults }
     ensures write_fault { result.how ≡ Ended.WriteFault
-        → Rose (S.faults output) (S.faults result.output) }
+        → Rose (S.words output).faults (S.words result.output).faults }
 {
     bells[lane].serve(session);
     let (reader, writer) = run_halves(
@@ -349,8 +356,8 @@ fn serve_none<R, I: Source + Drop, S: Sink + Drop>(
 ) -> Served<I, S>
     ensures how { (result.how ≡ how) × (result.session ≡ 0) × (result.passes ≡ passes) }
     ensures input { result.input ≡ input }
-    ensures sent { S.taken result.output ≡ S.taken output }
-    ensures later { S.faults output ≤ S.faults result.output }
+    ensures sent { (S.words result.output).taken ≡ (S.words output).taken }
+    ensures later { (S.words output).faults ≤ (S.words result.output).faults }
 {
     output.finish(rt);
     Served {
@@ -384,20 +391,26 @@ pub fn serve_one<R: Threads + Wait + Sync, I: Source + Send + Drop, S: Sink + Se
     ensures first { IsSamePass (plain_pass passes.0) (plain_pass result.passes.0) }
     ensures second { IsSamePass (plain_pass passes.1) (plain_pass result.passes.1) }
     ensures served { result.session ≢ 0 → ServesSession
-        (record { taken = I.taken; left = I.left; sent = S.taken; faults = S.faults })
+        (record {
+          input = I.words;
+          output = S.words;
+        })
         (plain_pass passes.0) (plain_pass passes.1) (plain_pass result.passes.0)
         (plain_pass result.passes.1) input result.input output result.output result.session
         result.how }
     ensures unserved { result.session ≡ 0 → ServesNone
-        (record { taken = I.taken; left = I.left; sent = S.taken; faults = S.faults })
+        (record {
+          input = I.words;
+          output = S.words;
+        })
         (plain_pass passes.0) (plain_pass passes.1) (plain_pass result.passes.0)
         (plain_pass result.passes.1) input result.input output result.output result.how }
-    ensures read_later { I.faults input ≤ I.faults result.input }
+    ensures read_later { (I.words input).faults ≤ (I.words result.input).faults }
     ensures read_fault { result.how ≡ Ended.ReadFault
-        → Rose (I.faults input) (I.faults result.input) }
-    ensures write_later { S.faults output ≤ S.faults result.output }
+        → Rose (I.words input).faults (I.words result.input).faults }
+    ensures write_later { (S.words output).faults ≤ (S.words result.output).faults }
     ensures write_fault { result.how ≡ Ended.WriteFault
-        → Rose (S.faults output) (S.faults result.output) }
+        → Rose (S.words output).faults (S.words result.output).faults }
 {
     let Ok(painter) = Painter::new(alloc) else {
         return serve_none(rt, passes, input, output, Ended::NoMemory);

@@ -4,7 +4,6 @@
 mod asking;
 mod connection;
 mod session;
-mod speaking;
 
 pub use connection::{Served, serve_one};
 pub use session::alone;

@@ -3,11 +3,12 @@
 ghost use Rattle.std.specs.Prelude.{◌≡◌, None};
 ghost use Rattle.nv_linegrid.specs.Told.{nothing_told};
 
-use nv_halves::Voice;
 use nv_io::{Ended, Got, MemLane, Put, Sink, Source};
 use nv_model::Limits;
-use nv_painter::{Batch, Painter};
+use nv_painter::Painter;
+use nv_screen::HeldScene;
 use nv_serve::Job;
+use nv_speech::Voice;
 use std::alloc::{AllocError, Global};
 use std::sync::atomic::{AtomicU64, Ordering};
 
@@ -56,13 +57,12 @@ pub(crate) struct Asker<'a> {
 }
 
 impl<'a> Source for Asker<'a> {
-    ghost taken = { λ s. None };
-
-    ghost left = { λ s. None };
-
-    ghost reads = { λ s. None };
-
-    ghost faults = { λ s. s.faults };
+    ghost words = { λ s. record {
+      taken = None;
+      left = None;
+      reads = None;
+      faults = s.faults;
+    } };
 
     fn read<R>(&mut self, _rt: &R, into: &mut [u8]) -> Got {
         if self.given >= self.free && !comes(self.word, self.least) {
@@ -92,9 +92,10 @@ pub(crate) struct Keeper<'a> {
 }
 
 impl<'a> Sink for Keeper<'a> {
-    ghost taken = { λ s. None };
-
-    ghost faults = { λ s. s.faults };
+    ghost words = { λ s. record {
+      taken = None;
+      faults = s.faults;
+    } };
 
     fn write<R>(&mut self, _rt: &R, piece: &[u8]) -> Put {
         self.calls.fetch_add(1, Ordering::SeqCst);
@@ -116,9 +117,10 @@ pub(crate) struct Counter<'a> {
 }
 
 impl<'a> Sink for Counter<'a> {
-    ghost taken = { λ s. None };
-
-    ghost faults = { λ s. 0 };
+    ghost words = { λ s. record {
+      taken = None;
+      faults = 0;
+    } };
 
     fn write<R>(&mut self, _rt: &R, piece: &[u8]) -> Put {
         self.word.fetch_add(1, Ordering::SeqCst);
@@ -140,13 +142,12 @@ pub(crate) struct Speech<'a> {
 }
 
 impl<'a> Source for Speech<'a> {
-    ghost taken = { λ s. None };
-
-    ghost left = { λ s. None };
-
-    ghost reads = { λ s. None };
-
-    ghost faults = { λ s. s.faults };
+    ghost words = { λ s. record {
+      taken = None;
+      left = None;
+      reads = None;
+      faults = s.faults;
+    } };
 
     fn read<R>(&mut self, _rt: &R, into: &mut [u8]) -> Got {
         if self.given > self.times {
@@ -188,9 +189,10 @@ pub(crate) struct Page<'a> {
 }
 
 impl<'a> Sink for Page<'a> {
-    ghost taken = { λ s. None };
-
-    ghost faults = { λ s. s.faults };
+    ghost words = { λ s. record {
+      taken = None;
+      faults = s.faults;
+    } };
 
     fn write<R>(&mut self, _rt: &R, piece: &[u8]) -> Put {
         if self.writes == 0 {
@@ -225,7 +227,7 @@ impl Voice for Mute {
     fn speak(
         &mut self,
         _alloc: Global,
-        _batch: Batch,
+        _scene: Option<HeldScene>,
         _into: &mut Vec<u8>,
     ) -> Result<(), AllocError> {
         Err(AllocError)
@@ -244,7 +246,12 @@ pub(crate) struct Slow<'a> {
 impl<'a> Voice for Slow<'a> {
     ghost told = { λ v. v.painter.told };
 
-    fn speak(&mut self, alloc: Global, batch: Batch, into: &mut Vec<u8>) -> Result<(), AllocError> {
+    fn speak(
+        &mut self,
+        alloc: Global,
+        scene: Option<HeldScene>,
+        into: &mut Vec<u8>,
+    ) -> Result<(), AllocError> {
         if !self.spoke {
             self.spoke = true;
             self.begun.fetch_add(1, Ordering::SeqCst);
@@ -252,7 +259,7 @@ impl<'a> Voice for Slow<'a> {
                 return Err(AllocError);
             }
         }
-        self.painter.speak(alloc, batch, into)
+        Voice::speak(&mut self.painter, alloc, scene, into)
     }
 }
 

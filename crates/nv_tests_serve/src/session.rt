@@ -11,11 +11,12 @@ use crate::held_devices::{
     Asker, COUNT, Counter, LIMITS, Mute, QUIT, Slow, Speech, make_page, make_speech,
 };
 use nv_halves::{
-    Bell, ReaderEnd, ReaderHalf, Voice, WriterEnd, WriterHalf, open, reader_half, writer_half,
+    Bell, ReaderEnd, ReaderHalf, WriterEnd, WriterHalf, open, reader_half, writer_half,
 };
 use nv_io::{Ended, Flaw, Sink, Source};
 use nv_painter::Painter;
 use nv_session::serve_one;
+use nv_speech::Voice;
 use nv_turn::{Pass, Turn, take_pass};
 use nv_world::{Cause, World};
 use std::alloc::{AllocError, Global};

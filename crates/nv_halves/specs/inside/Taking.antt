@@ -1,5 +1,5 @@
 -- inside: what a writer takes, and what it has written on its way.
-use Rattle.std.specs.Prelude.{◌≡◌, ℕ, List, [], ◌∷◌, ◌++◌, take, map, All, Option, Some, None, Result, Ok, Err}
+use Rattle.std.specs.Prelude.{◌≡◌, ℕ, List, take, All, Option, Some, Result, Ok, Err}
 use Rattle.std.specs.Io.KnownBytes.{append_known}
 use Rattle.nv_turn.specs.Passes.{IsSamePass}
 use Rattle.nv_rpc.specs.Messages.{Sent, IsSendable}
@@ -12,8 +12,11 @@ use Rattle.nv_history.specs.Events.{take_of, Entry, gives}
 use Rattle.nv_history.specs.Worlds.{World, becomes, step}
 use Rattle.nv_history.specs.Runs.{TakenBatch}
 use Rattle.nv_history.specs.Asking.{takes_by}
-use Rattle.nv_history.specs.Spoken.{bytes_of_messages, bytes_of_scene, ShowsIfGiven, AreSpoken, AreBytesOf}
-use Rattle.nv_world.specs.Contents.{plain_cause, sent_of_shared}
+use Rattle.nv_history.specs.Spoken.{ShowsIfGiven, AreSpoken, AreBytesOf}
+use Rattle.nv_world.specs.Contents.{plain_cause}
+use Rattle.nv_speech.specs.Flows.{sent_in}
+use Rattle.nv_speech.specs.declared.saying.Unsaid.{Unsaid}
+use Rattle.nv_speech.specs.declared.saying.Unsaid.TheVariants as unsaid
 use Rattle.nv_world.specs.Outcomes.{effect_of_taken}
 use Rattle.nv_world.specs.Worlds.{GivesSendable}
 use Rattle.nv_world.specs.declared.effect.Batch.{Batch}
@@ -38,10 +41,6 @@ abbrev pub TakesWith : Result Taken Untaken → ℕ → Visit → Type 0
 TakesWith (Ok given) s v =
     DoesEvent (take_of s) (effect_of_taken given) v × GivesSendable (effect_of_taken given)
 TakesWith (Err why) s v = AddsNothing v
-
--- the messages of a batch
-abbrev pub sent_in : Batch → List Sent
-sent_in batch = map sent_of_shared batch.messages.items
 
 -- a pass took these messages for a session, and a scene where its UI is to show the editor
 pub record IsTaken (s : ℕ) (messages : List Sent) (scene : Option Scene) (v : Visit) : Type 0 where
@@ -107,15 +106,16 @@ pub record WritesPart (p q : WorldPass) (s : ℕ) (before now : Option (List ℕ
   pub count : ℕ
   pub written : now ≡ append_known before (take count bytes)
 
--- the bytes of messages, and of the redraw notification of a scene, where there is one
-abbrev pub bytes_of_taken : Told → List Sent → Option Scene → List ℕ
-bytes_of_taken told messages scene = bytes_of_messages messages ++ bytes_of_scene told scene
-
 -- an end by which a batch goes out in part: writing failed, or memory was wanting
 abbrev pub IsCutOff : WriterEnd → Type 0
 IsCutOff w.WriteFault = Unit {0}
 IsCutOff w.NoMemory = Unit {0}
 IsCutOff (w.Over cause) = ⊥
+
+-- how a writer ends whose batch didn't go out whole
+abbrev pub writer_end_unsaid : Unsaid → WriterEnd
+writer_end_unsaid unsaid.WriteFault = w.WriteFault
+writer_end_unsaid unsaid.NoMemory = w.NoMemory
 
 -- a pass took for a session what nobody is sent, and may have closed it: of all that a writer took
 -- by then a front went out still

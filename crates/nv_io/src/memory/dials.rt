@@ -28,8 +28,8 @@ impl<I: Source + Drop, S: Sink + Drop> Model for MemDial<I, S> {
     ghost view = { λ d. record { shelf = d.shelf; failures = d.failures } };
 
     ghost invariant = { λ d. ForEachItem (λ c.
-        IsUnread (I.Source.taken c.0) (I.Source.reads c.0) (I.Source.faults c.0)
-        × IsUnused (S.Sink.taken c.1) (S.Sink.faults c.1)) d.shelf.coming };
+        IsUnread (I.Source.words c.0).taken (I.Source.words c.0).reads (I.Source.words c.0).faults
+        × IsUnused (S.Sink.words c.1).taken (S.Sink.words c.1).faults) d.shelf.coming };
 }
 
 impl<I: Source + Drop, S: Sink + Drop> MemDial<I, S> {
@@ -40,8 +40,9 @@ impl<I: Source + Drop, S: Sink + Drop> MemDial<I, S> {
         fails: Vec<u64>,
     ) -> Result<MemDial<I, S>, AllocError>
         requires { ForEachItem (λ c.
-            IsUnread (I.Source.taken c.0) (I.Source.reads c.0) (I.Source.faults c.0)
-            × IsUnused (S.Sink.taken c.1) (S.Sink.faults c.1)) conns.items }
+            IsUnread (I.Source.words c.0).taken (I.Source.words c.0).reads
+            (I.Source.words c.0).faults
+            × IsUnused (S.Sink.words c.1).taken (S.Sink.words c.1).faults) conns.items }
         ensures { IfOk result (λ dial. dial ≡ record {
           shelf = record { coming = conns.items; back = []; out = 0 };
           failures = record { fails = fails.items; calls = 0; faults = 0 };
@@ -69,11 +70,11 @@ impl<I: Source + Drop, S: Sink + Drop> Dial for MemDial<I, S> {
 
     ghost may = { λ _. ⊤ };
 
-    ghost returned = { λ d. Some d.shelf.back };
-
-    ghost lent = { λ d. Some d.shelf.out };
-
-    ghost faults = { λ d. d.failures.faults };
+    ghost words = { λ d. record {
+      returned = Some d.shelf.back;
+      lent = Some d.shelf.out;
+      faults = d.failures.faults;
+    } };
 
     fn dial<R: Net<Listener = TcpListener, Stream = TcpStream>>(
         &mut self,
@@ -81,8 +82,9 @@ impl<I: Source + Drop, S: Sink + Drop> Dial for MemDial<I, S> {
         _address: &str,
     ) -> Option<(I, S)>
         ensures fresh { IfSome result (λ c.
-            IsUnread (I.Source.taken c.0) (I.Source.reads c.0) (I.Source.faults c.0)
-            × IsUnused (S.Sink.taken c.1) (S.Sink.faults c.1)) }
+            IsUnread (I.Source.words c.0).taken (I.Source.words c.0).reads
+            (I.Source.words c.0).faults
+            × IsUnused (S.Sink.words c.1).taken (S.Sink.words c.1).faults) }
         ensures returned { Some self.new.shelf.back ≡ Some self.old.shelf.back }
         ensures lent { Some self.new.shelf.out ≡ out_after result (Some self.old.shelf.out) }
         ensures later { self.old.failures.faults ≤ self.new.failures.faults }

@@ -96,8 +96,8 @@ impl<I: Source + Send + Drop, S: Sink + Send + Drop> Model for MemLane<I, S> {
     ghost view = { λ l. record { shelf = l.shelf; failures = l.failures } };
 
     ghost invariant = { λ l. ForEachItem (λ c.
-        IsUnread (I.Source.taken c.0) (I.Source.reads c.0) (I.Source.faults c.0)
-        × IsUnused (S.Sink.taken c.1) (S.Sink.faults c.1)) l.shelf.coming };
+        IsUnread (I.Source.words c.0).taken (I.Source.words c.0).reads (I.Source.words c.0).faults
+        × IsUnused (S.Sink.words c.1).taken (S.Sink.words c.1).faults) l.shelf.coming };
 }
 
 impl<I: Source + Send + Drop, S: Sink + Send + Drop> MemLane<I, S> {
@@ -108,8 +108,9 @@ impl<I: Source + Send + Drop, S: Sink + Send + Drop> MemLane<I, S> {
         fails: Vec<u64>,
     ) -> Result<MemLane<I, S>, AllocError>
         requires { ForEachItem (λ c.
-            IsUnread (I.Source.taken c.0) (I.Source.reads c.0) (I.Source.faults c.0)
-            × IsUnused (S.Sink.taken c.1) (S.Sink.faults c.1)) conns.items }
+            IsUnread (I.Source.words c.0).taken (I.Source.words c.0).reads
+            (I.Source.words c.0).faults
+            × IsUnused (S.Sink.words c.1).taken (S.Sink.words c.1).faults) conns.items }
         ensures { IfOk result (λ lane. lane ≡ record {
           shelf = record { coming = conns.items; back = []; out = 0 };
           failures = record { fails = fails.items; calls = 0; faults = 0 };
@@ -135,13 +136,12 @@ impl<I: Source + Send + Drop, S: Sink + Send + Drop> Lane for MemLane<I, S> {
 
     type Out = S;
 
-    ghost coming = { λ l. Some l.shelf.coming };
-
-    ghost over = { λ l. Some l.shelf.back };
-
-    ghost lent = { λ l. Some l.shelf.out };
-
-    ghost faults = { λ l. l.failures.faults };
+    ghost words = { λ l. record {
+      coming = Some l.shelf.coming;
+      over = Some l.shelf.back;
+      lent = Some l.shelf.out;
+      faults = l.failures.faults;
+    } };
 
     fn accept<R>(&mut self, _rt: &R) -> Accepted<I, S>
         ensures coming { Some self.old.shelf.coming
@@ -149,9 +149,10 @@ impl<I: Source + Send + Drop, S: Sink + Send + Drop> Lane for MemLane<I, S> {
         ensures over { Some self.new.shelf.back ≡ Some self.old.shelf.back }
         ensures lent { Some self.new.shelf.out ≡ lent_after result (Some self.old.shelf.out) }
         ensures fresh { IfConnection result (λ input output.
-            IsUnused (I.Source.taken input) (I.Source.faults input)
-            × IsUnused (S.Sink.taken output) (S.Sink.faults output)) }
-        ensures unread { IfConnection result (λ input output. IsNoItem (I.Source.reads input)) }
+            IsUnused (I.Source.words input).taken (I.Source.words input).faults
+            × IsUnused (S.Sink.words output).taken (S.Sink.words output).faults) }
+        ensures unread { IfConnection result (λ input output. IsNoItem
+            (I.Source.words input).reads) }
         ensures done { result ≡ Accepted.Done → IsNoItem (Some self.new.shelf.coming) }
         ensures later { self.old.failures.faults ≤ self.new.failures.faults }
         ensures failed { result ≡ Accepted.Failed
@@ -248,11 +249,11 @@ impl<I: Source + Send + Drop, S: Sink + Send + Drop> Port for MemPort<I, S> {
 
     ghost may = { λ _. ⊤ };
 
-    ghost returned = { λ p. Some p.shelf.back };
-
-    ghost lent = { λ p. Some p.shelf.out };
-
-    ghost faults = { λ p. p.failures.faults };
+    ghost words = { λ p. record {
+      returned = Some p.shelf.back;
+      lent = Some p.shelf.out;
+      faults = p.failures.faults;
+    } };
 
     fn listen<R: SystemFiles<File = File> + Net<Listener = TcpListener, Stream = TcpStream>>(
         &mut self,
@@ -384,15 +385,13 @@ impl Files for MemFiles {
 
     ghost may = { λ _. ⊤ };
 
-    ghost returned_sources = { λ f. Some f.sources.back };
-
-    ghost returned_sinks = { λ f. Some f.sinks.back };
-
-    ghost lent_sources = { λ f. Some f.sources.out };
-
-    ghost lent_sinks = { λ f. Some f.sinks.out };
-
-    ghost faults = { λ f. f.failures.faults };
+    ghost words = { λ f. record {
+      returned_sources = Some f.sources.back;
+      returned_sinks = Some f.sinks.back;
+      lent_sources = Some f.sources.out;
+      lent_sinks = Some f.sinks.out;
+      faults = f.failures.faults;
+    } };
 
     fn source<R: SystemFiles<File = File>>(&mut self, _rt: &R, _name: &str) -> Option<MemSource>
         ensures fresh { IfSome result (λ s.

@@ -1,5 +1,5 @@
 -- inside: how a server ends whose book may not have been written.
-use Rattle.std.specs.Prelude.{◌≡◌, ◌⊎◌, ⊤}
+use Rattle.std.specs.Prelude.{◌≡◌, ◌⊎◌}
 use Rattle.nv_replay.specs.declared.ending.WriteEnd.{WriteEnd}
 use Rattle.nv_replay.specs.declared.ending.WriteEnd.TheVariants as write
 use Rattle.nv_run.specs.declared.serving.ServerEnd.{ServerEnd}
@@ -10,8 +10,9 @@ abbrev pub IsLater : ServerEnd → ServerEnd → Type 0
 IsLater ended later =
     (later ≡ ended) ⊎ (later ≡ NoMemory) ⊎ ((ended ≡ Done) × (later ≡ WriteFault))
 
--- a book that was written changes nothing, and want of memory is told whatever else there is
+-- a book that was written changes nothing, want of memory is told whatever else there is, and a
+-- fault is told unless another end is
 abbrev pub IsEndOfBook : WriteEnd → ServerEnd → ServerEnd → Type 0
 IsEndOfBook write.Done ended later = later ≡ ended
 IsEndOfBook write.NoMemory ended later = later ≡ NoMemory
-IsEndOfBook write.WriteFault ended later = ⊤
+IsEndOfBook write.WriteFault ended later = later ≡ Done → ⊥

@@ -5,7 +5,7 @@ use Rattle.nv_turn.specs.Passes.{IsSamePass, SeesMore, PassState, TurnId, first_
 use Rattle.nv_world.specs.declared.entry.Entry.{Entry as WorldEntry}
 use Rattle.nv_world.specs.declared.story.Start.{Start}
 use Rattle.nv_halves.specs.Passes.{plain_pass}
-use Rattle.nv_serve.specs.Links.{LanesTell}
+use Rattle.nv_serve.specs.Links.{LanesWords}
 use Rattle.nv_serve.specs.declared.job.Job.{Job}
 use Rattle.nv_serve.specs.declared.job.LaneEnd.{LaneEnd}
 use Rattle.nv_serve.specs.declared.job.LaneEnd.TheVariants.{Done, Failed, Quit, Spent}
@@ -69,7 +69,7 @@ module _ {L : Type 0} where
       (i : ℕ) (d : Job L) → i < length jobs → IsReadyJob turn i (slice_index_or jobs i d)
 
 -- a lane was served, by passes that it still has, and ended
-pub record ServesJob {L I S : Type 0} (t : LanesTell L I S) (old new : Job L) : Type 0 where
+pub record ServesJob {L I S : Type 0} (t : LanesWords L I S) (old new : Job L) : Type 0 where
   pub before : PassesOf
   pub after : PassesOf
   pub had : old.passes ≡ Some before
@@ -82,7 +82,7 @@ pub record ServesJob {L I S : Type 0} (t : LanesTell L I S) (old new : Job L) : 
       (plain_pass after.0).seen (plain_pass after.1).seen
 
 -- each of them
-abbrev pub ServesJobs : {L I S : Type 0} → LanesTell L I S → List (Job L) → List (Job L) → Type 0
+abbrev pub ServesJobs : {L I S : Type 0} → LanesWords L I S → List (Job L) → List (Job L) → Type 0
 ServesJobs t olds news =
     (i : ℕ) (d : _) → i < length olds
     → ServesJob t (slice_index_or olds i d) (slice_index_or news i d)

@@ -15,7 +15,7 @@ use Rattle.nv_world.specs.declared.story.Start.{Start}
 use Rattle.nv_halves.specs.Passes.{WorldPass, OfEach}
 use Rattle.nv_session.specs.Openings.{IsWhyUnopened}
 use Rattle.nv_session.specs.Connections.{ConnectionEnds, traffic_of}
-use Rattle.nv_serve.specs.Links.{LanesTell, Link, ServesInOrder}
+use Rattle.nv_serve.specs.Links.{AreUnusedEnds, LanesWords, Link, ServesInOrder, halves_of}
 use Rattle.nv_serve.specs.inside.Sharing.{IsIdle, IsOpened, IsLane}
 use Rattle.nv_serve.specs.declared.job.LaneEnd.{LaneEnd}
 use Rattle.nv_serve.specs.declared.job.LaneEnd.TheVariants as stop
@@ -51,7 +51,7 @@ module _ {I S : Type 0} where
   abbrev pub IsLaneOfLinks : ℕ → ℕ → List Entry → List Entry → List (Link I S) → Type 0
   IsLaneOfLinks = IsLane session_of_link one_of_link other_of_link
 
-module _ {L I S : Type 0} (t : LanesTell L I S) where
+module _ {L I S : Type 0} (t : LanesWords L I S) where
   -- the last of these connections is the one with which a lane ended
   abbrev pub HasLast : LaneEnd → List (Link I S) → Type 0
   HasLast end links =
@@ -61,17 +61,17 @@ module _ {L I S : Type 0} (t : LanesTell L I S) where
   -- A lane, before and after, that served these connections ended so: none is to come, its accept
   -- failed, or its last connection ended it.
   abbrev pub EndsLane : LaneEnd → L → L → List (Link I S) → Type 0
-  EndsLane stop.Done old new links = IsNoItem (t.coming new)
-  EndsLane stop.Failed old new links = Rose (t.faults old) (t.faults new)
+  EndsLane stop.Done old new links = IsNoItem (t.lane new).coming
+  EndsLane stop.Failed old new links = Rose (t.lane old).faults (t.lane new).faults
   EndsLane stop.Quit old new links = HasLast stop.Quit links
   EndsLane stop.Spent old new links = HasLast stop.Spent links
 
-module _ {L I S : Type 0} (t : LanesTell L I S) (start : Option Start) where
+module _ {L I S : Type 0} (t : LanesWords L I S) (start : Option Start) where
   -- a connection never was a session, since of what its first pass has seen
   pub record MetAsNone (first_seen : List Entry) (x : Link I S) : Type 0 where
     pub session_is : x.over.session ≡ 0
     pub read : x.over.input ≡ x.input
-    pub sent : t.ends.sent x.over.output ≡ t.ends.sent x.output
+    pub sent : (t.output x.over.output).taken ≡ (t.output x.output).taken
     pub seen : List Entry
     pub begins : IsPrefix seen first_seen
     pub why : IsWhyUnopened x.over.how start seen
@@ -81,18 +81,18 @@ module _ {L I S : Type 0} (t : LanesTell L I S) (start : Option Start) where
   pub record MetAsSession (first_seen second_seen : List Entry) (x : Link I S) : Type 0 where
     pub some : x.over.session ≢ 0
     pub bytes : List ℕ
-    pub read : Gave (t.ends.taken x.input) (t.ends.taken x.over.input) (t.ends.left x.input)
-        (t.ends.left x.over.input) bytes
+    pub read : Gave (t.input x.input).taken (t.input x.over.input).taken (t.input x.input).left
+        (t.input x.over.input).left bytes
     pub ends : OfEach start first_seen (λ history world.
         IsPrefix second_seen history
         → takes_by x.over.session history ≡ takes_by x.over.session x.other
         → calls_of x.over.session history ≡ calls_of x.over.session x.one
         → ConnectionEnds x.over.how start x.over.session history world
-        (traffic_of t.ends bytes x.over.input x.output x.over.output))
+        (traffic_of (halves_of t) bytes x.over.input x.output x.over.output))
     pub read_fault : x.over.how ≡ ReadFault
-        → Rose (t.read_faults x.input) (t.read_faults x.over.input)
+        → Rose (t.input x.input).faults (t.input x.over.input).faults
     pub write_fault : x.over.how ≡ WriteFault
-        → Rose (t.ends.faults x.output) (t.ends.faults x.over.output)
+        → Rose (t.output x.output).faults (t.output x.over.output).faults
 
   -- a connection was a session, or none
   abbrev pub IsMet : List Entry → List Entry → Link I S → Type 0
@@ -105,7 +105,7 @@ module _ {L I S : Type 0} (t : LanesTell L I S) (start : Option Start) where
     where
       pub links : List (Link I S)
       pub order : ServesInOrder t old new links
-      pub later : t.faults old ≤ t.faults new
+      pub later : (t.lane old).faults ≤ (t.lane new).faults
       pub lane : IsLaneOfLinks n m first_seen second_seen links
       pub each : ForEachItem (IsMet first_seen second_seen) links
 
@@ -130,19 +130,20 @@ module _ {L I S : Type 0} (t : LanesTell L I S) (start : Option Start) where
 
   -- a lane gave a connection and took it back
   pub record PassesLink (old new : L) (x : Link I S) : Type 0 where
-    pub came : t.coming old ≡ prepend_items ((x.input, x.output) ∷ []) (t.coming new)
-    pub went : t.over new ≡ append_items (t.over old) (x.over ∷ [])
-    pub lent : t.lent new ≡ t.lent old
-    pub later : t.faults old ≤ t.faults new
+    pub came : (t.lane old).coming ≡ prepend_items ((x.input, x.output) ∷ []) (t.lane new).coming
+    pub went : (t.lane new).over ≡ append_items (t.lane old).over (x.over ∷ [])
+    pub lent : (t.lane new).lent ≡ (t.lane old).lent
+    pub later : (t.lane old).faults ≤ (t.lane new).faults
+    pub unused : AreUnusedEnds t x.input x.output
 
   -- a lane gave none, and the passes are as before
   pub record PassesNone (p q p_after q_after : WorldPass) (old new : L) : Type 0 where
     pub first : p_after ≡ p
     pub second : q_after ≡ q
-    pub came : t.coming new ≡ t.coming old
-    pub went : t.over new ≡ t.over old
-    pub lent : t.lent new ≡ t.lent old
-    pub later : t.faults old ≤ t.faults new
+    pub came : (t.lane new).coming ≡ (t.lane old).coming
+    pub went : (t.lane new).over ≡ (t.lane old).over
+    pub lent : (t.lane new).lent ≡ (t.lane old).lent
+    pub later : (t.lane old).faults ≤ (t.lane new).faults
 
   -- a connection with these ends was served by two passes, and given back to its lane
   pub record GivesLink (p q p_after q_after : WorldPass) (old new : L) (input : I) (output : S)
@@ -150,10 +151,10 @@ module _ {L I S : Type 0} (t : LanesTell L I S) (start : Option Start) where
     pub input_is : x.input ≡ input
     pub output_is : x.output ≡ output
     pub serves : ServesLink p q p_after q_after x
-    pub coming : t.coming new ≡ t.coming old
-    pub went : t.over new ≡ append_items (t.over old) (x.over ∷ [])
-    pub lent : t.lent old ≡ option_map (λ n. n + 1) (t.lent new)
-    pub later : t.faults old ≤ t.faults new
+    pub coming : (t.lane new).coming ≡ (t.lane old).coming
+    pub went : (t.lane new).over ≡ append_items (t.lane old).over (x.over ∷ [])
+    pub lent : (t.lane old).lent ≡ option_map (λ n. n + 1) (t.lane new).lent
+    pub later : (t.lane old).faults ≤ (t.lane new).faults
 
   -- and with it the lane ended, where it did
   abbrev pub ReturnsLink : Option LaneEnd → WorldPass → WorldPass → WorldPass → WorldPass → L → L
@@ -177,9 +178,9 @@ module _ {L I S : Type 0} (t : LanesTell L I S) (start : Option Start) where
   StepsLane (Some stop.Spent) p q p_after q_after old new =
       (x : Link I S) × ServesOne p q p_after q_after old new x × IsLastOf stop.Spent x.over.how
   StepsLane (Some stop.Done) p q p_after q_after old new =
-      PassesNone p q p_after q_after old new × IsNoItem (t.coming new)
+      PassesNone p q p_after q_after old new × IsNoItem (t.lane new).coming
   StepsLane (Some stop.Failed) p q p_after q_after old new =
-      PassesNone p q p_after q_after old new × Rose (t.faults old) (t.faults new)
+      PassesNone p q p_after q_after old new × Rose (t.lane old).faults (t.lane new).faults
 
 -- a pass that came in and added nothing
 pub record LooksOnly (p q : WorldPass) : Type 0 where

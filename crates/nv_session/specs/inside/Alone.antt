@@ -11,7 +11,8 @@ use Rattle.nv_history.specs.Sessions.{Session}
 use Rattle.nv_history.specs.Worlds.{World, session_of, step}
 use Rattle.nv_history.specs.Asking.{calls_of}
 use Rattle.nv_history.specs.Solo.{solo_from, solo_rest, solo_with_take, solo_with_close}
-use Rattle.nv_history.specs.Spoken.{bytes_of_messages, bytes_of_scene, told_with, AreSpoken}
+use Rattle.nv_history.specs.Spoken.{told_with, AreSpoken}
+use Rattle.nv_speech.specs.Flows.{bytes_said}
 use Rattle.nv_world.specs.declared.story.Start.{Start}
 use Rattle.nv_session.specs.Sending.{world_after, batches_taken, AreBytesTaken, history_of, cause_after, HasSession}
 use Rattle.nv_session.specs.Ends.{IsFront}
@@ -58,17 +59,13 @@ abbrev pub IsSent : Start → List Entry → Told → List ℕ → Type 0
 IsSent start history told bytes =
     (events : List Redraw) × AreSpoken nothing_told (batches_taken start history) bytes events told
 
--- The bytes of messages, and of the redraw notification of a scene, where there is one.
-abbrev pub bytes_of_batch : Told → List Sent → Option Scene → List ℕ
-bytes_of_batch told messages scene = bytes_of_messages messages ++ bytes_of_scene told scene
-
 -- A call was answered: these messages were taken, and this scene.
 pub record Answers (start : Start) (call : Call) (messages : List Sent) (scene : Option Scene)
     (old new : List Entry) : Type 0 where
   pub nothing_due : HasNothingDue start new
   pub asked : calls_of 1 new ≡ calls_of 1 old ++ call ∷ []
   pub sent : (told : Told) (bytes : List ℕ) → IsSent start old told bytes
-      → IsSent start new (told_with told scene) (bytes ++ bytes_of_batch told messages scene)
+      → IsSent start new (told_with told scene) (bytes ++ bytes_said told messages scene)
 
 -- A call was made, or not yet, and nothing was taken.
 pub record IsUnanswered (start : Start) (call : Call) (old new : List Entry) : Type 0 where

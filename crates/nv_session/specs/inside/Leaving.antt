@@ -12,7 +12,7 @@ use Rattle.nv_history.specs.Asking.{calls_of}
 use Rattle.nv_history.specs.Solo.{solo_with_close}
 use Rattle.nv_world.specs.declared.story.Start.{Start}
 use Rattle.nv_session.specs.Sending.{world_after, AreBytesTaken}
-use Rattle.nv_halves.specs.Reading.{Reads, WasRead, IsUnfinished, IfInside}
+use Rattle.nv_calls.specs.Reading.{Reads, WasRead, IsUnfinished, IfInside}
 use Rattle.nv_session.specs.Ends.{HasEarlier, AnswersSome, AnswersUpTo, IsFront}
 use Rattle.nv_session.specs.inside.Alone.{IsAlone, IsClosing}
 

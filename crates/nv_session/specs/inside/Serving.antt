@@ -1,49 +1,45 @@
 -- inside: what the steps of a session do, each from the state of the session before it.
-use Rattle.std.specs.Prelude.{◌≡◌, ℕ, ◌+◌, ◌<◌, ◌≤◌, Bool, true, false, List, [], ◌∷◌, ◌++◌, length, take, Option, Some, None, Result, Ok, Err}
-use Rattle.std.specs.Io.KnownBytes.{append_known}
+use Rattle.std.specs.Prelude.{◌≡◌, ◌⊎◌, ℕ, ◌<◌, Bool, true, false, List, [], ◌∷◌, ◌++◌, length, Option, Some, None, Result, Ok, Err}
 use Rattle.nv_io.specs.declared.lanes.Flaw.{Flaw}
 use Rattle.nv_io.specs.declared.lanes.Ended.{Ended}
 use Rattle.nv_io.specs.declared.lanes.Ended.TheVariants.{Closed, Malformed, Overflowed, ReadFault, WriteFault, Quit, NoMemory}
-use Rattle.nv_stream.specs.State.{State, empty_state, with_piece}
-use Rattle.nv_stream.specs.Answers.{NeedsMore}
 use Rattle.nv_rpc.specs.Calls.{Call}
 use Rattle.nv_history.specs.Events.{open_session, Entry, Cause, overflowed_at, quit_at}
 use Rattle.nv_history.specs.Solo.{entry_alone}
 use Rattle.nv_linegrid.specs.Told.{Told, nothing_told}
 use Rattle.nv_painter.specs.Painters.{Painting}
 use Rattle.nv_world.specs.Worlds.{WorldRecord}
-use Rattle.nv_halves.specs.Reading.{most_depth, most_bytes, Calls, ReadsFrom, IfInside, IsUnfinished}
+use Rattle.nv_calls.specs.Reading.{Calls, ReadsFrom, IfInside, IsUnfinished}
+use Rattle.nv_calls.specs.Intakes.{IntakeState, IsLive, WantsMore, GaveCalls, fresh_intake, with_more}
 use Rattle.nv_world.specs.declared.story.Start.{Start}
 use Rattle.nv_halves.specs.Passes.{start_of}
+use Rattle.nv_speech.specs.Flows.{FlowsOut, IsFrontOut}
+use Rattle.nv_speech.specs.declared.saying.Unsaid.{Unsaid}
+use Rattle.nv_speech.specs.declared.saying.Unsaid.TheVariants as unsaid
 use Rattle.nv_session.specs.Ends.{IsFront}
 use Rattle.nv_session.specs.inside.Worlds.{entries_in}
 use Rattle.nv_session.specs.inside.Alone.{IsAlone, IsClosing, WentOn, WentPart, WentUpTo}
 use Rattle.nv_session.specs.declared.session.Session.{Session}
-use Rattle.nv_session.specs.declared.session.TheConstants.{PIECE}
 
 -- the bytes of a session that wait to be written
 abbrev pub bytes_waiting : Session → List ℕ
-bytes_waiting s = s.outgoing.waiting.items
+bytes_waiting s = s.room.items
 
 -- a session to which nothing came
 pub record IsUnusedSession (s : Session) : Type 0 where
-  pub stream : s.stream ≡ empty_state most_depth most_bytes
-  pub none : s.number ≡ 0
+  pub fresh : s.intake ≡ fresh_intake
   pub untold : s.painter.told ≡ nothing_told
   pub nothing_waits : bytes_waiting s ≡ []
 
--- a session on its way: its stream, how many calls were answered, its world, and what its painter
--- keeps
+-- a session on its way: its intake, its world, and what its painter keeps
 pub record SessionState : Type 0 where
-  pub stream : State
-  pub number : ℕ
+  pub intake : IntakeState
   pub world : WorldRecord
   pub painter : Painting
 
 abbrev pub state_of : Session → WorldRecord → SessionState
 state_of s world = record {
-  stream = s.stream;
-  number = s.number;
+  intake = s.intake;
   world = world;
   painter = s.painter;
 }
@@ -62,39 +58,33 @@ client_told s = s.painter.told
 
 -- the state of a session that can go on
 pub record IsReady (s : SessionState) : Type 0 where
-  pub depth : s.stream.depth ≡ most_depth
-  pub most : s.stream.most ≡ most_bytes
-  pub no_flaw : s.stream.flaw ≡ None
-  pub counted : s.number ≤ s.stream.start
+  pub live : IsLive s.intake
   pub alone : IsAlone (begun_with s) (session_entries s)
 
 -- the state of a session to which no byte has come
 pub record IsNew (s : SessionState) : Type 0 where
-  pub place : s.stream.start ≡ 0
-  pub nothing : s.stream.held ≡ []
-  pub none : s.number ≡ 0
+  pub fresh : s.intake ≡ fresh_intake
   pub first : session_entries s ≡ entry_alone open_session ∷ []
   pub untold : client_told s ≡ nothing_told
-
--- a part of these bytes went out, from their front
-abbrev pub WroteSome : List ℕ → Option (List ℕ) → Option (List ℕ) → Type 0
-WroteSome bytes before after = (count : ℕ) × (after ≡ append_known before (take count bytes))
 
 -- a call was answered
 pub record AnswersCall (call : Call) (old new : SessionState)
     (before after : Option (List ℕ)) : Type 0 where
-  pub stream : new.stream ≡ old.stream
-  pub number : new.number ≡ old.number + 1
+  pub intake : new.intake ≡ old.intake
   pub begins : begun_with new ≡ begun_with old
   pub alone : IsAlone (begun_with old) (session_entries new)
   pub went : WentOn (begun_with old) (call ∷ []) (session_entries old) (session_entries new)
       (client_told old) (client_told new) before after
 
--- how a session ends by a call: memory was wanting for its answer, or the call ended the session
+-- how a session ends by a call: memory was wanting for its answer, or a write failed, or the call
+-- ended the session
 abbrev pub StopsAtCall : Ended → Call → WorldRecord → WorldRecord → Told → Option (List ℕ)
     → Option (List ℕ) → Type 0
 StopsAtCall NoMemory call old new told before after =
     WentPart (start_of old) IsFront [] (call ∷ []) (entries_in old) (entries_in new) told before
+    after
+StopsAtCall WriteFault call old new told before after =
+    WentPart (start_of old) IsClosing [] (call ∷ []) (entries_in old) (entries_in new) told before
     after
 StopsAtCall (Overflowed entry) call old new told before after =
     WentUpTo (start_of old) (overflowed_at entry) (call ∷ []) (entries_in old) (entries_in new) told
@@ -104,16 +94,39 @@ StopsAtCall (Quit entry) call old new told before after =
     before after
 StopsAtCall _ call old new told before after = ⊥
 
+-- what came of a call, where so many bytes of its answer were to go out
+abbrev pub AnswersOne : {A : Type 0} → Result A Ended → Call → SessionState → SessionState → List ℕ
+    → Type 0
+AnswersOne (Ok done) call old new added = AnswersCall call old new (Some []) (Some added)
+AnswersOne (Err ended) call old new added =
+    StopsAtCall ended call old.world new.world (client_told old) (Some []) (Some added)
+
+-- an end by which a batch goes out in part
+abbrev pub CutsShort : Ended → Type 0
+CutsShort WriteFault = Unit {0}
+CutsShort NoMemory = Unit {0}
+CutsShort _ = ⊥
+
+-- what becomes of bytes that are added to those that wait: some went out from the front, and the
+-- others wait; or a front went out, and nothing waits any more, since the session ends
+abbrev pub FlowsBy : {A : Type 0} → Result A Ended → Option (List ℕ) → Option (List ℕ) → List ℕ
+    → List ℕ → List ℕ → Type 0
+FlowsBy (Ok done) before after waited added waits = FlowsOut before after waited added waits
+FlowsBy (Err ended) before after waited added waits =
+    FlowsOut before after waited added waits
+    ⊎ (CutsShort ended × (waits ≡ []) × IsFrontOut before after (waited ++ added))
+
+-- how a session ends of which a batch didn't go out whole
+abbrev pub ended_unsaid : Unsaid → Ended
+ended_unsaid unsaid.WriteFault = WriteFault
+ended_unsaid unsaid.NoMemory = NoMemory
+
 -- Of bytes that begin where a session stood, the calls at their front were answered, and the others
 -- are held.
 pub record ServesCalls (bytes : List ℕ) (old new : SessionState)
     (before after : Option (List ℕ)) : Type 0 where
   pub calls : List Call
-  pub whole : List ℕ
-  pub spelled : Calls calls whole
-  pub parts : bytes ≡ whole ++ new.stream.held
-  pub place : new.stream.start ≡ old.stream.start + length whole
-  pub number : new.number ≡ old.number + length calls
+  pub gave : GaveCalls calls bytes old.intake new.intake
   pub begins : begun_with new ≡ begun_with old
   pub went : WentOn (begun_with old) calls (session_entries old) (session_entries new)
       (client_told old) (client_told new) before after
@@ -123,7 +136,7 @@ pub record ServesCalls (bytes : List ℕ) (old new : SessionState)
 pub record FinishesCalls (flaw : Option Flaw) (bytes : List ℕ) (old new : SessionState)
     (before after : Option (List ℕ)) : Type 0 where
   pub calls : List Call
-  pub reads : ReadsFrom old.number old.stream.start calls bytes flaw
+  pub reads : ReadsFrom old.intake.number old.intake.place calls bytes flaw
   pub later : Told
   pub went : WentOn (begun_with old) calls (session_entries old) (session_entries new)
       (client_told old) later before after
@@ -187,17 +200,17 @@ end_by_fault _ = WriteFault
 abbrev pub StepsOn : Result Bool Ended → SessionState → SessionState → Option (List ℕ)
     → Option (List ℕ) → Type 0
 StepsOn (Ok true) old new before after =
-    ServesCalls old.stream.held old new before after × IsReady new
-    × (length new.stream.held < length old.stream.held)
+    ServesCalls old.intake.held old new before after × IsReady new
+    × (length new.intake.held < length old.intake.held)
 StepsOn (Ok false) old new before after =
-    ServesCalls old.stream.held old new before after × IsReady new × NeedsMore new.stream
-StepsOn (Err ended) old new before after = EndsIn ⊥ ended old.stream.held old new before after
+    ServesCalls old.intake.held old new before after × IsReady new × WantsMore new.intake
+StepsOn (Err ended) old new before after = EndsIn ⊥ ended old.intake.held old new before after
 
 -- what a session did with these bytes: it answered the calls and needs more bytes, or it ended
 abbrev pub Serves : {A : Type 0} → Type 0 → Result A Ended → List ℕ → SessionState → SessionState
     → Option (List ℕ) → Option (List ℕ) → Type 0
 Serves over (Ok done) bytes old new before after =
-    ServesCalls bytes old new before after × IsReady new × NeedsMore new.stream
+    ServesCalls bytes old new before after × IsReady new × WantsMore new.intake
 Serves over (Err ended) bytes old new before after = EndsIn over ended bytes old new before after
 
 -- what one read gave to a session: a piece that it holds, or its end, where `over` says that no
@@ -205,18 +218,17 @@ Serves over (Err ended) bytes old new before after = EndsIn over ended bytes old
 abbrev pub TakesPiece : {A : Type 0} → Type 0 → Result A Ended → List ℕ → SessionState
     → SessionState → Type 0
 TakesPiece over (Ok done) piece old new =
-    (new.stream ≡ with_piece old.stream piece) × (new.number ≡ old.number)
-    × (new.world ≡ old.world) × (new.painter ≡ old.painter) × (0 < length piece)
-    × (length piece ≤ PIECE)
+    (new.intake ≡ with_more old.intake piece) × (new.world ≡ old.world)
+    × (new.painter ≡ old.painter) × (0 < length piece)
 TakesPiece over (Err ended) piece old new =
-    (out : Option (List ℕ)) → EndsIn over ended (old.stream.held ++ piece) old new out out
+    (out : Option (List ℕ)) → EndsIn over ended (old.intake.held ++ piece) old new out out
 
 -- what a session did with a piece: it answered the calls that are whole by it and needs more bytes,
 -- or it ended
 abbrev pub Turns : {A : Type 0} → Type 0 → Result A Ended → List ℕ → SessionState → SessionState
     → Option (List ℕ) → Option (List ℕ) → Type 0
 Turns over (Ok done) piece old new before after =
-    ServesCalls (old.stream.held ++ piece) old new before after × IsReady new × NeedsMore new.stream
-    × (0 < length piece) × (length piece ≤ PIECE)
+    ServesCalls (old.intake.held ++ piece) old new before after × IsReady new
+    × WantsMore new.intake × (0 < length piece)
 Turns over (Err ended) piece old new before after =
-    EndsIn over ended (old.stream.held ++ piece) old new before after
+    EndsIn over ended (old.intake.held ++ piece) old new before after

@@ -19,7 +19,7 @@ returns-in_err-read_piece-clause-reads g c =
       λ fed values h.
           let b = i.2 fed values h in
           rw (p.1, p.2)
-          (output_stops (fed ++ (i.0 ++ r.0)) (g.S.Source.left c.read_piece.new.source) values done c.args.count _ out c.in_err-read_piece.field-0.0 (omega arith) refl b.1
+          (output_stops (fed ++ (i.0 ++ r.0)) (g.S.Source.words c.read_piece.new.source).left values done c.args.count _ out c.in_err-read_piece.field-0.0 (omega arith) refl b.1
           (stops_for fed i.0 r.0 _ (values ++ map bin (pieces_in done out)) _ _ (r.2 (fed ++ i.0) (values ++ map bin (pieces_in done out)) b.0))),
     )
 

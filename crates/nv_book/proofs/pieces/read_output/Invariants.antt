@@ -8,9 +8,9 @@ use Rattle.nv_book.proofs.pieces.read_output.Given as goal
 
 abbrev pub invariant-loop-done : goal.invariant-loop-done
 invariant-loop-done g l = record {
-  read : (bytes : List ℕ) × Gave (g.S.Source.taken l.initial.source) (g.S.Source.taken l.source) (g.S.Source.left l.initial.source) (g.S.Source.left l.source) bytes
+  read : (bytes : List ℕ) × Gave (g.S.Source.words l.initial.source).taken (g.S.Source.words l.source).taken (g.S.Source.words l.initial.source).left (g.S.Source.words l.source).left bytes
       × ((fed : List ℕ) (values : List Tree) → HasGiven fed values l.initial.intake.taken l.initial.intake.stream
       → HasGiven (fed ++ bytes) (values ++ map bin (pieces_in l.done l.into.items)) l.intake.taken l.intake.stream
       × IsCut l.done l.count l.into.items);
-  later : g.S.Source.faults l.initial.source ≤ g.S.Source.faults l.source;
+  later : (g.S.Source.words l.initial.source).faults ≤ (g.S.Source.words l.source).faults;
 }

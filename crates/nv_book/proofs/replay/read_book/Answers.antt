@@ -17,14 +17,14 @@ returns-in_err-advance-clause-reads g c =
     let same = ap (λ (x : Start). x.limits) c.in_err-advance.ensures.same ∙ c.loop-replay.invariant.limits in (
       i.0 ++ n.0,
       gave_then _ _ _ _ _ _ i.0 n.0 i.1 n.1,
-      rw (e.1, e.2) (subst (λ (x : Limits). IsWhyUnread x (i.0 ++ n.0) (g.S.Source.left c.advance.new.source) c.in_err-advance.field-0.0) same (n.2 i.0 i.2.0 i.2.1 i.2.2)),
+      rw (e.1, e.2) (subst (λ (x : Limits). IsWhyUnread x (i.0 ++ n.0) (g.S.Source.words c.advance.new.source).left c.in_err-advance.field-0.0) same (n.2 i.0 i.2.0 i.2.1 i.2.2)),
     )
 
 pub loop-replay-preserved : goal.loop-replay-preserved
 loop-replay-preserved g c =
     let i = c.loop-replay.invariant.replays in
     let n = c.in_ok-advance.ensures.goes in
-    let more = subst (λ (b : Bool). Advances (i.0 ++ n.0) (g.S.Source.left c.advance.new.source) (Ok b) c.advance.new.self) c.if-branch.true (n.2 i.0 i.2.0 i.2.1 i.2.2) in
+    let more = subst (λ (b : Bool). Advances (i.0 ++ n.0) (g.S.Source.words c.advance.new.source).left (Ok b) c.advance.new.self) c.if-branch.true (n.2 i.0 i.2.0 i.2.1 i.2.2) in
     record {
       replays = (i.0 ++ n.0, gave_then _ _ _ _ _ _ i.0 n.0 i.1 n.1, more);
       limits = ap (λ (x : Start). x.limits) c.in_ok-advance.ensures.same ∙ c.loop-replay.invariant.limits;
@@ -35,7 +35,7 @@ pub returns-clause-reads : goal.returns-clause-reads
 returns-clause-reads g c =
     let i = c.loop-replay.invariant.replays in
     let n = c.in_ok-advance.ensures.goes in
-    let all = subst (λ (b : Bool). Advances (i.0 ++ n.0) (g.S.Source.left c.advance.new.source) (Ok b) c.advance.new.self) c.if-branch.false (n.2 i.0 i.2.0 i.2.1 i.2.2) in
+    let all = subst (λ (b : Bool). Advances (i.0 ++ n.0) (g.S.Source.words c.advance.new.source).left (Ok b) c.advance.new.self) c.if-branch.false (n.2 i.0 i.2.0 i.2.1 i.2.2) in
     let same = ap (λ (x : Start). x.limits) c.in_ok-advance.ensures.same ∙ c.loop-replay.invariant.limits in (
       i.0 ++ n.0,
       gave_then _ _ _ _ _ _ i.0 n.0 i.1 n.1,

@@ -18,16 +18,16 @@ returns-in_err-head-clause-err g c = on_err_for _ _ (nothing_of_book c.args.star
 pub returns-in_err-put_value-clause-err : goal.returns-in_err-put_value-clause-err
 returns-in_err-put_value-clause-err g c =
     let cut = c.in_err-put_value.ensures.err in
-    let before = g.S.Sink.taken c.args.sink.now in
+    let before = (g.S.Sink.words c.args.sink.now).taken in
     on_err_for _ _
-    (head_of_book c.args.start (plain_entries c.args.history.now.entries) before (g.S.Sink.taken c.put_value.new.sink) cut.0
+    (head_of_book c.args.start (plain_entries c.args.history.now.entries) before (g.S.Sink.words c.put_value.new.sink).taken cut.0
     (cut.1 ∙ ap (λ (t : Tree). append_known before (take cut.0 (shortest t))) c.in_ok-head.ensures))
 
 pub returns-in_err-write_entries-clause-err : goal.returns-in_err-write_entries-clause-err
 returns-in_err-write_entries-clause-err g c =
-    let before = g.S.Sink.taken c.args.sink.now in
-    let middle = g.S.Sink.taken c.put_value.new.sink in
-    let after = g.S.Sink.taken c.write_entries.new.sink in
+    let before = (g.S.Sink.words c.args.sink.now).taken in
+    let middle = (g.S.Sink.words c.put_value.new.sink).taken in
+    let after = (g.S.Sink.words c.write_entries.new.sink).taken in
     on_err_for _ _
     (entries_of_book c.args.start (plain_entries c.args.history.now.entries) before middle after
     (c.in_ok-put_value.ensures.ok ∙ ap (λ (t : Tree). append_known before (shortest t)) c.in_ok-head.ensures)
@@ -35,9 +35,9 @@ returns-in_err-write_entries-clause-err g c =
 
 pub returns-in_err-end-clause-err : goal.returns-in_err-end-clause-err
 returns-in_err-end-clause-err g c =
-    let before = g.S.Sink.taken c.args.sink.now in
-    let middle = g.S.Sink.taken c.put_value.new.sink in
-    let last = g.S.Sink.taken c.write_entries.new.sink in
+    let before = (g.S.Sink.words c.args.sink.now).taken in
+    let middle = (g.S.Sink.words c.put_value.new.sink).taken in
+    let last = (g.S.Sink.words c.write_entries.new.sink).taken in
     on_err_for _ _
     (end_of_book c.args.start (plain_entries c.args.history.now.entries) before middle last last 0
     (c.in_ok-put_value.ensures.ok ∙ ap (λ (t : Tree). append_known before (shortest t)) c.in_ok-head.ensures)
@@ -46,13 +46,13 @@ returns-in_err-end-clause-err g c =
 
 pub returns-clause-ok : goal.returns-clause-ok
 returns-clause-ok g c =
-    let before = g.S.Sink.taken c.args.sink.now in
-    let middle = g.S.Sink.taken c.put_value.new.sink in
-    let last = g.S.Sink.taken c.write_entries.new.sink in
+    let before = (g.S.Sink.words c.args.sink.now).taken in
+    let middle = (g.S.Sink.words c.put_value.new.sink).taken in
+    let last = (g.S.Sink.words c.write_entries.new.sink).taken in
     let count : c.len.result ≡ length (plain_entries c.args.history.now.entries) = c.len.ensures.count ∙ sym (plain_length c.args.history.now.entries) in
     on_ok c.put_value-2.result _ _
     (λ e.
-    all_of_book c.args.start (plain_entries c.args.history.now.entries) before middle last (g.S.Sink.taken c.put_value-2.new.sink)
+    all_of_book c.args.start (plain_entries c.args.history.now.entries) before middle last (g.S.Sink.words c.put_value-2.new.sink).taken
     (c.in_ok-put_value.ensures.ok ∙ ap (λ (t : Tree). append_known before (shortest t)) c.in_ok-head.ensures)
     (subst (λ (l : List world.Entry). WentOut c.args.start Book (plain_entries l) middle last) c.entries.ensures c.in_ok-write_entries.ensures.ok)
     (e ∙ ap (λ (t : Tree). append_known last (shortest t)) (c.in_ok-end.ensures ∙ ap book_end count)))
@@ -60,13 +60,13 @@ returns-clause-ok g c =
 
 pub returns-clause-err : goal.returns-clause-err
 returns-clause-err g c =
-    let before = g.S.Sink.taken c.args.sink.now in
-    let middle = g.S.Sink.taken c.put_value.new.sink in
-    let last = g.S.Sink.taken c.write_entries.new.sink in
+    let before = (g.S.Sink.words c.args.sink.now).taken in
+    let middle = (g.S.Sink.words c.put_value.new.sink).taken in
+    let last = (g.S.Sink.words c.write_entries.new.sink).taken in
     let count : c.len.result ≡ length (plain_entries c.args.history.now.entries) = c.len.ensures.count ∙ sym (plain_length c.args.history.now.entries) in
     on_err c.put_value-2.result _ _
     (λ cut.
-    end_of_book c.args.start (plain_entries c.args.history.now.entries) before middle last (g.S.Sink.taken c.put_value-2.new.sink) cut.0
+    end_of_book c.args.start (plain_entries c.args.history.now.entries) before middle last (g.S.Sink.words c.put_value-2.new.sink).taken cut.0
     (c.in_ok-put_value.ensures.ok ∙ ap (λ (t : Tree). append_known before (shortest t)) c.in_ok-head.ensures)
     (subst (λ (l : List world.Entry). WentOut c.args.start Book (plain_entries l) middle last) c.entries.ensures c.in_ok-write_entries.ensures.ok)
     (cut.1 ∙ ap (λ (t : Tree). append_known last (take cut.0 (shortest t))) (c.in_ok-end.ensures ∙ ap book_end count)))

@@ -52,7 +52,7 @@ returns-in_err-write_entry-clause-unfit g c = λ n is.
     let met : p.0 ≡ Unfit n = same_err c.from_residual-in_err-write_entry.result p.0 (Unfit n) p.1 is in
     let fault : c.in_err-write_entry.field-0.0 ≡ Unfit n = sym p.2 ∙ met in
     let stop = subst (λ (x : BookFault). StopsOne c.args.form c.loop-entry.at (plain_entry e) x c.loop-entry.player.world c.loop-entry.player.painters.items c.write_entry.new.player.world c.write_entry.new.player.painters.items
-    (g.S.Sink.taken c.loop-entry.sink) (g.S.Sink.taken c.write_entry.new.sink)) fault c.in_err-write_entry.ensures.err in
+    (g.S.Sink.words c.loop-entry.sink).taken (g.S.Sink.words c.write_entry.new.sink).taken) fault c.in_err-write_entry.ensures.err in
     unfit_there (plain_entries es) (plain_entries (take i es)) (plain_entries (drop (suc i) es)) c.loop-entry.at n (plain_entry e)
     (plain_parts es i e (omega arith) c.entry-item.is) (c.loop-entry.invariant.number ∙ plain_number es i (omega arith)) stop.0 stop.1
 
@@ -63,7 +63,7 @@ loop-entry-preserved g c =
     let e = c.entry-item.result in
     record {
       number = ap (λ (n : ℕ). n + 1) c.loop-entry.invariant.number;
-      written = subst (λ (l : List Entry). HasWritten c.args.start c.args.form l c.write_entry.new.player.world c.write_entry.new.player.painters.items (g.S.Sink.taken c.args.sink.now) (g.S.Sink.taken c.write_entry.new.sink))
+      written = subst (λ (l : List Entry). HasWritten c.args.start c.args.form l c.write_entry.new.player.world c.write_entry.new.player.painters.items (g.S.Sink.words c.args.sink.now).taken (g.S.Sink.words c.write_entry.new.sink).taken)
           (plain_next es i e (omega arith) c.entry-item.is)
           (written_next c.args.start c.args.form (plain_entries (take i es)) c.loop-entry.at (plain_entry e) c.loop-entry.player.world c.write_entry.new.player.world c.loop-entry.player.painters.items c.write_entry.new.player.painters.items _ _ _
           (c.loop-entry.invariant.number ∙ plain_number es i (omega arith)) c.loop-entry.invariant.written c.in_ok-write_entry.ensures.ok);
@@ -74,7 +74,7 @@ pub returns-clause-ok : goal.returns-clause-ok
 returns-clause-ok g c =
     let es = c.args.entries.now in
     written_all c.args.start c.args.form (plain_entries es) c.loop-entry.player.world c.loop-entry.player.painters.items _ _
-    (subst (λ (l : List world.Entry). HasWritten c.args.start c.args.form (plain_entries l) c.loop-entry.player.world c.loop-entry.player.painters.items (g.S.Sink.taken c.args.sink.now) (g.S.Sink.taken c.loop-entry.sink))
+    (subst (λ (l : List world.Entry). HasWritten c.args.start c.args.form (plain_entries l) c.loop-entry.player.world c.loop-entry.player.painters.items (g.S.Sink.words c.args.sink.now).taken (g.S.Sink.words c.loop-entry.sink).taken)
     (take_all c.loop-entry.entry-index es (omega arith)) c.loop-entry.invariant.written)
 
 pub returns-clause-later : goal.returns-clause-later

@@ -7,6 +7,6 @@ abbrev pub invariant-loop-entry : goal.invariant-loop-entry
 invariant-loop-entry g l = record {
   number : l.at ≡ l.entry-index;
   written : HasWritten l.fn.start l.form (plain_entries (take l.entry-index l.entries)) l.player.world l.player.painters.items
-      (g.S.Sink.taken l.initial.sink) (g.S.Sink.taken l.sink);
-  later : g.S.Sink.faults l.initial.sink ≤ g.S.Sink.faults l.sink;
+      (g.S.Sink.words l.initial.sink).taken (g.S.Sink.words l.sink).taken;
+  later : (g.S.Sink.words l.initial.sink).faults ≤ (g.S.Sink.words l.sink).faults;
 }

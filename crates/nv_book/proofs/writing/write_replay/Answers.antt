@@ -11,12 +11,12 @@ pub returns-clause-ok : goal.returns-clause-ok
 returns-clause-ok g c =
     on_ok c.write_entries.result _ _
     (λ w. replay_all c.args.start (plain_entries c.args.history.now.entries) _ _
-    (subst (λ (l : List world.Entry). WentOut c.args.start Outputs (plain_entries l) (g.S.Sink.taken c.args.sink.now) (g.S.Sink.taken c.write_entries.new.sink)) c.entries.ensures w))
+    (subst (λ (l : List world.Entry). WentOut c.args.start Outputs (plain_entries l) (g.S.Sink.words c.args.sink.now).taken (g.S.Sink.words c.write_entries.new.sink).taken) c.entries.ensures w))
     c.write_entries.ensures.ok
 
 pub returns-clause-err : goal.returns-clause-err
 returns-clause-err g c =
     on_err c.write_entries.result _ _
     (λ w. replay_part c.args.start (plain_entries c.args.history.now.entries) _ _
-    (subst (λ (l : List world.Entry). WentOutInPart c.args.start Outputs (plain_entries l) (g.S.Sink.taken c.args.sink.now) (g.S.Sink.taken c.write_entries.new.sink)) c.entries.ensures w))
+    (subst (λ (l : List world.Entry). WentOutInPart c.args.start Outputs (plain_entries l) (g.S.Sink.words c.args.sink.now).taken (g.S.Sink.words c.write_entries.new.sink).taken) c.entries.ensures w))
     c.write_entries.ensures.err

@@ -3,6 +3,3 @@ use Rattle.nv_halves.proofs.reader.read_session.Goals as goal
 
 pub returns-in_default-clause-read : goal.returns-in_default-clause-read
 returns-in_default-clause-read g c = read_nothing _ _ _ _
-
-pub returns-in_default-new-clause-read : goal.returns-in_default-new-clause-read
-returns-in_default-new-clause-read g c = read_nothing _ _ _ _

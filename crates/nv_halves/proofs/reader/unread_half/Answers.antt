@@ -5,12 +5,12 @@ use Rattle.nv_halves.proofs.reader.unread_half.Goals as goal
 
 pub returns-clause-pass : goal.returns-clause-pass
 returns-clause-pass g c =
-    let r = read_nothing (plain_pass c.args.pass) c.args.session (g.I.Source.taken c.args.input) (g.I.Source.left c.args.input) in
-    read_same _ _ _ c.args.session r.0 _ (c.close-pass.ensures.2 _ r.0 (g.I.Source.left c.args.input) r.2)
+    let r = read_nothing (plain_pass c.args.pass) c.args.session (g.I.Source.words c.args.input).taken (g.I.Source.words c.args.input).left in
+    read_same _ _ _ c.args.session r.0 _ (c.close-pass.ensures.2 _ r.0 (g.I.Source.words c.args.input).left r.2)
 
 pub returns-clause-read : goal.returns-clause-read
 returns-clause-read g c =
-    let r = read_nothing (plain_pass c.args.pass) c.args.session (g.I.Source.taken c.args.input) (g.I.Source.left c.args.input) in
+    let r = read_nothing (plain_pass c.args.pass) c.args.session (g.I.Source.words c.args.input).taken (g.I.Source.words c.args.input).left in
     (r.0, r.1, c.close-pass.ensures.2 _ r.0 _ r.2)
 
 pub returns-clause-nothing : goal.returns-clause-nothing

@@ -5,7 +5,7 @@ use Rattle.nv_halves.proofs.writer.write_all.Given as goal
 
 abbrev pub invariant-takes : goal.invariant-takes
 invariant-takes g l = record {
-  writes : WritesSoFar (plain_pass l.fn.pass) (plain_pass l.pass) l.session (g.V.Voice.told l.voice) (g.S.Sink.taken l.initial.output) (g.S.Sink.taken l.output);
+  writes : WritesSoFar (plain_pass l.fn.pass) (plain_pass l.pass) l.session (g.V.Voice.told l.voice) (g.S.Sink.words l.initial.output).taken (g.S.Sink.words l.output).taken;
   at_turn : l.pass.turn ≡ l.fn.pass.turn;
-  later : g.S.Sink.faults l.initial.output ≤ g.S.Sink.faults l.output;
+  later : (g.S.Sink.words l.initial.output).faults ≤ (g.S.Sink.words l.output).faults;
 }

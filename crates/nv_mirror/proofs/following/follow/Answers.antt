@@ -23,7 +23,7 @@ pub returns-then-not-put_all-clause-asks : goal.returns-then-not-put_all-clause-
 returns-then-not-put_all-clause-asks g c =
     let e : to_z w64 (of_z w64 c.args.buffer) ≡ c.args.buffer = search rules in
     let p = c.if-not-put_all.ensures.prefix in
-    (p.0, p.2 ∙ ap (λ (l : List ℕ). append_known (g.S.Sink.taken c.args.server.now) (take p.0 l)) (c.as_slice.ensures.value ∙ c.in-Ok.ensures.request ∙ ap request_bytes e))
+    (p.0, p.2 ∙ ap (λ (l : List ℕ). append_known (g.S.Sink.words c.args.server.now).taken (take p.0 l)) (c.as_slice.ensures.value ∙ c.in-Ok.ensures.request ∙ ap request_bytes e))
 
 pub run-requires-clause-fresh : goal.run-requires-clause-fresh
 run-requires-clause-fresh g c =
@@ -33,8 +33,8 @@ run-requires-clause-fresh g c =
 pub returns-clause-asks : goal.returns-clause-asks
 returns-clause-asks g c =
     let e : to_z w64 (of_z w64 c.args.buffer) ≡ c.args.buffer = search rules in
-    let all = c.if-not-put_all.ensures.all ∙ ap (λ (l : List ℕ). append_known (g.S.Sink.taken c.args.server.now) l) (c.as_slice.ensures.value ∙ c.in-Ok.ensures.request ∙ ap request_bytes e) in
-    took_request c.run.result c.args.buffer (g.S.Sink.taken c.args.server.now) (g.S.Sink.taken c.put_all.new.sink) all
+    let all = c.if-not-put_all.ensures.all ∙ ap (λ (l : List ℕ). append_known (g.S.Sink.words c.args.server.now).taken l) (c.as_slice.ensures.value ∙ c.in-Ok.ensures.request ∙ ap request_bytes e) in
+    took_request c.run.result c.args.buffer (g.S.Sink.words c.args.server.now).taken (g.S.Sink.words c.put_all.new.sink).taken all
 
 pub returns-clause-follows : goal.returns-clause-follows
 returns-clause-follows g c =
@@ -45,6 +45,6 @@ returns-clause-follows g c =
       f.1,
       f.2,
       f.3,
-      subst (λ (b : ℤ). FollowsTo (IsReadToEnd (g.I.Source.left c.run.new.input) (concat f.0)) b c.run.result (concat f.0) f.1) e f.4,
+      subst (λ (b : ℤ). FollowsTo (IsReadToEnd (g.I.Source.words c.run.new.input).left (concat f.0)) b c.run.result (concat f.0) f.1) e f.4,
       subst (λ (b : ℤ). ListsAtOnce b f.0 f.1) e f.5,
     )

@@ -18,8 +18,8 @@ returns-in-Ok-clause-ends g c =
       gave_then _ _ _ _ _ _ b.0 e.0 b.1 e.1,
       e.2,
       e.3,
-      subst (λ (l : Limits). CheckEnds l c.check_replay.result (b.0 ++ e.0) (g.I.Source.left c.check_replay.new.source) (plain_entries c.args.kept.now.entries)
-          (plain_entries c.check_replay.new.kept.entries) (g.S.Sink.taken c.args.output.now) (g.S.Sink.taken c.check_replay.new.output) (length c.args.watchers.now.items) e.2 e.3)
+      subst (λ (l : Limits). CheckEnds l c.check_replay.result (b.0 ++ e.0) (g.I.Source.words c.check_replay.new.source).left (plain_entries c.args.kept.now.entries)
+          (plain_entries c.check_replay.new.kept.entries) (g.S.Sink.words c.args.output.now).taken (g.S.Sink.words c.check_replay.new.output).taken (length c.args.watchers.now.items) e.2 e.3)
           (b.2.0 ∙ c.usual_limits.ensures) (e.4 b.0 b.2.1),
       e.5,
     )
@@ -28,8 +28,8 @@ pub returns-in-Err-clause-ends : goal.returns-in-Err-clause-ends
 returns-in-Err-clause-ends g c =
     let b = c.in-Err.ensures.begins in
     let found = plain_entries c.args.kept.now.entries in
-    let out = g.S.Sink.taken c.args.output.now in
-    let left = g.I.Source.left c.open.new.source in (
+    let out = (g.S.Sink.words c.args.output.now).taken in
+    let left = (g.I.Source.words c.open.new.source).left in (
       b.0,
       b.1,
       [],

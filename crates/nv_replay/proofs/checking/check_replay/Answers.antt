@@ -41,7 +41,7 @@ pub returns-in-Ok-clause-read : goal.returns-in-Ok-clause-read
 returns-in-Ok-clause-read g c = λ e.
     let n = c.first_no-no.ensures in
     absurd (subst (λ (r : ReplayEnd). Concludes (record { history = c.into_history-history.result; tally = c.in-Ok.tally }) r (plain_entries c.args.kept.now.entries)
-    (plain_entries c.conclude.new.kept.entries) (g.S.Sink.taken c.args.output.now) (g.S.Sink.taken c.conclude.new.output) (length c.deref.result.now) n.0)
+    (plain_entries c.conclude.new.kept.entries) (g.S.Sink.words c.args.output.now).taken (g.S.Sink.words c.conclude.new.output).taken (length c.deref.result.now) n.0)
     e (c.conclude.ensures.concludes (length c.deref.result.now) n.0 n.1))
 
 pub returns-in-Err-clause-ends : goal.returns-in-Err-clause-ends
@@ -49,8 +49,8 @@ returns-in-Err-clause-ends g c =
     let t = c.in-Err.ensures.goes in
     let limits = c.args.replay.start.limits in
     let found = plain_entries c.args.kept.now.entries in
-    let out = g.S.Sink.taken c.args.output.now in
-    let left = g.I.Source.left c.go_over.new.source in (
+    let out = (g.S.Sink.words c.args.output.now).taken in
+    let left = (g.I.Source.words c.go_over.new.source).left in (
       t.0,
       t.1,
       t.2,

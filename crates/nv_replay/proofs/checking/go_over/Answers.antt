@@ -33,7 +33,7 @@ returns-in_err-upcoming-clause-goes g c =
       λ fed begun.
           let h = i.3 fed begun in
           unread_all (fed ++ (i.0 ++ t.0)) _ i.2 _ _ _ is
-          (subst (λ (bs : List ℕ). IsWhyUnread c.read.new.self.start.limits bs (g.I.Source.left c.read.new.source) c.in_err-upcoming.field-0.0)
+          (subst (λ (bs : List ℕ). IsWhyUnread c.read.new.self.start.limits bs (g.I.Source.words c.read.new.source).left c.in_err-upcoming.field-0.0)
           (append_assoc fed i.0 t.0) (t.2 (fed ++ i.0) h.0 h.1 h.2.replaying)),
       none_on_err _ _ _ is,
     )
@@ -50,10 +50,10 @@ returns-in_err-step-in-Some-clause-goes g c =
       i.2,
       λ fed begun.
           let h = i.3 fed begun in
-          let u = subst (λ (o : Option Upcoming). ReadsNext ((fed ++ i.0) ++ r.0) (g.I.Source.left c.read.new.source) h.0 h.1 (Ok o) c.read.new.self) c.in-Some.is (r.2 (fed ++ i.0) h.0 h.1 h.2.replaying) in
+          let u = subst (λ (o : Option Upcoming). ReadsNext ((fed ++ i.0) ++ r.0) (g.I.Source.words c.read.new.source).left h.0 h.1 (Ok o) c.read.new.self) c.in-Some.is (r.2 (fed ++ i.0) h.0 h.1 h.2.replaying) in
           let coming = coming_over (fed ++ i.0) ((fed ++ i.0) ++ r.0) h.0 h.1 i.2 _ c.in-Some.upcoming c.loop-round.replay c.read.new.self h.2 c.in_ok-upcoming.ensures.same u in
           unread_all (fed ++ (i.0 ++ (r.0 ++ t.0))) _ i.2 _ _ _ is
-          (subst (λ (bs : List ℕ). IsWhyUnread c.pass_one.new.replay.start.limits bs (g.I.Source.left c.pass_one.new.source) c.in_err-step-in-Some.field-0.0)
+          (subst (λ (bs : List ℕ). IsWhyUnread c.pass_one.new.replay.start.limits bs (g.I.Source.words c.pass_one.new.source).left c.in_err-step-in-Some.field-0.0)
           (append_assoc (fed ++ i.0) r.0 t.0 ∙ append_assoc fed i.0 (r.0 ++ t.0)) (t.2 ((fed ++ i.0) ++ r.0) h.0 h.1 i.2 coming)),
       none_on_err _ _ _ is,
     )
@@ -85,10 +85,10 @@ returns-in-None-clause-goes g c =
       i.2,
       λ fed begun.
           let h = i.3 fed begun in
-          subst (λ (bs : List ℕ). IsGoneOver bs (g.I.Source.left c.read.new.source) i.2 c.loop-round.tally c.read.new.self)
+          subst (λ (bs : List ℕ). IsGoneOver bs (g.I.Source.words c.read.new.source).left i.2 c.loop-round.tally c.read.new.self)
           (append_assoc fed i.0 t.0)
           (gone_over (fed ++ i.0) ((fed ++ i.0) ++ t.0) _ h.0 h.1 i.2 _ c.loop-round.replay c.read.new.self h.2 c.in_ok-upcoming.ensures.same
-          (subst (λ (o : Option Upcoming). ReadsNext ((fed ++ i.0) ++ t.0) (g.I.Source.left c.read.new.source) h.0 h.1 (Ok o) c.read.new.self) c.in-None.is (t.2 (fed ++ i.0) h.0 h.1 h.2.replaying))),
+          (subst (λ (o : Option Upcoming). ReadsNext ((fed ++ i.0) ++ t.0) (g.I.Source.words c.read.new.source).left h.0 h.1 (Ok o) c.read.new.self) c.in-None.is (t.2 (fed ++ i.0) h.0 h.1 h.2.replaying))),
       λ j old new before was is seen. all.saw j old new before was is seen,
     )
 
@@ -120,7 +120,7 @@ loop-round-preserved g c =
         i.2 ++ sight later.world made ∷ [],
         λ fed begun.
             let h = i.3 fed begun in
-            let u = subst (λ (o : Option Upcoming). ReadsNext ((fed ++ i.0) ++ r.0) (g.I.Source.left c.read.new.source) h.0 h.1 (Ok o) c.read.new.self) c.in-Some.is (r.2 (fed ++ i.0) h.0 h.1 h.2.replaying) in
+            let u = subst (λ (o : Option Upcoming). ReadsNext ((fed ++ i.0) ++ r.0) (g.I.Source.words c.read.new.source).left h.0 h.1 (Ok o) c.read.new.self) c.in-Some.is (r.2 (fed ++ i.0) h.0 h.1 h.2.replaying) in
             let coming = coming_over (fed ++ i.0) ((fed ++ i.0) ++ r.0) h.0 h.1 i.2 _ c.in-Some.upcoming c.loop-round.replay c.read.new.self h.2 c.in_ok-upcoming.ensures.same u in
             let o = t.2 ((fed ++ i.0) ++ r.0) h.0 h.1 i.2 coming in (
               h.0 ++ o.entry ∷ [],

@@ -11,11 +11,11 @@ use Rattle.nv_replay.proofs.checking.go_over.Given as goal
 abbrev pub invariant-loop-round : goal.invariant-loop-round
 invariant-loop-round g l = record {
   went : (bytes : List ℕ)
-      × Gave (g.I.Source.taken l.initial.source) (g.I.Source.taken l.source) (g.I.Source.left l.initial.source) (g.I.Source.left l.source) bytes
+      × Gave (g.I.Source.words l.initial.source).taken (g.I.Source.words l.source).taken (g.I.Source.words l.initial.source).left (g.I.Source.words l.source).left bytes
       × (seen : List Sight)
       × ((fed : List ℕ) → IsReplaying fed [] [] l.initial.replay → (records : List Recorded) × (played : List Recorded) × IsGoingOver (fed ++ bytes) records played seen l.tally l.replay)
       × AreFollowing l.initial.watchers.items l.watchers.items l.follows seen l.replay.world (λ w s. g.W.Watcher.HasSeen w s)
       (λ w s. g.W.Watcher.IsBehind w s) (λ w. g.W.Watcher.Breaks w);
   same : l.replay.start ≡ l.initial.replay.start;
-  later : g.I.Source.faults l.initial.source ≤ g.I.Source.faults l.source;
+  later : (g.I.Source.words l.initial.source).faults ≤ (g.I.Source.words l.source).faults;
 }

@@ -6,4 +6,4 @@ use Rattle.nv_run.proofs.command.embed.Goals as goal
 
 pub returns-in_default-clause-ends : goal.returns-in_default-clause-ends
 returns-in_default-clause-ends g c =
-    ([], each_none _, ends_before (usual_start c.args.outbox) (g.I.Source.left c.args.input.now) _ c.args.kept.now.entries c.requires.empty)
+    ([], each_none _, ends_before (usual_start c.args.outbox) (g.I.Source.words c.args.input.now).left _ c.args.kept.now.entries c.requires.empty)

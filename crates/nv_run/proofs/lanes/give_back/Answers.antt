@@ -13,11 +13,11 @@ loop-job-init g c =
     let count : length c.args.jobs.items ≡ vec_len c.args.jobs = search rules in
     record {
       left = search rules;
-      out = subst (λ (n : ℕ). AreOut (g.P.Port.lent c.args.port.now) n) (sym (few ∙ count)) c.requires.out;
-      back = ap (λ l. append_items (g.P.Port.returned c.args.port.now) (lanes_of l)) same;
+      out = subst (λ (n : ℕ). AreOut (g.P.Port.words c.args.port.now).lent n) (sym (few ∙ count)) c.requires.out;
+      back = ap (λ l. append_items (g.P.Port.words c.args.port.now).returned (lanes_of l)) same;
       done = 0;
       all = omega (arith, few);
-      lent = lent_none (g.P.Port.lent c.args.port.now);
+      lent = lent_none (g.P.Port.words c.args.port.now).lent;
       later = omega arith;
     }
 
@@ -29,11 +29,11 @@ loop-job-preserved g c =
     let lanes : lanes_of (into_iter_items c.loop-job.job-iterator) ≡ c.in-Some.job.lane ∷ lanes_of (into_iter_items c.next.new.self) = ap lanes_of step in
     record {
       left = search rules;
-      out = out_still (g.P.Port.lent c.loop-job.port) (g.P.Port.lent c.back.new.self) _ _ one c.back.ensures.lent i.out;
-      back = back_still (g.P.Port.returned c.loop-job.port) (g.P.Port.returned c.back.new.self) (g.P.Port.returned c.args.port.now) c.in-Some.job.lane _ _ _ lanes c.back.ensures.returned i.back;
+      out = out_still (g.P.Port.words c.loop-job.port).lent (g.P.Port.words c.back.new.self).lent _ _ one c.back.ensures.lent i.out;
+      back = back_still (g.P.Port.words c.loop-job.port).returned (g.P.Port.words c.back.new.self).returned (g.P.Port.words c.args.port.now).returned c.in-Some.job.lane _ _ _ lanes c.back.ensures.returned i.back;
       done = i.done + 1;
       all = omega (arith, one, i.all);
-      lent = lent_still (g.P.Port.lent c.args.port.now) (g.P.Port.lent c.loop-job.port) (g.P.Port.lent c.back.new.self) i.done i.lent c.back.ensures.lent;
+      lent = lent_still (g.P.Port.words c.args.port.now).lent (g.P.Port.words c.loop-job.port).lent (g.P.Port.words c.back.new.self).lent i.done i.lent c.back.ensures.lent;
       later = search rules;
     }
 
@@ -45,11 +45,11 @@ loop-job-preserved-in-Some g c =
     let lanes : lanes_of (into_iter_items c.loop-job.job-iterator) ≡ c.in-Some.job.lane ∷ lanes_of (into_iter_items c.next.new.self) = ap lanes_of step in
     record {
       left = search rules;
-      out = out_still (g.P.Port.lent c.loop-job.port) (g.P.Port.lent c.back.new.self) _ _ one c.back.ensures.lent i.out;
-      back = back_still (g.P.Port.returned c.loop-job.port) (g.P.Port.returned c.back.new.self) (g.P.Port.returned c.args.port.now) c.in-Some.job.lane _ _ _ lanes c.back.ensures.returned i.back;
+      out = out_still (g.P.Port.words c.loop-job.port).lent (g.P.Port.words c.back.new.self).lent _ _ one c.back.ensures.lent i.out;
+      back = back_still (g.P.Port.words c.loop-job.port).returned (g.P.Port.words c.back.new.self).returned (g.P.Port.words c.args.port.now).returned c.in-Some.job.lane _ _ _ lanes c.back.ensures.returned i.back;
       done = i.done + 1;
       all = omega (arith, one, i.all);
-      lent = lent_still (g.P.Port.lent c.args.port.now) (g.P.Port.lent c.loop-job.port) (g.P.Port.lent c.back.new.self) i.done i.lent c.back.ensures.lent;
+      lent = lent_still (g.P.Port.words c.args.port.now).lent (g.P.Port.words c.loop-job.port).lent (g.P.Port.words c.back.new.self).lent i.done i.lent c.back.ensures.lent;
       later = search rules;
     }
 
@@ -57,4 +57,4 @@ pub returns-clause-returned : goal.returns-clause-returned
 returns-clause-returned g c =
     let i = c.loop-job.invariant in
     let none : into_iter_items c.loop-job.job-iterator ≡ [] = none_left _ (sym i.left ∙ c.in-None.ensures.steps.0) in
-    sym (back_all (g.P.Port.returned c.loop-job.port) _ (ap lanes_of none)) ∙ i.back
+    sym (back_all (g.P.Port.words c.loop-job.port).returned _ (ap lanes_of none)) ∙ i.back

@@ -8,11 +8,11 @@ use Rattle.nv_run.proofs.lanes.give_back.Given as goal
 abbrev pub invariant-loop-job : goal.invariant-loop-job
 invariant-loop-job g l = record {
   left : into_iter_len l.job-iterator ≡ length (into_iter_items l.job-iterator);
-  out : AreOut (g.P.Port.lent l.port) (length (into_iter_items l.job-iterator));
-  back : append_items (g.P.Port.returned l.port) (lanes_of (into_iter_items l.job-iterator))
-      ≡ append_items (g.P.Port.returned l.fn.port) (lanes_of l.fn.jobs.items);
+  out : AreOut (g.P.Port.words l.port).lent (length (into_iter_items l.job-iterator));
+  back : append_items (g.P.Port.words l.port).returned (lanes_of (into_iter_items l.job-iterator))
+      ≡ append_items (g.P.Port.words l.fn.port).returned (lanes_of l.fn.jobs.items);
   done : ℕ;
   all : done + length (into_iter_items l.job-iterator) ≡ length l.fn.jobs.items;
-  lent : g.P.Port.lent l.fn.port ≡ option_map (λ n. n + done) (g.P.Port.lent l.port);
-  later : g.P.Port.faults l.fn.port ≤ g.P.Port.faults l.port;
+  lent : (g.P.Port.words l.fn.port).lent ≡ option_map (λ n. n + done) (g.P.Port.words l.port).lent;
+  later : (g.P.Port.words l.fn.port).faults ≤ (g.P.Port.words l.port).faults;
 }

@@ -6,7 +6,7 @@ use Rattle.nv_run.proofs.lanes.take_lanes.Given as goal
 abbrev pub invariant-loop : goal.invariant-loop
 invariant-loop g l =
     (vec_len l.jobs ≡ l.counter) × (l.counter ≤ l.fn.count) × (vec_capacity l.jobs ≡ vec_capacity l.fn.jobs)
-    × All (λ lane. IsFreshLane (g.P.Line.Lane.over lane) (g.P.Line.Lane.lent lane) (g.P.Line.Lane.faults lane)) (lanes_of l.jobs.items)
-    × (g.P.Port.returned l.port ≡ g.P.Port.returned l.fn.port)
-    × (g.P.Port.lent l.port ≡ option_map (λ n. n + vec_len l.jobs) (g.P.Port.lent l.fn.port))
-    × (g.P.Port.faults l.fn.port ≤ g.P.Port.faults l.port)
+    × All (λ lane. IsFreshLane (g.P.Line.Lane.words lane).over (g.P.Line.Lane.words lane).lent (g.P.Line.Lane.words lane).faults) (lanes_of l.jobs.items)
+    × ((g.P.Port.words l.port).returned ≡ (g.P.Port.words l.fn.port).returned)
+    × ((g.P.Port.words l.port).lent ≡ option_map (λ n. n + vec_len l.jobs) (g.P.Port.words l.fn.port).lent)
+    × ((g.P.Port.words l.fn.port).faults ≤ (g.P.Port.words l.port).faults)

@@ -21,11 +21,11 @@ returns-clause-leaves g c =
         gave = told.2;
         wrote = search rules;
         ends =
-            subst (λ (n : ℤ). FollowsTo (IsReadToEnd (g.D.In.Source.left call.new.input) (concat told.0)) n call.result (concat told.0) told.1)
+            subst (λ (n : ℤ). FollowsTo (IsReadToEnd (g.D.In.Source.words call.new.input).left (concat told.0)) n call.result (concat told.0) told.1)
             number told.4;
         at_once = subst (λ (n : ℤ). ListsAtOnce n told.0 told.1) number told.5;
         asks =
-            subst (λ (n : ℤ). ServerTook n call.result (g.D.Out.Sink.taken opened.server) (g.D.Out.Sink.taken call.new.server))
+            subst (λ (n : ℤ). ServerTook n call.result (g.D.Out.Sink.words opened.server).taken (g.D.Out.Sink.words call.new.server).taken)
             number call.ensures.asks;
         read = call.ensures.read;
         ask = call.ensures.ask;

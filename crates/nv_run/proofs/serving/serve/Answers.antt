@@ -11,7 +11,7 @@ pub leave_book-ended-requires-clause-runs : goal.leave_book-ended-requires-claus
 leave_book-ended-requires-clause-runs g c = ends_run _ (usual_start c.args.outbox) c.args.sessions _ _ _ _ _ c.serve_port-ended.ensures.ends
 
 pub back-requires : goal.back-requires
-back-requires g c = given_out _ _ (g.F.Files.lent_sinks c.args.files.now) _ c.in-Some-sink.is c.sink.ensures.lent_sinks
+back-requires g c = given_out _ _ (g.F.Files.words c.args.files.now).lent_sinks _ c.in-Some-sink.is c.sink.ensures.lent_sinks
 
 pub returns-clause-ends : goal.returns-clause-ends
 returns-clause-ends g c = ends_later _ (usual_start c.args.outbox) c.args.sessions _ _ _ _ _ _ c.leave_book-ended.ensures.later c.serve_port-ended.ensures.ends

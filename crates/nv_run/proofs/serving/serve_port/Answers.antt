@@ -11,7 +11,7 @@ returns-in_default-clause-ends g c = none_began _ (usual_start c.args.outbox) c.
 
 pub returns-then-not-open-clause-ends : goal.returns-then-not-open-clause-ends
 returns-then-not-open-clause-ends g c =
-    let rose : Rose (g.P.Port.faults c.args.port.now) (g.P.Port.faults c.open.new.port) = search rules in
+    let rose : Rose (g.P.Port.words c.args.port.now).faults (g.P.Port.words c.open.new.port).faults = search rules in
     port_failed _ (usual_start c.args.outbox) c.args.sessions c.args.kept.now.entries _ (lanes_of c.open.new.jobs.items) _ _ c.requires.empty
     (rose_later _ _ _ rose c.give_back.ensures.later) c.open.ensures.fresh
     (c.give_back.ensures.returned ∙ ap (λ known. append_items known (lanes_of c.open.new.jobs.items)) c.open.ensures.returned)

@@ -13,4 +13,4 @@ returns-then-not-put_all g c =
     )
 
 pub returns : goal.returns
-returns g c = told_all (λ part. part.now) c.args.parts.now c.loop-part.part-index _ _ _ _ c.loop-part-test.false c.loop-part.invariant.told
+returns g c = told_all (λ part. part.now) c.args.parts.now c.loop-part.part-index _ _ c.loop-part-test.false c.loop-part.invariant.told

@@ -11,4 +11,4 @@ returns g c =
     let line : codes "nvimd: watcher " ++ (c.format-watcher.result.now ++ (codes " says no at entry " ++ (entry ++ codes "\n"))) ≡ line_of_replay (Objects c.args.watcher c.args.entry) =
     ap (λ (d : List ℕ). codes "nvimd: watcher " ++ (d ++ (codes " says no at entry " ++ (entry ++ codes "\n")))) c.format-watcher.ensures.text
     ∙ ap (λ (d : List ℕ). codes "nvimd: watcher " ++ (decimal c.args.watcher ++ (codes " says no at entry " ++ (d ++ codes "\n")))) c.format-entry.ensures.text in
-    tells_as _ (line_of_replay (Objects c.args.watcher c.args.entry)) _ _ _ _ line c.tell.ensures
+    tells_as _ (line_of_replay (Objects c.args.watcher c.args.entry)) _ _ line c.tell.ensures

@@ -5,9 +5,9 @@ use Rattle.nv_run.proofs.telling.tell_refusal.Goals as goal
 pub returns-then-not-put_all : goal.returns-then-not-put_all
 returns-then-not-put_all g c =
     let p = c.if-not-put_all.ensures in
-    tells_cut (codes "nvimd: refused: ") _ p.prefix.0 _ _ _ _ p.prefix.1 p.prefix.2 p.failed
+    tells_cut (codes "nvimd: refused: ") _ p.prefix.0 _ _ p.prefix.1 p.prefix.2 p.failed
 
 pub returns : goal.returns
 returns g c =
     let p = c.if-not-put_all.ensures in
-    tells_then (codes "nvimd: refused: ") _ _ _ _ _ _ _ p.later p.all c.tell_bytes.ensures
+    tells_then (codes "nvimd: refused: ") _ _ _ _ p.later p.all c.tell_bytes.ensures

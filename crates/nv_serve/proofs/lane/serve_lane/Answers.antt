@@ -1,7 +1,7 @@
 use Rattle.std.proofs.Common.{ap, subst, Option}
 use Rattle.nv_world.specs.Contents.{plain_entries}
 use Rattle.nv_halves.specs.Passes.{plain_pass}
-use Rattle.nv_serve.specs.Links.{LanesTell}
+use Rattle.nv_serve.specs.Links.{LanesWords}
 use Rattle.nv_serve.specs.inside.Lanes.{StepsLane}
 use Rattle.nv_serve.specs.declared.job.LaneEnd.{LaneEnd}
 use Rattle.nv_serve.proofs.Chaining.{same_self, lane_begun, lane_goes, lane_ends}
@@ -9,14 +9,7 @@ use Rattle.nv_serve.proofs.lane.serve_lane.Goals as goal
 
 pub links-init : goal.links-init
 links-init g c =
-    let t : LanesTell _ _ _ = record {
-      ends = record { taken = g.L.In.Source.taken; left = g.L.In.Source.left; sent = g.L.Out.Sink.taken; faults = g.L.Out.Sink.faults };
-      read_faults = g.L.In.Source.faults;
-      coming = g.L.Lane.coming;
-      over = g.L.Lane.over;
-      lent = g.L.Lane.lent;
-      faults = g.L.Lane.faults;
-    } in record {
+    let t : LanesWords _ _ _ = record { input = g.L.In.Source.words; output = g.L.Out.Sink.words; lane = g.L.Lane.words } in record {
       first = same_self c.args.passes.0;
       second = same_self c.args.passes.1;
       serves = lane_begun t c.args.passes.0.start c.args.passes.0.number c.args.passes.1.number c.args.lane.now (plain_pass c.args.passes.0).seen (plain_pass c.args.passes.1).seen
@@ -25,14 +18,7 @@ links-init g c =
 
 pub links-preserved : goal.links-preserved
 links-preserved g c =
-    let t : LanesTell _ _ _ = record {
-      ends = record { taken = g.L.In.Source.taken; left = g.L.In.Source.left; sent = g.L.Out.Sink.taken; faults = g.L.Out.Sink.faults };
-      read_faults = g.L.In.Source.faults;
-      coming = g.L.Lane.coming;
-      over = g.L.Lane.over;
-      lent = g.L.Lane.lent;
-      faults = g.L.Lane.faults;
-    } in
+    let t : LanesWords _ _ _ = record { input = g.L.In.Source.words; output = g.L.Out.Sink.words; lane = g.L.Lane.words } in
     let i = c.links.invariant in
     let n = c.serve_next-next in
     let step = subst (λ (s : Option LaneEnd). StepsLane t c.links.passes.0.start s (plain_pass c.links.passes.0) (plain_pass c.links.passes.1) (plain_pass n.result.0.0) (plain_pass n.result.0.1) c.links.lane n.new.lane)
@@ -42,14 +28,7 @@ links-preserved g c =
 
 pub returns-in-Some-end-clause-serves : goal.returns-in-Some-end-clause-serves
 returns-in-Some-end-clause-serves g c =
-    let t : LanesTell _ _ _ = record {
-      ends = record { taken = g.L.In.Source.taken; left = g.L.In.Source.left; sent = g.L.Out.Sink.taken; faults = g.L.Out.Sink.faults };
-      read_faults = g.L.In.Source.faults;
-      coming = g.L.Lane.coming;
-      over = g.L.Lane.over;
-      lent = g.L.Lane.lent;
-      faults = g.L.Lane.faults;
-    } in
+    let t : LanesWords _ _ _ = record { input = g.L.In.Source.words; output = g.L.Out.Sink.words; lane = g.L.Lane.words } in
     let i = c.links.invariant in
     let n = c.serve_next-next in
     let step = subst (λ (s : Option LaneEnd). StepsLane t c.links.passes.0.start s (plain_pass c.links.passes.0) (plain_pass c.links.passes.1) (plain_pass n.result.0.0) (plain_pass n.result.0.1) c.links.lane n.new.lane)

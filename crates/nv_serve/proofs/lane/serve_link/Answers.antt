@@ -1,19 +1,12 @@
 use Rattle.std.proofs.Common.{ap, sym, ◌∙◌, arith, ℕ, ◌+◌, option_map}
 use Rattle.nv_halves.specs.Passes.{plain_pass}
-use Rattle.nv_serve.specs.Links.{LanesTell}
+use Rattle.nv_serve.specs.Links.{LanesWords}
 use Rattle.nv_serve.proofs.Chaining.{linked, given_back, returned}
 use Rattle.nv_serve.proofs.lane.serve_link.Goals as goal
 
 pub returns-then-is_some : goal.returns-then-is_some
 returns-then-is_some g c =
-    let t : LanesTell _ _ _ = record {
-      ends = record { taken = g.L.In.Source.taken; left = g.L.In.Source.left; sent = g.L.Out.Sink.taken; faults = g.L.Out.Sink.faults };
-      read_faults = g.L.In.Source.faults;
-      coming = g.L.Lane.coming;
-      over = g.L.Lane.over;
-      lent = g.L.Lane.lent;
-      faults = g.L.Lane.faults;
-    } in
+    let t : LanesWords _ _ _ = record { input = g.L.In.Source.words; output = g.L.Out.Sink.words; lane = g.L.Lane.words } in
     let e = c.serve_one-served.ensures in
     let r = c.serve_one-served.result in
     let k = linked t (plain_pass c.args.passes.0) (plain_pass c.args.passes.1) (plain_pass r.passes.0) (plain_pass r.passes.1) (plain_pass c.end_after-first.result.0)
@@ -28,14 +21,7 @@ returns-then-is_some g c =
 
 pub returns : goal.returns
 returns g c =
-    let t : LanesTell _ _ _ = record {
-      ends = record { taken = g.L.In.Source.taken; left = g.L.In.Source.left; sent = g.L.Out.Sink.taken; faults = g.L.Out.Sink.faults };
-      read_faults = g.L.In.Source.faults;
-      coming = g.L.Lane.coming;
-      over = g.L.Lane.over;
-      lent = g.L.Lane.lent;
-      faults = g.L.Lane.faults;
-    } in
+    let t : LanesWords _ _ _ = record { input = g.L.In.Source.words; output = g.L.Out.Sink.words; lane = g.L.Lane.words } in
     let e = c.serve_one-served.ensures in
     let r = c.serve_one-served.result in
     let k = linked t (plain_pass c.args.passes.0) (plain_pass c.args.passes.1) (plain_pass r.passes.0) (plain_pass r.passes.1) (plain_pass c.end_after-first.result.0)

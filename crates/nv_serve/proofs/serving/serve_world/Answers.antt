@@ -2,7 +2,7 @@ use Rattle.std.proofs.Common.{◌≡◌, ◌⊎◌, ◌<◌, ℕ, List, sym, ◌
 use Rattle.nv_turn.specs.Story.{HasEachUpTo}
 use Rattle.nv_world.specs.Contents.{plain_entries}
 use Rattle.nv_world.specs.declared.entry.Entry.{Entry}
-use Rattle.nv_serve.specs.Links.{LanesTell}
+use Rattle.nv_serve.specs.Links.{LanesWords}
 use Rattle.nv_serve.specs.Jobs.{lanes_of}
 use Rattle.nv_serve.specs.Headline.{ServerLeaves}
 use Rattle.nv_serve.proofs.Headlining.{all_ready, have_passes, has_all, shows}
@@ -10,40 +10,19 @@ use Rattle.nv_serve.proofs.serving.serve_world.Goals as goal
 
 pub run_lanes-requires-clause-ready : goal.run_lanes-requires-clause-ready
 run_lanes-requires-clause-ready g c κs within =
-    let t : LanesTell _ _ _ = record {
-      ends = record { taken = g.L.In.Source.taken; left = g.L.In.Source.left; sent = g.L.Out.Sink.taken; faults = g.L.Out.Sink.faults };
-      read_faults = g.L.In.Source.faults;
-      coming = g.L.Lane.coming;
-      over = g.L.Lane.over;
-      lent = g.L.Lane.lent;
-      faults = g.L.Lane.faults;
-    } in
+    let t : LanesWords _ _ _ = record { input = g.L.In.Source.words; output = g.L.Out.Sink.words; lane = g.L.Lane.words } in
     let p = c.requires.passes in
     all_ready t c.args.turn.turn (Some p.0) c.args.jobs.now c.deal.new.jobs c.deal.ensures.length (c.deal.ensures.deals (Some p.0) p.1)
 
 pub join_all-last-requires-clause-passes : goal.join_all-last-requires-clause-passes
 join_all-last-requires-clause-passes g c =
-    let t : LanesTell _ _ _ = record {
-      ends = record { taken = g.L.In.Source.taken; left = g.L.In.Source.left; sent = g.L.Out.Sink.taken; faults = g.L.Out.Sink.faults };
-      read_faults = g.L.In.Source.faults;
-      coming = g.L.Lane.coming;
-      over = g.L.Lane.over;
-      lent = g.L.Lane.lent;
-      faults = g.L.Lane.faults;
-    } in
+    let t : LanesWords _ _ _ = record { input = g.L.In.Source.words; output = g.L.Out.Sink.words; lane = g.L.Lane.words } in
     let p = c.requires.passes in
     have_passes t c.args.turn.turn (Some p.0) c.args.jobs.now c.deal.new.jobs c.run_lanes.new.jobs c.deal.ensures.length c.run_lanes.ensures.length (c.deal.ensures.deals (Some p.0) p.1) c.run_lanes.ensures.serves
 
 pub close-world-requires-clause-all : goal.close-world-requires-clause-all
 close-world-requires-clause-all g c =
-    let t : LanesTell _ _ _ = record {
-      ends = record { taken = g.L.In.Source.taken; left = g.L.In.Source.left; sent = g.L.Out.Sink.taken; faults = g.L.Out.Sink.faults };
-      read_faults = g.L.In.Source.faults;
-      coming = g.L.Lane.coming;
-      over = g.L.Lane.over;
-      lent = g.L.Lane.lent;
-      faults = g.L.Lane.faults;
-    } in
+    let t : LanesWords _ _ _ = record { input = g.L.In.Source.words; output = g.L.Out.Sink.words; lane = g.L.Lane.words } in
     let p = c.requires.passes in
     subst (λ (n : ℕ). HasEachUpTo n c.join_all-last.result.numbers) (sym c.requires.count.0)
     (has_all t c.args.turn.turn (Some p.0) c.args.jobs.now c.deal.new.jobs c.run_lanes.new.jobs c.join_all-last.new.jobs c.join_all-last.result c.requires.some c.deal.ensures.length c.run_lanes.ensures.length
@@ -51,14 +30,7 @@ close-world-requires-clause-all g c =
 
 pub returns : goal.returns
 returns g c start is =
-    let t : LanesTell _ _ _ = record {
-      ends = record { taken = g.L.In.Source.taken; left = g.L.In.Source.left; sent = g.L.Out.Sink.taken; faults = g.L.Out.Sink.faults };
-      read_faults = g.L.In.Source.faults;
-      coming = g.L.Lane.coming;
-      over = g.L.Lane.over;
-      lent = g.L.Lane.lent;
-      faults = g.L.Lane.faults;
-    } in
+    let t : LanesWords _ _ _ = record { input = g.L.In.Source.words; output = g.L.Out.Sink.words; lane = g.L.Lane.words } in
     let j = c.join_all-last in
     let w = c.close-world in
     subst (λ (l : List Entry). ServerLeaves t start (plain_entries l) c.was_spent-spent.result c.has_failed-failed.result (lanes_of c.args.jobs.now) (lanes_of j.new.jobs)) (sym (c.into_history.ensures.history ∙ w.ensures.seen))

@@ -6,8 +6,4 @@ use Rattle.nv_session.proofs.session.alone.Goals as goal
 
 pub returns-in_default-clause-ends : goal.returns-in_default-clause-ends
 returns-in_default-clause-ends g c =
-    ([], each_none _, ends_before (start_of c.args.world.now) (g.I.Source.left c.args.input.now) _ c.args.world.now.history c.requires.fresh)
-
-pub returns-in_default-new-clause-ends : goal.returns-in_default-new-clause-ends
-returns-in_default-new-clause-ends g c =
-    ([], each_none _, ends_before (start_of c.args.world.now) (g.I.Source.left c.args.input.now) _ c.args.world.now.history c.requires.fresh)
+    ([], each_none _, ends_before (start_of c.args.world.now) (g.I.Source.words c.args.input.now).left _ c.args.world.now.history c.requires.fresh)

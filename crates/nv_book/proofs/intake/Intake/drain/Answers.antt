@@ -16,7 +16,7 @@ pub loop-preserved : goal.loop-preserved
 loop-preserved g c =
     let i = c.loop.invariant.drained in
     let s = c.in_ok-skip.ensures.skips in
-    let more = subst (λ (b : Bool). Skips s.0 (g.S.Source.left c.skip.new.source) (Ok b) c.loop.self c.skip.new.self) c.if-branch.true s.2 in
+    let more = subst (λ (b : Bool). Skips s.0 (g.S.Source.words c.skip.new.source).left (Ok b) c.loop.self c.skip.new.self) c.if-branch.true s.2 in
     record {
       drained = (i.0 ++ s.0, gave_then _ _ _ _ _ _ i.0 s.0 i.1 s.1, omega (arith, more.2, i.2, length-append i.0 s.0));
       later = omega (arith, c.in_ok-skip.ensures.later, c.loop.invariant.later);

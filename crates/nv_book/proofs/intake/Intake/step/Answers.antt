@@ -59,6 +59,6 @@ returns-in-Flaw-clause-steps g c =
       m.0,
       m.1,
       λ fed values h.
-          told_flaw fed m.0 (g.S.Source.left c.malformed.new.source) values c.start-place.result c.self.inside.stream c.next.new.self c.in-Flaw.field-0 (record { taken = c.self.inside.taken; stream = c.next.new.self }) c.malformed.result
+          told_flaw fed m.0 (g.S.Source.words c.malformed.new.source).left values c.start-place.result c.self.inside.stream c.next.new.self c.in-Flaw.field-0 (record { taken = c.self.inside.taken; stream = c.next.new.self }) c.malformed.result
           (as_inside fed values c.self.inside.taken c.self.inside.stream c.self.inside.stream c.args.self.now h c.self.view_is refl) a (c.start-place.ensures ∙ s) m.2,
     )

@@ -28,7 +28,7 @@ returns-in-Some-clause-takes g c =
       gave_then _ _ _ _ _ _ i.0 s.0 i.1 s.1,
       λ fed values h.
           given_for fed i.0 s.0 (values ++ content c.in-Some.value ∷ []) _ _
-          (subst (λ (o : Option Value). GivesOne ((fed ++ i.0) ++ s.0) (g.S.Source.left c.step.new.source) values (Ok o) c.step.new.self) c.in-Some.is (s.2 (fed ++ i.0) values (i.2 fed values h))),
+          (subst (λ (o : Option Value). GivesOne ((fed ++ i.0) ++ s.0) (g.S.Source.words c.step.new.source).left values (Ok o) c.step.new.self) c.in-Some.is (s.2 (fed ++ i.0) values (i.2 fed values h))),
     )
 
 pub loop-value-preserved : goal.loop-value-preserved
@@ -41,7 +41,7 @@ loop-value-preserved g c =
         gave_then _ _ _ _ _ _ i.0 s.0 i.1 s.1,
         λ fed values h.
             given_for fed i.0 s.0 values _ _
-            (subst (λ (o : Option Value). GivesOne ((fed ++ i.0) ++ s.0) (g.S.Source.left c.step.new.source) values (Ok o) c.step.new.self) c.in_default.is (s.2 (fed ++ i.0) values (i.2 fed values h))),
+            (subst (λ (o : Option Value). GivesOne ((fed ++ i.0) ++ s.0) (g.S.Source.words c.step.new.source).left values (Ok o) c.step.new.self) c.in_default.is (s.2 (fed ++ i.0) values (i.2 fed values h))),
       );
       later = omega (arith, c.in_ok-value.ensures.later, c.loop-value.invariant.later);
     }

@@ -6,9 +6,9 @@ use Rattle.nv_book.proofs.intake.Intake.value.Given as goal
 
 abbrev pub invariant-loop-value : goal.invariant-loop-value
 invariant-loop-value g l = record {
-  given : (bytes : List ℕ) × Gave (g.S.Source.taken l.initial.source) (g.S.Source.taken l.source) (g.S.Source.left l.initial.source) (g.S.Source.left l.source) bytes
+  given : (bytes : List ℕ) × Gave (g.S.Source.words l.initial.source).taken (g.S.Source.words l.source).taken (g.S.Source.words l.initial.source).left (g.S.Source.words l.source).left bytes
       × ((fed : List ℕ) (values : List Tree) → HasGiven fed values l.initial.self.taken l.initial.self.stream → HasGiven (fed ++ bytes) values l.self.taken l.self.stream);
-  later : g.S.Source.faults l.initial.source ≤ g.S.Source.faults l.source;
+  later : (g.S.Source.words l.initial.source).faults ≤ (g.S.Source.words l.source).faults;
 }
 
 abbrev pub decreases-loop-value : goal.decreases-loop-value

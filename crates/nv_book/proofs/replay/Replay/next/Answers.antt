@@ -24,7 +24,7 @@ returns-in_err-step-in-Some-clause-goes g c =
           rw (e.1, e.2)
           (unread_for _ fed r.0 n.0 _ _
           (n.2 (fed ++ r.0) records played
-          (subst (λ (o : Option Upcoming). ReadsNext (fed ++ r.0) (g.S.Source.left c.read.new.source) records played (Ok o) c.read.new.self) c.in-Some.is (r.2 fed records played i)))),
+          (subst (λ (o : Option Upcoming). ReadsNext (fed ++ r.0) (g.S.Source.words c.read.new.source).left records played (Ok o) c.read.new.self) c.in-Some.is (r.2 fed records played i)))),
     )
 
 pub returns-in_ok-step-in-Some-clause-goes : goal.returns-in_ok-step-in-Some-clause-goes
@@ -36,7 +36,7 @@ returns-in_ok-step-in-Some-clause-goes g c =
       λ fed records played i.
           one_for fed r.0 n.0 records played c.in_ok-step-in-Some.step _
           (n.2 (fed ++ r.0) records played
-          (subst (λ (o : Option Upcoming). ReadsNext (fed ++ r.0) (g.S.Source.left c.read.new.source) records played (Ok o) c.read.new.self) c.in-Some.is (r.2 fed records played i))),
+          (subst (λ (o : Option Upcoming). ReadsNext (fed ++ r.0) (g.S.Source.words c.read.new.source).left records played (Ok o) c.read.new.self) c.in-Some.is (r.2 fed records played i))),
     )
 
 pub returns-in-None-clause-goes : goal.returns-in-None-clause-goes
@@ -45,7 +45,7 @@ returns-in-None-clause-goes g c =
       r.0,
       r.1,
       λ fed records played i.
-          subst (λ (o : Option Upcoming). ReadsNext (fed ++ r.0) (g.S.Source.left c.read.new.source) records played (Ok o) c.read.new.self) c.in-None.is (r.2 fed records played i),
+          subst (λ (o : Option Upcoming). ReadsNext (fed ++ r.0) (g.S.Source.words c.read.new.source).left records played (Ok o) c.read.new.self) c.in-None.is (r.2 fed records played i),
     )
 
 pub returns-in_ok-step-in-Some-clause-grows : goal.returns-in_ok-step-in-Some-clause-grows

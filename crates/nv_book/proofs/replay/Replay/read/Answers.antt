@@ -49,7 +49,7 @@ returns-in_err-read_end-in-End-clause-goes g c =
           rw (e.1, e.2)
           (unread_for s.start.limits fed r.0 n.0 _ _
           (end_stopped s.start ((fed ++ r.0) ++ n.0) _ records played s.player.world s.player.painters.items p.t c.in-End.told c.in_err-read_end-in-End.field-0.0 k.fair k.played_are (subst (λ (q : Part). IsPart p.t q) c.in-End.is p.is)
-          (subst (λ (m : ℕ). StopsAtEnd ((fed ++ r.0) ++ n.0) (g.S.Source.left c.read_end.new.source) (front_values s.start.outbox records) p.t c.in-End.told m c.in_err-read_end-in-End.field-0.0) count ends))),
+          (subst (λ (m : ℕ). StopsAtEnd ((fed ++ r.0) ++ n.0) (g.S.Source.words c.read_end.new.source).left (front_values s.start.outbox records) p.t c.in-End.told m c.in_err-read_end-in-End.field-0.0) count ends))),
     )
 
 pub returns-in_ok-read_end-in-End-clause-goes : goal.returns-in_ok-read_end-in-End-clause-goes
@@ -66,7 +66,7 @@ returns-in_ok-read_end-in-End-clause-goes g c =
           let ends = n.2 (fed ++ r.0) (front_values s.start.outbox records) p.t p.given (place_there s.start fed r.0 records played c.place-place.result s.intake s.player s.recorded.items k c.place-place.ensures) in
           all_for fed r.0 n.0 _ records played _
           (finished ((fed ++ r.0) ++ n.0) _ records played p.t c.in-End.told _ k.fair k.played_are (subst (λ (q : Part). IsPart p.t q) c.in-End.is p.is)
-          (subst (λ (m : ℕ). HasEndValue ((fed ++ r.0) ++ n.0) (g.S.Source.left c.read_end.new.source) (front_values s.start.outbox records ++ p.t ∷ []) c.in-End.told m) count ends)),
+          (subst (λ (m : ℕ). HasEndValue ((fed ++ r.0) ++ n.0) (g.S.Source.words c.read_end.new.source).left (front_values s.start.outbox records ++ p.t ∷ []) c.in-End.told m) count ends)),
     )
 
 pub returns-in-Entry-clause-light : goal.returns-in-Entry-clause-light

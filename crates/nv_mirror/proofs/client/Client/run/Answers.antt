@@ -31,7 +31,7 @@ returns-in-Err-clause-follows g c =
     let second = standing_of c.loop-self.self in
     let last = standing_of c.turn.new.self in
     let fresh = on_fresh c.args.self.now.lister.buffer first c.requires.fresh.standing in
-    let left = g.I.Source.left c.turn.new.input in
+    let left = (g.I.Source.words c.turn.new.input).left in
     let pieces = i.0 ++ t.0 ∷ [] in (
       pieces,
       i.1 ++ t.1,
@@ -80,7 +80,7 @@ returns-clause-follows g c =
     let first = standing_of c.args.self.now in
     let last = standing_of c.loop-self.self in
     let fresh = on_fresh c.args.self.now.lister.buffer first c.requires.fresh.standing in
-    let left = g.I.Source.left c.loop-self.input in
+    let left = (g.I.Source.words c.loop-self.input).left in
     let over : IsReadToEnd left (concat i.0) = inr (omega (arith, i.5, c.taken.ensures)) in (
       i.0,
       i.1,

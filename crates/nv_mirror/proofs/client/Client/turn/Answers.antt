@@ -20,6 +20,6 @@ returns-clause-turns g c =
       s.0,
       t.1,
       s.1,
-      steps_turn (IsAtEnd (g.I.Source.left c.take_piece.new.input)) c.take_held.result t.0 s.0 (standing_of c.args.self.now) (standing_of c.take_piece.new.self) (standing_of c.take_held.new.self) t.2 s.2,
+      steps_turn (IsAtEnd (g.I.Source.words c.take_piece.new.input).left) c.take_held.result t.0 s.0 (standing_of c.args.self.now) (standing_of c.take_piece.new.self) (standing_of c.take_held.new.self) t.2 s.2,
       on_ok_weaker c.take_held.result (λ e. (t.3.0, t.3.1, e ∙ t.3.2)) c.take_held.ensures.same,
     )

@@ -6,6 +6,6 @@ use Rattle.nv_mirror.proofs.page.Page.put_lines.Given as goal
 
 abbrev pub invariant-loop-line : goal.invariant-loop-line
 invariant-loop-line g l = record {
-  going : IsGoing (l.initial.self ++ flat l.lines) (flat (drop l.line-index l.lines)) (g.O.Sink.taken l.initial.output) (g.O.Sink.taken l.output) l.self;
-  later : g.O.Sink.faults l.initial.output ≤ g.O.Sink.faults l.output;
+  going : IsGoing (l.initial.self ++ flat l.lines) (flat (drop l.line-index l.lines)) (g.O.Sink.words l.initial.output).taken (g.O.Sink.words l.output).taken l.self;
+  later : (g.O.Sink.words l.initial.output).faults ≤ (g.O.Sink.words l.output).faults;
 }

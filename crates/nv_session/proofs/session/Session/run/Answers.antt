@@ -15,7 +15,7 @@ use Rattle.nv_session.proofs.session.Session.run.Goals as goal
 
 pub returns-in_default-clause-ends : goal.returns-in_default-clause-ends
 returns-in_default-clause-ends g c =
-    ([], each_none _, ends_before (start_of c.args.world.now) (g.I.Source.left c.args.input.now) _ c.open.new.world.history c.in_default.ensures.err)
+    ([], each_none _, ends_before (start_of c.args.world.now) (g.I.Source.words c.args.input.now).left _ c.open.new.world.history c.in_default.ensures.err)
 
 pub returns-in_default-clause-has : goal.returns-in_default-clause-has
 returns-in_default-clause-has g c = inl c.in_default.ensures.err
@@ -33,7 +33,7 @@ returns-in-Some-clause-ends g c =
     let due = subst (λ (l : List Entry). HasNothingDue start l) (sym c.in-Ok.ensures.entries) (opened_rests start c.requires.capacity) in (
       [],
       each_none _,
-      ends_opened start c.in-Some.ended (g.I.Source.left c.args.input.now) _ h c.in-Ok.ensures.entries due
+      ends_opened start c.in-Some.ended (g.I.Source.words c.args.input.now).left _ h c.in-Ok.ensures.entries due
           (subst (λ (d : Start). IsEndedBy (Some c.in-Some.ended) (cause_after d h)) c.in-Ok.ensures.begins c.in-Some.ensures),
     )
 
@@ -49,7 +49,7 @@ serve_all-ended-requires-clause-new g c =
     let start = start_of c.args.world.now in
     let due = subst (λ (d : Start). HasNothingDue d (entries_in w)) (sym c.in-Ok.ensures.begins)
     (subst (λ (l : List Entry). HasNothingDue start l) (sym c.in-Ok.ensures.entries) (opened_rests start c.requires.capacity)) in
-    (begun (state_of c.args.self.now w) c.requires.unused.stream (alone_if (start_of w) (entries_in w) due c.in-None.ensures) c.in-Ok.ensures.entries c.requires.unused.none c.requires.unused.untold).0
+    (begun (state_of c.args.self.now w) c.requires.unused.fresh (alone_if (start_of w) (entries_in w) due c.in-None.ensures) c.in-Ok.ensures.entries c.requires.unused.untold).0
 
 pub serve_all-ended-requires-clause-ready : goal.serve_all-ended-requires-clause-ready
 serve_all-ended-requires-clause-ready g c =
@@ -57,7 +57,7 @@ serve_all-ended-requires-clause-ready g c =
     let start = start_of c.args.world.now in
     let due = subst (λ (d : Start). HasNothingDue d (entries_in w)) (sym c.in-Ok.ensures.begins)
     (subst (λ (l : List Entry). HasNothingDue start l) (sym c.in-Ok.ensures.entries) (opened_rests start c.requires.capacity)) in
-    (begun (state_of c.args.self.now w) c.requires.unused.stream (alone_if (start_of w) (entries_in w) due c.in-None.ensures) c.in-Ok.ensures.entries c.requires.unused.none c.requires.unused.untold).1
+    (begun (state_of c.args.self.now w) c.requires.unused.fresh (alone_if (start_of w) (entries_in w) due c.in-None.ensures) c.in-Ok.ensures.entries c.requires.unused.untold).1
 
 pub returns-in-None-clause-ends : goal.returns-in-None-clause-ends
 returns-in-None-clause-ends g c =
@@ -69,8 +69,8 @@ returns-in-None-clause-ends g c =
     let begins = c.serve_all-ended.ensures.begins ∙ c.in-Ok.ensures.begins in (
       l.0,
       l.1,
-      left_ends start ended c.close_for.result l.0 (g.I.Source.left c.serve_all-ended.new.input) h k k _ _
-          (subst (λ (d : Start). LeavesWith d ended l.0 (g.I.Source.left c.serve_all-ended.new.input) h (g.S.Sink.taken c.args.output.now) (g.S.Sink.taken c.serve_all-ended.new.output)) c.in-Ok.ensures.begins l.2)
+      left_ends start ended c.close_for.result l.0 (g.I.Source.words c.serve_all-ended.new.input).left h k k _ _
+          (subst (λ (d : Start). LeavesWith d ended l.0 (g.I.Source.words c.serve_all-ended.new.input).left h (g.S.Sink.words c.args.output.now).taken (g.S.Sink.words c.serve_all-ended.new.output).taken) c.in-Ok.ensures.begins l.2)
           (subst (λ (d : Start). IsClosedSo d (leaves_open ended) ended c.close_for.result h k) begins c.close_for.ensures.closed)
           refl,
     )

@@ -1,15 +1,16 @@
-use Rattle.std.proofs.Common.{rules, ◌≡◌, ℕ, [], ◌∷◌, ◌++◌, length, refl, ap, inl, inr, sym, ◌∙◌, subst, arith}
+use Rattle.std.proofs.Common.{[], ◌∷◌, ◌++◌, refl, ap, inl, inr, sym, ◌∙◌, subst, arith}
 use Rattle.std.specs.List.{concat}
 use Rattle.std.specs.Io.KnownBytes.{IsAtEnd}
 use Rattle.nv_io.proofs.StreamLemmas.{each_none, each_then}
-use Rattle.nv_stream.specs.State.{stream_end}
 use Rattle.nv_world.specs.declared.story.Start.{Start}
-use Rattle.nv_halves.specs.Reading.{WasRead}
+use Rattle.nv_calls.specs.Reading.{WasRead}
 use Rattle.nv_session.specs.inside.Alone.{IsAlone}
 use Rattle.nv_session.specs.inside.Serving.{state_of}
 use Rattle.nv_session.specs.inside.Worlds.{entries_in}
-use Rattle.nv_session.proofs.Serving.{served_piece, served_length, held_more, leaves_turn, leaves_full, not_read_fault, not_write_fault}
-use Rattle.nv_session.proofs.Steps.{served_new, ends_there, ends_all, alone_has}
+use Rattle.nv_calls.specs.Intakes.{IntakeState}
+use Rattle.nv_calls.proofs.Giving.{ends_there}
+use Rattle.nv_session.proofs.Serving.{served_piece, served_length, served_more, leaves_turn, leaves_full, not_read_fault, not_write_fault}
+use Rattle.nv_session.proofs.Steps.{served_new, alone_has}
 use Rattle.nv_session.proofs.Leaving.{ends_has}
 use Rattle.nv_session.specs.Sending.{HasSession}
 use Rattle.nv_session.proofs.session.Session.serve_all.Goals as goal
@@ -21,10 +22,8 @@ loop-self-init g c =
       served = ([], each_none _, served_new (state_of c.args.self.now c.args.world.now) _ n);
       ready = c.requires.ready;
       begins = refl;
-      waits = inl n.nothing;
-      fits = omega (arith, n.place, ap (length {A = ℕ}) n.nothing);
+      waits = inl (ap (λ (x : IntakeState). x.held) n.fresh);
       nothing_waits = c.requires.nothing_waits;
-      sized = c.requires.room;
       read_later = omega arith;
       write_later = omega arith;
     }
@@ -36,10 +35,10 @@ returns-in-Err-clause-leaves g c =
     let first = state_of c.args.self.now c.args.world.now in
     let second = state_of c.loop-self.self c.loop-self.world in
     let last = state_of c.turn.new.self c.turn.new.world in
-    let there = ends_there second i.ready i.waits in (
+    let there = ends_there second.intake i.waits in (
       i.served.0 ++ t.0 ∷ [],
       each_then _ _ _ i.served.0 (t.0 ∷ []) i.served.1 t.1,
-      leaves_turn c.in-Err.ended i.served.0 t.0 (g.I.Source.left c.turn.new.input) first second last _ _ _ there.0 c.requires.new i.served.2 there.1 there.2 t.2,
+      leaves_turn c.in-Err.ended i.served.0 t.0 (g.I.Source.words c.turn.new.input).left first second last _ _ _ there.0 c.requires.new i.served.2 there.1 there.2 t.2,
     )
 
 pub returns-in-Err-clause-has : goal.returns-in-Err-clause-has
@@ -47,13 +46,13 @@ returns-in-Err-clause-has g c =
     let second = state_of c.loop-self.self c.loop-self.world in
     let last = state_of c.turn.new.self c.turn.new.world in
     subst (λ (d : Start). HasSession d (entries_in c.turn.new.world)) c.loop-self.invariant.begins
-    (ends_has (IsAtEnd (g.I.Source.left c.turn.new.input)) c.in-Err.ended _ second last _ _ c.in-Err.ensures.turns.2)
+    (ends_has (IsAtEnd (g.I.Source.words c.turn.new.input).left) c.in-Err.ended _ second last _ _ c.in-Err.ensures.turns.2)
 
 pub loop-self-smaller : goal.loop-self-smaller
 loop-self-smaller g c =
     let t = c.in_default.ensures.turns in
-    let more = held_more t.0 (state_of c.loop-self.self c.loop-self.world) (state_of c.turn.new.self c.turn.new.world) _ _ t.2.0 in
-    omega (arith, more, t.2.3, c.taken.ensures)
+    let more = served_more t.0 (state_of c.loop-self.self c.loop-self.world) (state_of c.turn.new.self c.turn.new.world) _ _ t.2.0 in
+    omega (arith, more, t.2.3, rw c.loop-self-test.true at c.is_open.ensures.open)
 
 pub loop-self-preserved : goal.loop-self-preserved
 loop-self-preserved g c =
@@ -62,8 +61,6 @@ loop-self-preserved g c =
     let first = state_of c.args.self.now c.args.world.now in
     let second = state_of c.loop-self.self c.loop-self.world in
     let third = state_of c.turn.new.self c.turn.new.world in
-    let more = held_more t.0 second third _ _ t.2.0 in
-    let sized : length c.turn.new.buffer ≡ 65536 = search (rules, i.sized) in
     record {
       served = (
         i.served.0 ++ t.0 ∷ [],
@@ -73,9 +70,7 @@ loop-self-preserved g c =
       ready = t.2.1;
       begins = c.in_default.ensures.begins ∙ i.begins;
       waits = t.2.2;
-      fits = omega (arith, more, t.2.4, c.taken.ensures);
       nothing_waits = c.in_default.ensures.nothing_waits;
-      sized = sized;
       read_later = omega (arith, c.in_default.ensures.read_later);
       write_later = omega (arith, c.in_default.ensures.write_later);
     }
@@ -86,12 +81,12 @@ returns-clause-leaves g c =
     let first = state_of c.args.self.now c.args.world.now in
     let second = state_of c.loop-self.self c.loop-self.world in
     let all = served_length (concat i.served.0) first second _ _ c.requires.new i.served.2 in
-    let read : WasRead (g.I.Source.left c.loop-self.input) (concat i.served.0) = inr (omega (arith, all, c.taken.ensures)) in
-    let e = ends_all second i.ready i.waits in
+    let read : WasRead (g.I.Source.words c.loop-self.input).left (concat i.served.0) = inr (omega (arith, all, rw c.loop-self-test.false at c.is_open.ensures.full)) in
+    let e = c.end.ensures in
     let alone = subst (λ (d : Start). IsAlone d (entries_in c.loop-self.world)) i.begins i.ready.alone in (
       i.served.0,
       i.served.1,
-      leaves_full c.end.result (stream_end c.loop-self.self.stream) i.served.0 (g.I.Source.left c.loop-self.input) first second _ _ c.end.ensures c.requires.new i.served.2 e.0 e.1 alone read,
+      leaves_full c.end.result e.0 i.served.0 (g.I.Source.words c.loop-self.input).left first second _ _ e.1 c.requires.new i.served.2 e.2 e.3 alone read,
     )
 
 pub returns-clause-has : goal.returns-clause-has
@@ -100,7 +95,7 @@ returns-clause-has g c =
     subst (λ (d : Start). HasSession d (entries_in c.loop-self.world)) i.begins (alone_has _ (entries_in c.loop-self.world) i.ready.alone)
 
 pub returns-clause-read : goal.returns-clause-read
-returns-clause-read g c = λ e. absurd (not_read_fault (stream_end c.loop-self.self.stream) (sym c.end.ensures ∙ e))
+returns-clause-read g c = λ e. absurd (not_read_fault c.end.ensures.0 (sym c.end.ensures.1 ∙ e))
 
 pub returns-clause-write : goal.returns-clause-write
-returns-clause-write g c = λ e. absurd (not_write_fault (stream_end c.loop-self.self.stream) (sym c.end.ensures ∙ e))
+returns-clause-write g c = λ e. absurd (not_write_fault c.end.ensures.0 (sym c.end.ensures.1 ∙ e))

@@ -1,42 +1,44 @@
-use Rattle.std.proofs.Common.{refl, ◌∙◌, arith}
-use Rattle.std.proofs.lemmas.Result.{err_from_is_err_and}
-use Rattle.nv_session.specs.inside.Serving.{state_of}
-use Rattle.nv_session.proofs.Serving.{served_none, served_on, ends_on, held_same}
+use Rattle.std.proofs.Common.{List, ℕ, ◌∙◌, ap, sym, subst, take}
+use Rattle.std.specs.Io.KnownBytes.{append_known}
+use Rattle.nv_io.specs.declared.lanes.Ended.{Ended}
+use Rattle.nv_session.specs.inside.Serving.{EndsIn, bytes_waiting, state_of}
+use Rattle.nv_speech.proofs.Flowing.{rose_after}
+use Rattle.nv_session.proofs.Gathering.{serves_all, serves_short, ends_short_of, rose_before}
 use Rattle.nv_session.proofs.session.Session.serve_held.Goals as goal
 
-pub loop-init : goal.loop-init
-loop-init g c = record {
-  served = served_none (state_of c.args.self.now c.args.world.now) (g.S.Sink.taken c.args.output.now);
-  ready = c.requires.ready;
-  begins = refl;
-  fits = c.requires.fits;
-  nothing_waits = c.requires.nothing_waits;
-  later = omega arith;
-}
+pub returns-then-put_all-clause-serves : goal.returns-then-put_all-clause-serves
+returns-then-put_all-clause-serves g c =
+    let a = c.answer_held-answered.ensures.serves in
+    let u = (g.S.Sink.words c.answer_held-answered.new.output).taken in
+    serves_all c.answer_held-answered.result (state_of c.args.self.now c.args.world.now) (state_of c.answer_held-answered.new.self c.answer_held-answered.new.world) a.0 (bytes_waiting c.answer_held-answered.new.self) _ u _ c.requires.ready
+    (c.if-put_all.ensures.all ∙ ap (λ (l : List ℕ). append_known u l) c.deref.ensures.value) a.2 a.1
 
-pub loop-preserved : goal.loop-preserved
-loop-preserved g c =
-    let s = rw c.if-branch.true at c.in_ok-serve_some.ensures.steps in
-    record {
-      served = served_on _ (state_of c.args.self.now c.args.world.now) (state_of c.loop.self c.loop.world) (state_of c.serve_some.new.self c.serve_some.new.world) _ _ _ c.loop.invariant.served s.0;
-      ready = s.1;
-      begins = c.in_ok-serve_some.ensures.begins ∙ c.loop.invariant.begins;
-      fits = omega (arith, held_same (state_of c.loop.self c.loop.world) (state_of c.serve_some.new.self c.serve_some.new.world) _ _ s.0);
-      nothing_waits = c.in_ok-serve_some.ensures.nothing_waits;
-      later = omega (arith, c.in_ok-serve_some.ensures.later);
-    }
+pub returns-in-Ok-clause-serves : goal.returns-in-Ok-clause-serves
+returns-in-Ok-clause-serves g c =
+    let first = state_of c.args.self.now c.args.world.now in
+    let last = state_of c.answer_held-answered.new.self c.answer_held-answered.new.world in
+    let a = rw c.in-Ok.is at c.answer_held-answered.ensures.serves in
+    let u = (g.S.Sink.words c.answer_held-answered.new.output).taken in
+    let front = c.if-put_all.ensures.prefix in
+    serves_short c.in-Ok.field-0 first last a.0 (bytes_waiting c.answer_held-answered.new.self) front.0 _ u _ c.requires.ready
+    (front.2 ∙ ap (λ (l : List ℕ). append_known u (take front.0 l)) c.deref.ensures.value) a.2 a.1
 
-pub loop-smaller : goal.loop-smaller
-loop-smaller g c =
-    let s = rw c.if-branch.true at c.in_ok-serve_some.ensures.steps in
-    s.2
+pub returns-in-Err-clause-serves : goal.returns-in-Err-clause-serves
+returns-in-Err-clause-serves g c =
+    let first = state_of c.args.self.now c.args.world.now in
+    let last = state_of c.answer_held-answered.new.self c.answer_held-answered.new.world in
+    let a = rw c.in-Err.is at c.answer_held-answered.ensures.serves in
+    let u = (g.S.Sink.words c.answer_held-answered.new.output).taken in
+    let front = c.if-put_all.ensures.prefix in
+    subst (λ (x : Ended). EndsIn ⊥ x c.args.self.now.intake.held first last (g.S.Sink.words c.args.output.now).taken (g.S.Sink.words c.put_all.new.sink).taken) (sym c.end_by_fault.ensures)
+    (ends_short_of c.in-Err.ended first last a.0 (bytes_waiting c.answer_held-answered.new.self) front.0 _ u _ c.requires.ready
+    (front.2 ∙ ap (λ (l : List ℕ). append_known u (take front.0 l)) c.deref.ensures.value) a.2 a.1)
 
-pub returns-in_err-serve_some-clause-serves : goal.returns-in_err-serve_some-clause-serves
-returns-in_err-serve_some-clause-serves g c =
-    let p = err_from_is_err_and c.from_residual.result c.from_residual.ensures.1 in
-    rw (p.1, p.2) (ends_on _ c.in_err-serve_some.field-0.0 _ (state_of c.args.self.now c.args.world.now) (state_of c.loop.self c.loop.world) (state_of c.serve_some.new.self c.serve_some.new.world) _ _ _ c.loop.invariant.served c.in_err-serve_some.ensures.steps)
+pub returns-then-put_all-clause-fault : goal.returns-then-put_all-clause-fault
+returns-then-put_all-clause-fault g c = λ e. rose_before _ _ _ (c.answer_held-answered.ensures.fault e) c.if-put_all.ensures.later
 
-pub returns-clause-serves : goal.returns-clause-serves
-returns-clause-serves g c =
-    let s = rw c.if-branch.false at c.in_ok-serve_some.ensures.steps in
-    (served_on _ (state_of c.args.self.now c.args.world.now) (state_of c.loop.self c.loop.world) (state_of c.serve_some.new.self c.serve_some.new.world) _ _ _ c.loop.invariant.served s.0, s.1, s.2)
+pub returns-in-Ok-clause-fault : goal.returns-in-Ok-clause-fault
+returns-in-Ok-clause-fault g c = λ e. rose_after _ _ _ c.answer_held-answered.ensures.later c.if-put_all.ensures.failed
+
+pub returns-in-Err-clause-fault : goal.returns-in-Err-clause-fault
+returns-in-Err-clause-fault g c = λ e. rose_after _ _ _ c.answer_held-answered.ensures.later c.if-put_all.ensures.failed

@@ -7,4 +7,4 @@ returns-clause-turns g c =
     let t = c.in_ok-take_piece.ensures.takes in
     let w = c.args.world.now in
     let p = t.2 w c.requires.ready in
-    (t.0, t.1, turned _ c.serve_held.result t.0 (state_of c.args.self.now w) (state_of c.take_piece.new.self w) (state_of c.serve_held.new.self c.serve_held.new.world) _ _ p.0 p.1 p.2 p.3 p.4 p.5 c.serve_held.ensures.serves)
+    (t.0, t.1, turned _ c.serve_held.result t.0 (state_of c.args.self.now w) (state_of c.take_piece.new.self w) (state_of c.serve_held.new.self c.serve_held.new.world) _ _ p.0 p.1 p.2 p.3 c.serve_held.ensures.serves)

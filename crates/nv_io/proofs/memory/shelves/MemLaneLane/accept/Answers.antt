@@ -5,17 +5,17 @@ use Rattle.nv_io.proofs.memory.shelves.MemLaneLane.accept.Goals as goal
 
 pub invariant_of-self-2 : goal.invariant_of-self-2
 invariant_of-self-2 g c =
-    rest_holds (λ d. IsUnread (g.I.Source.taken d.0) (g.I.Source.reads d.0) (g.I.Source.faults d.0) × IsUnused (g.S.Sink.taken d.1) (g.S.Sink.faults d.1))
+    rest_holds (λ d. IsUnread (g.I.Source.words d.0).taken (g.I.Source.words d.0).reads (g.I.Source.words d.0).faults × IsUnused (g.S.Sink.words d.1).taken (g.S.Sink.words d.1).faults)
     c.give.result c.give.new.self.coming c.self.inside.shelf.coming c.give.ensures.coming c.self.invariant
 
 pub returns-clause-fresh : goal.returns-clause-fresh
 returns-clause-fresh g c =
-    let h = subst (λ o. IfSome o (λ d. IsUnread (g.I.Source.taken d.0) (g.I.Source.reads d.0) (g.I.Source.faults d.0) × IsUnused (g.S.Sink.taken d.1) (g.S.Sink.faults d.1))) c.in-Some.is
-    (given_holds (λ d. IsUnread (g.I.Source.taken d.0) (g.I.Source.reads d.0) (g.I.Source.faults d.0) × IsUnused (g.S.Sink.taken d.1) (g.S.Sink.faults d.1))
+    let h = subst (λ o. IfSome o (λ d. IsUnread (g.I.Source.words d.0).taken (g.I.Source.words d.0).reads (g.I.Source.words d.0).faults × IsUnused (g.S.Sink.words d.1).taken (g.S.Sink.words d.1).faults)) c.in-Some.is
+    (given_holds (λ d. IsUnread (g.I.Source.words d.0).taken (g.I.Source.words d.0).reads (g.I.Source.words d.0).faults × IsUnused (g.S.Sink.words d.1).taken (g.S.Sink.words d.1).faults)
     c.give.result c.give.new.self.coming c.self.inside.shelf.coming c.give.ensures.coming c.self.invariant) in (h.0.0, h.1)
 
 pub returns-clause-unread : goal.returns-clause-unread
 returns-clause-unread g c =
-    (subst (λ o. IfSome o (λ d. IsUnread (g.I.Source.taken d.0) (g.I.Source.reads d.0) (g.I.Source.faults d.0) × IsUnused (g.S.Sink.taken d.1) (g.S.Sink.faults d.1))) c.in-Some.is
-    (given_holds (λ d. IsUnread (g.I.Source.taken d.0) (g.I.Source.reads d.0) (g.I.Source.faults d.0) × IsUnused (g.S.Sink.taken d.1) (g.S.Sink.faults d.1))
+    (subst (λ o. IfSome o (λ d. IsUnread (g.I.Source.words d.0).taken (g.I.Source.words d.0).reads (g.I.Source.words d.0).faults × IsUnused (g.S.Sink.words d.1).taken (g.S.Sink.words d.1).faults)) c.in-Some.is
+    (given_holds (λ d. IsUnread (g.I.Source.words d.0).taken (g.I.Source.words d.0).reads (g.I.Source.words d.0).faults × IsUnused (g.S.Sink.words d.1).taken (g.S.Sink.words d.1).faults)
     c.give.result c.give.new.self.coming c.self.inside.shelf.coming c.give.ensures.coming c.self.invariant)).0.1

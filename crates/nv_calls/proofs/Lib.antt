@@ -1,0 +1,4 @@
+pub mod AtOnce
+pub mod CallBounds
+pub mod Giving
+pub mod ReadsOnce

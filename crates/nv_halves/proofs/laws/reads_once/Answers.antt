@@ -1,5 +1,0 @@
-use Rattle.nv_halves.proofs.ReadsOnce.{reads_once}
-use Rattle.nv_halves.proofs.laws.reads_once.Goals as goal
-
-pub returns : goal.returns
-returns c = reads_once
