@@ -1,0 +1,5 @@
+pub mod Behind
+pub mod Halves
+pub mod OnePiece
+pub mod Places
+pub mod Spelling

@@ -1,0 +1,15 @@
+pub mod Bounds
+pub mod Followed
+pub mod Followers
+pub mod ModestCalls
+pub mod ModestRows
+pub mod OneRequest
+pub mod Quiet
+pub mod Refusals
+pub mod Replies
+pub mod Room
+pub mod Sending
+pub mod Story
+pub mod Tellable
+pub mod Texts
+pub mod Unshown

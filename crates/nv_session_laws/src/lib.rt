@@ -1,0 +1,6 @@
+//! Laws of what a session answers.
+#![tactic(auto)]
+
+mod laws;
+
+pub use laws::whole_inputs;
