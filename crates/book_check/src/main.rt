@@ -2,9 +2,9 @@
 //! --check` does.
 #![tactic(auto)]
 
+use nv_core::History;
 use nv_io::{DiskFiles, SockDial, SockPort, StdErr, StdIn, StdOut};
 use nv_run::{all_watchers, run};
-use nv_world::History;
 use std::alloc::{AllocError, Global};
 use std::env;
 use std::process::ExitCode;

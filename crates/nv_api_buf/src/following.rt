@@ -9,20 +9,21 @@ ghost use Rattle.nv_api_buf.specs.BufferRows.{nvim_buf_attach, nvim_buf_detach};
 
 use crate::finding::found_given;
 use nv_args::{Args, Fail, map_fault};
-use nv_buffer::{Buffer, LineList};
+use nv_buffer::Buffer;
 use nv_editor::{Editor, Fact, Happened};
+use nv_lines::Excerpt;
 use nv_value::Value;
 use std::alloc::AllocError;
 
-// The lines of a buffer, where they are wanted.
-fn whole_of(buffer: &Buffer, wanted: bool) -> Result<Option<LineList>, AllocError>
+// The lines of a buffer, where they are wanted. They share the tables of its text.
+fn whole_of(buffer: &Buffer, wanted: bool) -> Result<Option<Excerpt>, AllocError>
     ensures { IfOk result (λ whole. whole
         ≡ (if wanted then Some (seen_buffer_now buffer.now).lines else None)) }
 {
     if !wanted {
         return Ok(None);
     }
-    let lines = buffer.text().share_rows(0, buffer.text().count())?;
+    let lines = buffer.text().excerpt(0, buffer.text().count())?;
     Ok(Some(lines))
 }
 

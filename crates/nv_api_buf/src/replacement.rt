@@ -22,7 +22,8 @@ use nv_model::Limits;
 use nv_value::Value;
 use std::alloc::{AllocError, Global};
 
-// The strings as lines, or nothing where one of them holds a line feed.
+// The strings as lines, or nothing where one of them holds a line feed. Whoever shares them, as
+// what is told of an edit and what undo keeps do, shares their table.
 fn lines_from(alloc: Global, strings: &[Value]) -> Result<Option<LineList>, AllocError>
     ensures some { IfOk result (λ found. IfSome found
         (λ lines. (lines ≡ texts_of (map content strings.now))
@@ -38,7 +39,8 @@ fn lines_from(alloc: Global, strings: &[Value]) -> Result<Option<LineList>, Allo
         }
         lines.push(Line::from_bytes(string))?;
     }
-    Ok(Some(LineList::from_vec(lines)))
+    let lines = LineList::from_vec(lines).in_common()?;
+    Ok(Some(lines))
 }
 
 // The string of a value as a line.

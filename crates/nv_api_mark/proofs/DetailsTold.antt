@@ -1,16 +1,24 @@
 -- What is told of a mark can be spelled.
-use Rattle.std.proofs.Common.{ℕ, ◌<◌, ◌^◌, Bool, true, false, not, cond, List, [], ◌∷◌, ◌++◌, length, arith, Option, Some, None}
-use Rattle.std.specs.Prelude.{codes}
-use Rattle.nv_value.specs.Content.{Tree, truth}
-use Rattle.nv_msgpack.specs.Shortest.{HasSpelling}
+use Rattle.std.proofs.Common.{◌≡◌, ℕ, ◌<◌, ◌≤◌, ◌^◌, All, map, refl, Bool, true, false, not, cond, List, [], ◌∷◌, ◌++◌, length, arith, Option, Some, None}
+use Rattle.std.specs.Prelude.{codes, IfSome}
+use Rattle.std.specs.Option.{option_map_or}
+use Rattle.std.proofs.lemmas.List.{length-map}
+use Rattle.std.proofs.lemmas.List.Elements.{All-head, All-tail}
+use Rattle.nv_value.specs.Content.{Tree, count, trees_of, truth}
+use Rattle.nv_msgpack.specs.Shortest.{HasSpelling, HaveSpellings}
 use Rattle.nv_marks.specs.declared.extmark.Far.{Far}
 use Rattle.nv_marks.specs.declared.extmark.Mark.{Mark}
 use Rattle.nv_marks.specs.declared.extmark.Paint.{Paint}
-use Rattle.nv_hl.specs.Groups.{NamedGroup}
+use Rattle.nv_hl.specs.Groups.{NamedGroup, name_at}
 use Rattle.nv_model.specs.Answering.{key_value, natural}
-use Rattle.nv_api_mark.specs.MarkRows.{details_of, end_details, paint_details, undo_details}
-use Rattle.nv_api_mark.specs.inside.Marking.{IsGroupTold}
+use Rattle.nv_notes.specs.Notes.{NoteText}
+use Rattle.nv_notes.specs.declared.note.At.{At}
+use Rattle.nv_notes.specs.declared.note.At.TheVariants.{Eol, Overlay, RightAlign}
+use Rattle.nv_notes.specs.declared.note.Chunk.{Chunk}
+use Rattle.nv_api_mark.specs.MarkRows.{chunk_told, details_of, end_details, note_details, paint_details, place_word, undo_details}
+use Rattle.nv_api_mark.specs.inside.Marking.{IsChunkTold, IsGroupTold, IsNoteTold}
 use Rattle.nv_api_mark.proofs.AttrsTold.{Spells, behind}
+use Rattle.nv_args.proofs.Spelled.{count-trees, list-spelled}
 use Rattle.nv_api_mark.proofs.Spelled.{count-turns}
 
 abbrev first_details : Mark → List (Tree × Tree)
@@ -38,9 +46,51 @@ undo_spelled m =
     (behind 1 1 _ _ (one_spelled (codes "undo_restore") (not m.restore) false (omega arith)) (one_spelled (codes "invalidate") m.invalidate true (omega arith)))
     (one_spelled (codes "invalid") m.hidden true (omega arith))
 
-pub details_spelled : (groups : List NamedGroup) (m : Mark) → IsGroupTold groups m.paint → HasSpelling (details_of groups m)
-details_spelled groups m short =
-    let entries : List (Tree × Tree) = first_details m ++ (end_details m.stop ++ (paint_details groups m.paint ++ undo_details m)) in
-    let all : Spells 11 entries =
-    behind 3 8 _ _ (first_spelled m) (behind 3 5 _ _ (end_spelled m.stop) (behind 2 3 _ _ (paint_spelled groups m.paint short) (undo_spelled m))) in
+-- a part of a virtual text, and its parts
+group_spelled : (groups : List NamedGroup) (group : Option ℕ) → IfSome group (λ id. length (name_at groups id) < 2 ^ 32)
+    → HaveSpellings (trees_of (option_map_or (λ id. Tree.text (name_at groups id) ∷ []) group []))
+group_spelled groups None short = tt
+group_spelled groups (Some id) short = (short, tt)
+
+count_group : (groups : List NamedGroup) (group : Option ℕ) → length (option_map_or (λ id. Tree.text (name_at groups id) ∷ []) group []) ≤ 1
+count_group groups None = omega arith
+count_group groups (Some id) = omega arith
+
+pub chunk_spelled : (groups : List NamedGroup) (c : Chunk) → IsChunkTold groups c → HasSpelling (chunk_told groups c)
+chunk_spelled groups c short =
+    let behind_text = option_map_or (λ id. Tree.text (name_at groups id) ∷ []) c.group [] in
+    (omega (arith, count-trees (Tree.text c.text ∷ behind_text), count_group groups c.group), (short.0, group_spelled groups c.group short.1))
+
+chunks_spelled : (groups : List NamedGroup) (cs : List Chunk) → All (IsChunkTold groups) cs → HaveSpellings (trees_of (map (chunk_told groups) cs))
+chunks_spelled groups [] short = tt
+chunks_spelled groups (c ∷ cs) short =
+    (chunk_spelled groups c (All-head (IsChunkTold groups) c cs short), chunks_spelled groups cs (All-tail (IsChunkTold groups) c cs short))
+
+word_short : (at : At) → length (place_word at) < 2 ^ 32
+word_short Eol = omega arith
+word_short Overlay = omega arith
+word_short RightAlign = omega arith
+
+note_spelled : (groups : List NamedGroup) (note : Option NoteText) → IsNoteTold groups note → Spells 2 (note_details groups note)
+note_spelled groups None short = record { few = omega arith; each = tt }
+note_spelled groups (Some note) short = record {
+  few = omega arith;
+  each = (
+    omega arith,
+    (
+      list-spelled (chunk_told groups) (map (chunk_told groups) note.chunks) note.chunks refl short.0 (chunks_spelled groups note.chunks short.1),
+      (omega arith, (word_short note.at, tt)),
+    ),
+  );
+}
+
+pub details_spelled : (groups : List NamedGroup) (note : Option NoteText) (m : Mark) → IsGroupTold groups m.paint → IsNoteTold groups note
+    → HasSpelling (details_of groups note m)
+details_spelled groups note m short texts =
+    let entries : List (Tree × Tree) =
+    first_details m ++ (end_details m.stop ++ (paint_details groups m.paint ++ (undo_details m ++ note_details groups note))) in
+    let all : Spells 13 entries =
+    behind 3 10 _ _ (first_spelled m)
+    (behind 3 7 _ _ (end_spelled m.stop)
+    (behind 2 5 _ _ (paint_spelled groups m.paint short) (behind 3 2 _ _ (undo_spelled m) (note_spelled groups note texts)))) in
     (omega (arith, count-turns entries, all.few), all.each)

@@ -3,6 +3,8 @@ pub mod DetailsTold
 pub mod Drafts
 pub mod GroupsNamed
 pub mod MarkLookups
+pub mod Noted
+pub mod Parts
 pub mod Picked
 pub mod Plain
 pub mod Putting
@@ -10,3 +12,4 @@ pub mod Removed
 pub mod RowsMake
 pub mod Spelled
 pub mod Steps
+pub mod Wanted

@@ -8,14 +8,16 @@ use Rattle.nv_hl.specs.Groups.{NamedGroup, known_id}
 use Rattle.nv_hl.specs.declared.linking.Group.{Group}
 use Rattle.nv_marks.specs.declared.extmark.Mark.{Mark}
 use Rattle.nv_model.specs.Stage.{Stage}
-use Rattle.nv_model.specs.Operations.{namespace_made, group_made, group_put, mark_set, mark_removed}
+use Rattle.nv_model.specs.Operations.{namespace_made, group_made, group_put, mark_set, mark_removed, note_put}
 use Rattle.nv_model.specs.Answers.{replied}
 use Rattle.nv_model.specs.Answering.{removal_operations}
 use Rattle.nv_model.specs.Kinds.{Effects, makes_groups, IsKindAmong, AreMade, MakesOnly, HasEffects}
 use Rattle.nv_model.proofs.Making.{making_words, makes_one, makes_done, makes_either, made-append, makes_no_splice, silent_tells}
 use Rattle.nv_api_mark.specs.Namespaces.{namespace_answer}
-use Rattle.nv_api_mark.specs.Groups.{group_operations, groups_with}
-use Rattle.nv_api_mark.specs.MarkRows.{wanted_group_operations, removal_answer}
+use Rattle.nv_notes.specs.Notes.{NoteText}
+use Rattle.nv_api_mark.specs.Groups.{group_operations, groups_of_names, groups_with, names_operations}
+use Rattle.nv_api_mark.specs.Setting.{group_names, has_text, note_with}
+use Rattle.nv_api_mark.specs.MarkRows.{note_operations, removal_answer, setting_operations}
 use Rattle.nv_api_mark.specs.GroupRows.{link_operations, groups_operations as all_made}
 use Rattle.nv_api_mark.specs.Rows.{mark_row, mark_effects}
 use Rattle.nv_api_mark.specs.Laws.{MarkRowsHaveEffects, MarkRowsTell}
@@ -38,9 +40,11 @@ module _ (e : Effects) (may : IsKindAmong makes_groups e.makes) where
   pub made_in_group : (groups : List NamedGroup) (name : List ℕ) → AreMade e (group_operations groups name)
   made_in_group groups name = made_if_new (is_some (known_id groups name)) name
 
-  pub made_in_wanted : (groups : List NamedGroup) (name : Option (List ℕ)) → AreMade e (wanted_group_operations groups name)
-  made_in_wanted groups None = tt
-  made_in_wanted groups (Some name) = made_in_group groups name
+  pub made_in_names : (groups : List NamedGroup) (names : List (List ℕ)) → AreMade e (names_operations groups names)
+  made_in_names groups [] = tt
+  made_in_names groups (name ∷ names) =
+      made-append e (group_operations groups name) (names_operations (groups_with groups name) names) (made_in_group groups name)
+      (made_in_names (groups_with groups name) names)
 
   made_in_link : (groups : List NamedGroup) (link : Option (List ℕ)) → AreMade e (link_operations groups link)
   made_in_link groups None = tt
@@ -50,12 +54,19 @@ module _ (e : Effects) (may : IsKindAmong makes_groups e.makes) where
   made_in_all groups name link =
       made-append e (group_operations groups name) (link_operations (groups_with groups name) link) (made_in_group groups name) (made_in_link (groups_with groups name) link)
 
-sets : (t : Tree) (groups : List NamedGroup) (name : Option (List ℕ)) (n : ℤ) (m : Mark)
-    → MakesOnly (mark_effects BufSetExtmark) (replied t (wanted_group_operations groups name ++ mark_set n m ∷ []) [])
-sets t groups name n m =
+made_text : (b : Bool) (n : ℤ) (set : ℕ) (note : NoteText) → AreMade (mark_effects BufSetExtmark) (if b then note_put n set note ∷ [] else [])
+made_text true n set note = (inr (inr (inl refl)), tt)
+made_text false n set note = tt
+
+sets : (t : Tree) (stage : Stage) (n : ℤ) (set : ℕ) (m : Mark) (pairs : List (Tree × Tree))
+    → MakesOnly (mark_effects BufSetExtmark) (replied t (setting_operations stage n set m pairs) [])
+sets t stage n set m pairs =
     let e = mark_effects BufSetExtmark in
-    makes_done e t (wanted_group_operations groups name ++ mark_set n m ∷ [])
-    (made-append e (wanted_group_operations groups name) (mark_set n m ∷ []) (made_in_wanted e (inl refl) groups name) (inr (inl refl), tt))
+    let names = group_names pairs in
+    let later = groups_of_names stage.groups names in
+    makes_done e t (setting_operations stage n set m pairs)
+    (made-append e (names_operations stage.groups names) (mark_set n m ∷ note_operations n set later pairs) (made_in_names e (inl refl) stage.groups names)
+    (inr (inl refl), made_text (has_text pairs) n set (note_with later pairs)))
 
 removes : (n : ℤ) (found : Option Mark) → MakesOnly (mark_effects BufDelExtmark) (removal_answer n found)
 removes n None = search making_words
@@ -84,7 +95,7 @@ ruleset words = (making_words, makes_either)
 pub mark_rows_make : MarkRowsHaveEffects
 unfolding MarkRowsHaveEffects
 mark_rows_make CreateNamespace s session args = search (words, known_or)
-mark_rows_make BufSetExtmark s session args = search (words, sets) depth 12
+mark_rows_make BufSetExtmark s session args = search (words, sets) depth 14
 mark_rows_make BufDelExtmark s session args = search (words, removes)
 mark_rows_make BufGetExtmarkById s session args = search words depth 9
 mark_rows_make BufGetExtmarks s session args = search words depth 9

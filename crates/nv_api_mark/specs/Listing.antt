@@ -13,7 +13,6 @@ use Rattle.nv_args.specs.Reading.{Arg, number_at, object_at, pairs_at}
 use Rattle.nv_args.specs.Dicts.{optional_key, flag_key, flag_or}
 use Rattle.nv_args.specs.KeyValues.{integer_from, takes_integer_from}
 use Rattle.nv_args.specs.Maps.{Key, map_fault, value_of}
-use Rattle.nv_hl.specs.Groups.{NamedGroup}
 use Rattle.nv_marks.specs.Order.{starts_within}
 use Rattle.nv_marks.specs.Queries.{is_meant}
 use Rattle.nv_marks.specs.declared.extmark.Mark.{Mark}
@@ -106,13 +105,14 @@ first_marks None marks = marks
 first_marks (Some n) marks = take n marks
 
 -- a mark as it is listed
-abbrev pub listed_mark : List NamedGroup → Bool → Mark → Tree
-listed_mark groups details m = array_of (natural m.id ∷ place_values groups details m)
+abbrev pub listed_mark : Stage → ℤ → Bool → Mark → Tree
+listed_mark stage n details m = array_of (natural m.id ∷ place_values stage n details m)
 
-abbrev pub listing_answer : Seen → SeenBuffer → Option ℕ → Pos → Pos → List (Tree × Tree) → Answer
-listing_answer s b meant start end pairs =
+abbrev pub listing_answer : Seen → ℤ → SeenBuffer → Option ℕ → Pos → Pos → List (Tree × Tree)
+    → Answer
+listing_answer s n b meant start end pairs =
     reply_of (array_of (
-    map (listed_mark s.stage.groups (flag_or false (codes "details") pairs)) (
+    map (listed_mark s.stage n (flag_or false (codes "details") pairs)) (
     first_marks (option_and_then (integer_from 1) (value_of (codes "limit") pairs)) (
     marks_from meant (flag_or false (codes "overlap") pairs) start end b.marks))))
 
@@ -123,7 +123,7 @@ listing_answer_at s buffer namespace start end pairs =
     or_refused (meant_namespace s.stage namespace) out_of_bounds (λ meant.
     or_refused (place_of_value b meant start) out_of_bounds (λ low.
     or_refused (place_of_value b meant end) out_of_bounds (λ high.
-    listing_answer s b meant low high pairs)))))
+    listing_answer s n b meant low high pairs)))))
 
 -- nvim_buf_get_extmarks(buffer, ns_id, start, end, opts): the marks from one place to another, both
 -- included; keys `limit`, `details`, `overlap`

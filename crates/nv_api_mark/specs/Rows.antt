@@ -2,7 +2,7 @@
 use Rattle.std.specs.Prelude.{[], ◌∷◌}
 use Rattle.nv_args.specs.declared.methods.MarkMethod.{MarkMethod}
 use Rattle.nv_args.specs.declared.methods.MarkMethod.TheVariants.{CreateNamespace, GetNamespaces, BufSetExtmark, BufDelExtmark, BufGetExtmarkById, BufGetExtmarks, BufClearNamespace, SetHl, GetHl, GetHlIdByName}
-use Rattle.nv_model.specs.Kinds.{Effects, no_effects, making, makes_namespaces, makes_groups, puts_groups, sets_marks, removes_marks}
+use Rattle.nv_model.specs.Kinds.{Effects, no_effects, making, makes_namespaces, makes_groups, puts_groups, puts_notes, sets_marks, removes_marks}
 use Rattle.nv_model.specs.Rows.{Row}
 use Rattle.nv_api_mark.specs.Namespaces.{nvim_create_namespace, nvim_get_namespaces}
 use Rattle.nv_api_mark.specs.MarkRows.{nvim_buf_set_extmark, nvim_buf_del_extmark, nvim_buf_get_extmark_by_id}
@@ -25,7 +25,7 @@ mark_row GetHlIdByName = nvim_get_hl_id_by_name
 -- the kinds of operations that each makes, and of facts that it tells
 abbrev pub mark_effects : MarkMethod → Effects
 mark_effects CreateNamespace = making (makes_namespaces ∷ [])
-mark_effects BufSetExtmark = making (makes_groups ∷ sets_marks ∷ [])
+mark_effects BufSetExtmark = making (makes_groups ∷ sets_marks ∷ puts_notes ∷ [])
 mark_effects BufDelExtmark = making (removes_marks ∷ [])
 mark_effects BufClearNamespace = making (removes_marks ∷ [])
 mark_effects SetHl = making (makes_groups ∷ puts_groups ∷ [])

@@ -1,17 +1,23 @@
 -- How a mark is set: the keys of its options, and the places that numbers name (help:
 -- nvim_buf_set_extmark()).
-use Rattle.std.specs.Prelude.{ℕ, ℤ, pos, negsuc, ◌==◌, Bool, true, false, ◌&&◌, ◌||◌, nat_le, List, [], ◌∷◌, length, codes, Option, Some, None, is_some, option_map, option_and_then, if◌then◌else◌}
+use Rattle.std.specs.Prelude.{ℕ, ℤ, pos, negsuc, ◌==◌, Bool, true, false, ◌&&◌, ◌||◌, nat_le, List, [], ◌∷◌, ◌++◌, length, map, codes, bytes_eq, Option, Some, None, is_some, option_map, option_and_then, option_to_list, unwrap_or, if◌then◌else◌}
+use Rattle.std.specs.Option.{option_map_or}
 use Rattle.nv_value.specs.Content.{Tree}
 use Rattle.nv_places.specs.Flat.{line_at}
 use Rattle.nv_places.specs.declared.place.Pos.{Pos}
 use Rattle.nv_msgpack.specs.Handle.{integer_of}
 use Rattle.nv_args.specs.Arguments.{string_in}
+use Rattle.nv_args.specs.Chunks.{GivenChunk, chunks_in, names_of_chunks, takes_chunks, takes_text_place}
 use Rattle.nv_args.specs.Dicts.{optional_key, flag_or, integer_or}
 use Rattle.nv_args.specs.KeyValues.{integer_between, takes_flag, takes_integer, takes_integer_between, takes_name_or_number}
 use Rattle.nv_args.specs.Maps.{Key, value_of}
-use Rattle.nv_hl.specs.Groups.{NamedGroup}
+use Rattle.nv_hl.specs.Groups.{NamedGroup, known_id}
 use Rattle.nv_marks.specs.declared.extmark.Far.{Far}
 use Rattle.nv_marks.specs.declared.extmark.Paint.{Paint}
+use Rattle.nv_notes.specs.Notes.{NoteText}
+use Rattle.nv_notes.specs.declared.note.At.{At}
+use Rattle.nv_notes.specs.declared.note.At.TheVariants.{Eol, Overlay, RightAlign}
+use Rattle.nv_notes.specs.declared.note.Chunk.{Chunk}
 use Rattle.nv_api_mark.specs.Groups.{id_among}
 
 -- the ids of marks, and their priorities (own rule)
@@ -29,7 +35,12 @@ abbrev pub has_end : List (Tree × Tree) → Bool
 has_end pairs =
     is_some (value_of (codes "end_row") pairs) || is_some (value_of (codes "end_col") pairs)
 
--- the keys for pairs that count: a gravity of the end isn't taken without an end
+-- it has a virtual text where they have that
+abbrev pub has_text : List (Tree × Tree) → Bool
+has_text pairs = is_some (value_of (codes "virt_text") pairs)
+
+-- the keys for pairs that count: a gravity of the end isn't taken without an end, nor where a
+-- virtual text is without that
 abbrev pub mark_keys : List (Tree × Tree) → List Key
 mark_keys pairs =
     optional_key (codes "id") (takes_integer_between 1 greatest_mark_id)
@@ -43,11 +54,13 @@ mark_keys pairs =
     ∷ optional_key (codes "strict") takes_flag
     ∷ optional_key (codes "undo_restore") takes_flag
     ∷ optional_key (codes "invalidate") takes_flag
+    ∷ optional_key (codes "virt_text") takes_chunks
+    ∷ optional_key (codes "virt_text_pos") (λ t. has_text pairs && takes_text_place t)
     ∷ []
 
--- the keys that name a group
+-- the keys that name groups
 abbrev pub naming_keys : List (List ℕ)
-naming_keys = codes "hl_group" ∷ []
+naming_keys = codes "hl_group" ∷ codes "virt_text" ∷ []
 
 -- the row that a number names in a text of so many lines: up to the one after the last, and a
 -- greater one is that one where places aren't strict
@@ -102,3 +115,33 @@ abbrev pub paint_of : List NamedGroup → List (Tree × Tree) → Option Paint
 paint_of groups pairs =
     option_map (λ id. record { group = id; eol = flag_or false (codes "hl_eol") pairs })
     (group_id groups (group_name pairs) (group_number pairs))
+
+-- the parts of the virtual text, with the names of groups that a mark wants: of what it shows, and
+-- of the parts
+abbrev pub text_chunks : List (Tree × Tree) → List GivenChunk
+text_chunks pairs = option_map_or chunks_in (value_of (codes "virt_text") pairs) []
+
+abbrev pub group_names : List (Tree × Tree) → List (List ℕ)
+group_names pairs = option_to_list (group_name pairs) ++ names_of_chunks (text_chunks pairs)
+
+-- where the virtual text is, at the line's end where that isn't told
+abbrev pub text_place_named : List ℕ → At
+text_place_named word =
+    if bytes_eq word (codes "overlay") then Overlay
+    else if bytes_eq word (codes "right_align") then RightAlign
+    else Eol
+
+abbrev pub text_place_of : List (Tree × Tree) → At
+text_place_of pairs =
+    option_map_or text_place_named
+    (option_and_then string_in (value_of (codes "virt_text_pos") pairs))
+    Eol
+
+-- the virtual text, once its groups are there
+abbrev pub chunk_with : List NamedGroup → GivenChunk → Chunk
+chunk_with groups c =
+    record { text = c.0; group = option_map (λ name. unwrap_or (known_id groups name) 0) c.1 }
+
+abbrev pub note_with : List NamedGroup → List (Tree × Tree) → NoteText
+note_with groups pairs =
+    record { chunks = map (chunk_with groups) (text_chunks pairs); at = text_place_of pairs }

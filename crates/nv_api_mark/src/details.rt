@@ -1,5 +1,5 @@
 //! What is told of a mark.
-ghost use Rattle.std.specs.Prelude.{◌≡◌, ◌++◌, ◌∷◌, [], List, if◌then◌else◌, map, true, IfOk, IfSome, OnOk};
+ghost use Rattle.std.specs.Prelude.{◌≡◌, ◌^◌, ◌<◌, ◌++◌, ◌∷◌, [], List, if◌then◌else◌, length, map, option_map, true, All, IfOk, IfSome, OnOk};
 ghost use Rattle.nv_value.specs.Content.{Tree, text, truth};
 ghost use Rattle.nv_value.specs.View.{content, pair_content};
 ghost use Rattle.nv_msgpack.specs.Shortest.{HasSpelling};
@@ -7,16 +7,25 @@ ghost use Rattle.nv_hl.specs.Groups.{HasGroup};
 ghost use Rattle.nv_editor.specs.Sound.{IsOfGroups};
 ghost use Rattle.nv_model.specs.Answering.{array_of};
 ghost use Rattle.nv_api_mark.specs.Listing.{listed_mark};
-ghost use Rattle.nv_api_mark.specs.MarkRows.{details_of, end_details, paint_details, place_values, place_values_if_any, undo_details};
-ghost use Rattle.nv_api_mark.specs.inside.Marking.{IsGroupTold};
+ghost use Rattle.nv_notes.specs.Notes.{IsChunkOf, IsNoteOf, note_at};
+ghost use Rattle.nv_api_mark.specs.MarkRows.{chunk_told, details_of, end_details, note_details, paint_details, place_values, place_values_if_any, place_word, undo_details};
+ghost use Rattle.nv_api_mark.specs.inside.Marking.{IsChunkTold, IsGroupTold, IsNoteTold};
 ghost use Rattle.nv_api_mark.specs.inside.Picking.{listed_triple};
 
-use crate::values::{natural_value, put_natural, put_text, put_truth};
+use crate::values::{natural_value, put, put_natural, put_text, put_truth, text_value};
 use nv_buffer::{Far, Mark, Paint};
+use nv_editor::Editor;
 use nv_hl::Groups;
+use nv_notes::{At, Chunk, Note};
 use nv_rpc::Triple;
-use nv_value::{Fields, Value};
+use nv_value::{Fields, Value, spelled_length};
 use std::alloc::{AllocError, Global};
+
+/// A live buffer by its handle.
+#[derive(Clone, Copy)]
+pub struct Live {
+    pub handle: i64,
+}
 
 // Puts what is told of the end of a mark behind the rest.
 fn push_end(alloc: Global, fields: &mut Fields, stop: Option<Far>) -> Result<(), AllocError>
@@ -86,12 +95,83 @@ fn push_undo(alloc: Global, fields: &mut Fields, mark: Mark) -> Result<(), Alloc
     Ok(())
 }
 
-// The details of a mark.
-fn details_value(alloc: Global, groups: &Groups, mark: Mark) -> Result<Value, AllocError>
-    requires { IsOfGroups groups.now mark }
-    ensures told { IfOk result (λ value. content value ≡ details_of groups.now mark) }
+// What is told of a part of a virtual text: its text, and the name of its group, where it has one.
+fn chunk_value(alloc: Global, groups: &Groups, chunk: &Chunk) -> Result<Value, AllocError>
+    requires { IsChunkOf groups.now chunk.now }
+    ensures told { IfOk result (λ value. content value ≡ chunk_told groups.now chunk.now) }
+    ensures spelled { IfOk result (λ value. HasSpelling (content value)) }
+    ensures short { OnOk result (IsChunkTold groups.now chunk.now) }
+{
+    let text = text_value(alloc, chunk.text.as_slice())?;
+    let Some(group) = chunk.group else {
+        return Ok(Value::List(vec![in alloc; text]?));
+    };
+    let name = text_value(alloc, groups.name(group))?;
+    Ok(Value::List(vec![in alloc; text, name]?))
+}
+
+// And of the parts.
+fn chunks_value(alloc: Global, groups: &Groups, chunks: &[Chunk]) -> Result<Value, AllocError>
+    requires { All (IsChunkOf groups.now) chunks.now }
+    ensures told { IfOk result (λ value. content value
+        ≡ array_of (map (chunk_told groups.now) chunks.now)) }
+    ensures spelled { IfOk result (λ value. HasSpelling (content value)) }
+    ensures short { OnOk result ((length chunks.now < 2 ^ 32)
+        × All (IsChunkTold groups.now) chunks.now) }
+{
+    let _ = spelled_length(chunks.len())?;
+    let mut items = Vec::with_capacity(alloc, chunks.len())?;
+    for chunk in chunks {
+        items.push(chunk_value(alloc, groups, chunk)?)?;
+    }
+    Ok(Value::List(items))
+}
+
+fn place_word(at: At) -> &'static [u8]
+    ensures { result.now ≡ place_word at }
+{
+    match at {
+        At::Eol => b"eol".as_slice(),
+        At::Overlay => b"overlay".as_slice(),
+        At::RightAlign => b"right_align".as_slice(),
+    }
+}
+
+// Puts what is told of a virtual text, where there is one, behind the rest.
+fn push_note(
+    alloc: Global,
+    fields: &mut Fields,
+    groups: &Groups,
+    note: Option<&Note>,
+) -> Result<(), AllocError>
+    requires { IfSome note (λ n. IsNoteOf groups.now n.now) }
+    ensures told { OnOk result ((rest : List (Tree × Tree))
+        → map pair_content fields.new.items ++ rest
+        ≡ map pair_content fields.old.items
+        ++ (note_details groups.now (option_map (λ n. n.now) note.entry) ++ rest)) }
+    ensures spelled { OnOk result (IsNoteTold groups.now (option_map (λ n. n.now) note.entry)) }
+{
+    let Some(note) = note else {
+        return Ok(());
+    };
+    let chunks = note.chunks();
+    let at = note.at();
+    let parts = chunks_value(alloc, groups, chunks)?;
+    put(alloc, fields, "virt_text", parts)?;
+    put_text(alloc, fields, "virt_text_pos", place_word(at))?;
+    Ok(())
+}
+
+// The details of a mark of a buffer.
+fn details_value(editor: &Editor, live: Live, mark: Mark) -> Result<Value, AllocError>
+    requires { IsOfGroups editor.now.stage.groups mark }
+    ensures told { IfOk result (λ value. content value ≡ details_of editor.now.stage.groups
+        (note_at editor.now.stage.notes live.handle mark.set) mark) }
     ensures spelled { IfOk result (λ value. HasSpelling (content value)) }
 {
+    let alloc = editor.alloc();
+    let groups = editor.groups();
+    let note = editor.note(live.handle, mark.set);
     let mut fields = Vec::with_capacity(alloc, 8)?;
     put_natural(alloc, &mut fields, "ns_id", mark.ns)?;
     put_truth(alloc, &mut fields, "right_gravity", mark.right)?;
@@ -99,56 +179,60 @@ fn details_value(alloc: Global, groups: &Groups, mark: Mark) -> Result<Value, Al
     push_end(alloc, &mut fields, mark.stop)?;
     push_paint(alloc, &mut fields, groups, mark.paint)?;
     push_undo(alloc, &mut fields, mark)?;
+    push_note(alloc, &mut fields, groups, note)?;
     Ok(Value::Pairs(fields))
 }
 
 // The place of a mark with its details.
-fn detailed_place(alloc: Global, groups: &Groups, mark: Mark) -> Result<Value, AllocError>
-    requires { IsOfGroups groups.now mark }
+fn detailed_place(editor: &Editor, live: Live, mark: Mark) -> Result<Value, AllocError>
+    requires { IsOfGroups editor.now.stage.groups mark }
     ensures told { IfOk result (λ value. content value
-        ≡ array_of (place_values groups.now true mark)) }
+        ≡ array_of (place_values editor.now.stage live.handle true mark)) }
     ensures spelled { IfOk result (λ value. HasSpelling (content value)) }
 {
-    let told = details_value(alloc, groups, mark)?;
+    let told = details_value(editor, live, mark)?;
     let row = natural_value(mark.start.row);
     let col = natural_value(mark.start.col);
-    Ok(Value::List(vec![in alloc; row, col, told]?))
+    Ok(Value::List(vec![in editor.alloc(); row, col, told]?))
 }
 
-/// The place of a mark, and its details where they are wanted; nothing where there is no mark.
+/// The place of a mark of a buffer, and its details where they are wanted; nothing where there is
+/// no mark.
 pub fn place_value(
-    alloc: Global,
-    groups: &Groups,
+    editor: &Editor,
+    live: Live,
     details: bool,
     found: Option<Mark>,
 ) -> Result<Value, AllocError>
-    requires { IfSome found (IsOfGroups groups.now) }
+    requires { IfSome found (IsOfGroups editor.now.stage.groups) }
     ensures told { IfOk result (λ value. content value
-        ≡ array_of (place_values_if_any groups.now details found)) }
+        ≡ array_of (place_values_if_any editor.now.stage live.handle details found)) }
     ensures spelled { IfOk result (λ value. HasSpelling (content value)) }
 {
+    let alloc = editor.alloc();
     let Some(mark) = found else {
         return Ok(Value::List(Vec::new(alloc)));
     };
     if details {
-        return detailed_place(alloc, groups, mark);
+        return detailed_place(editor, live, mark);
     }
     let row = natural_value(mark.start.row);
     let col = natural_value(mark.start.col);
     Ok(Value::List(vec![in alloc; row, col]?))
 }
 
-/// A mark as it is listed with its details.
-pub fn detailed_value(alloc: Global, groups: &Groups, mark: Mark) -> Result<Value, AllocError>
-    requires { IsOfGroups groups.now mark }
-    ensures told { IfOk result (λ value. content value ≡ listed_mark groups.now true mark) }
+/// A mark of a buffer as it is listed with its details.
+pub fn detailed_value(editor: &Editor, live: Live, mark: Mark) -> Result<Value, AllocError>
+    requires { IsOfGroups editor.now.stage.groups mark }
+    ensures told { IfOk result
+        (λ value. content value ≡ listed_mark editor.now.stage live.handle true mark) }
     ensures spelled { IfOk result (λ value. HasSpelling (content value)) }
 {
-    let told = details_value(alloc, groups, mark)?;
+    let told = details_value(editor, live, mark)?;
     let id = natural_value(mark.id);
     let row = natural_value(mark.start.row);
     let col = natural_value(mark.start.col);
-    Ok(Value::List(vec![in alloc; id, row, col, told]?))
+    Ok(Value::List(vec![in editor.alloc(); id, row, col, told]?))
 }
 
 /// A mark as it is listed without its details: its id and its place.

@@ -20,7 +20,7 @@ ghost use Rattle.nv_api_mark.specs.Outcomes.{ReadsOutcome};
 ghost use Rattle.nv_api_mark.specs.inside.Steps.{Decides};
 ghost use Rattle.nv_api_mark.specs.inside.Picking.{is_picked, listed_triple, marks_answer, span_answer, spanned_answer};
 
-use crate::details::{detailed_value, listed_triple};
+use crate::details::{Live, detailed_value, listed_triple};
 use crate::naming::meant_namespace;
 use crate::places::{mark_numbered, place_or_last};
 use nv_args::{
@@ -28,7 +28,6 @@ use nv_args::{
 };
 use nv_buffer::{Buffer, Mark, Pos, Query};
 use nv_editor::Editor;
-use nv_hl::Groups;
 use nv_rpc::{CallResult, Outcome, Triple};
 use nv_value::{Pair, Value, spelled_length};
 use std::alloc::{AllocError, Global};
@@ -152,17 +151,17 @@ fn marks_from(
     marks_ahead(alloc, buffer, picks, limit)
 }
 
-// Marks as they are listed with their details.
-fn detailed_marks(alloc: Global, groups: &Groups, marks: &[Mark]) -> Result<Value, AllocError>
-    requires groups { All (IsOfGroups groups.now) marks.now }
+// Marks of a buffer as they are listed with their details.
+fn detailed_marks(editor: &Editor, live: Live, marks: &[Mark]) -> Result<Value, AllocError>
+    requires groups { All (IsOfGroups editor.now.stage.groups) marks.now }
     requires few { length marks.now < 2 ^ 32 }
     ensures told { IfOk result (λ value. content value
-        ≡ array_of (map (listed_mark groups.now true) marks.now)) }
+        ≡ array_of (map (listed_mark editor.now.stage live.handle true) marks.now)) }
     ensures spelled { IfOk result (λ value. HasSpelling (content value)) }
 {
-    let mut items = Vec::with_capacity(alloc, marks.len())?;
+    let mut items = Vec::with_capacity(editor.alloc(), marks.len())?;
     for mark in marks {
-        items.push(detailed_value(alloc, groups, *mark)?)?;
+        items.push(detailed_value(editor, live, *mark)?)?;
     }
     Ok(Value::List(items))
 }
@@ -178,24 +177,24 @@ fn plain_marks(alloc: Global, marks: &[Mark]) -> Result<Vec<Triple>, AllocError>
     Ok(triples)
 }
 
-// Marks as they are listed.
+// Marks of a buffer as they are listed.
 fn listed_marks(
-    alloc: Global,
-    groups: &Groups,
+    editor: &Editor,
+    live: Live,
     details: bool,
     marks: &[Mark],
 ) -> Result<Outcome, AllocError>
-    requires { All (IsOfGroups groups.now) marks.now }
+    requires { All (IsOfGroups editor.now.stage.groups) marks.now }
     ensures told { IfOk result (λ outcome. outcome_content outcome
-        ≡ array_of (map (listed_mark groups.now details) marks.now)) }
+        ≡ array_of (map (listed_mark editor.now.stage live.handle details) marks.now)) }
     ensures spelled { IfOk result (λ outcome. HasSpelling (outcome_content outcome)) }
 {
     let _ = spelled_length(marks.len())?;
     if details {
-        let value = detailed_marks(alloc, groups, marks)?;
+        let value = detailed_marks(editor, live, marks)?;
         return Ok(Outcome::One(CallResult::Value(value)));
     }
-    let triples = plain_marks(alloc, marks)?;
+    let triples = plain_marks(editor.alloc(), marks)?;
     Ok(Outcome::One(CallResult::Triples(triples)))
 }
 
@@ -300,12 +299,13 @@ fn listing_fault(alloc: Global, pairs: &[Pair]) -> Result<(), Fail>
 // The marks of a span as they are listed.
 fn span_listed(
     editor: &Editor,
+    live: Live,
     buffer: &Buffer,
     span: Span,
     pairs: &[Pair],
 ) -> Result<Outcome, AllocError>
     requires painted { All (IsOfGroups editor.now.stage.groups) buffer.now.marks.marks }
-    ensures row { IfOk result (λ outcome. spanned_answer (seen_now editor.now)
+    ensures row { IfOk result (λ outcome. spanned_answer (seen_now editor.now) live.handle
         (seen_buffer_now buffer.now) (last_pairs (map pair_content pairs.now)) span
         ≡ reply_of (outcome_content outcome)) }
     ensures spelled { IfOk result (λ outcome. HasSpelling (outcome_content outcome)) }
@@ -315,24 +315,26 @@ fn span_listed(
     let details = flag_or(pairs, "details", false);
     let limit = integer_from(pairs, "limit", 1);
     let marks = marks_from(alloc, buffer, span, overlap, limit)?;
-    listed_marks(alloc, editor.groups(), details, marks.as_slice())
+    listed_marks(editor, live, details, marks.as_slice())
 }
 
 // The marks of a buffer that a call lists.
 fn marks_told(
     editor: &Editor,
+    live: Live,
     buffer: &Buffer,
     args: &Args,
     pairs: &[Pair],
 ) -> Result<Outcome, Fail>
     requires painted { All (IsOfGroups editor.now.stage.groups) buffer.now.marks.marks }
-    ensures row { ReadsOutcome (marks_answer (seen_now editor.now) (seen_buffer_now buffer.now)
-        (typed_arguments args.now) (last_pairs (map pair_content pairs.now))) result }
+    ensures row { ReadsOutcome (marks_answer (seen_now editor.now) live.handle
+        (seen_buffer_now buffer.now) (typed_arguments args.now)
+        (last_pairs (map pair_content pairs.now))) result }
     ensures spelled { IfOk result (λ outcome. HasSpelling (outcome_content outcome)) }
 {
     listing_fault(editor.alloc(), pairs)?;
     let span = span_given(editor, buffer, args)?;
-    Ok(span_listed(editor, buffer, span, pairs)?)
+    Ok(span_listed(editor, live, buffer, span, pairs)?)
 }
 
 /// `nvim_buf_get_extmarks`: the marks from one place to another, both included.
@@ -344,8 +346,9 @@ pub fn nvim_buf_get_extmarks(editor: &Editor, args: &Args) -> Result<Outcome, Fa
 {
     editor.known();
     let given = args.number(0);
-    match editor.buffer(editor.named_buffer(given)) {
-        Some(buffer) => marks_told(editor, buffer, args, args.pairs(4)),
+    let handle = editor.named_buffer(given);
+    match editor.buffer(handle) {
+        Some(buffer) => marks_told(editor, Live { handle }, buffer, args, args.pairs(4)),
         None => Err(no_buffer(editor.alloc(), given)),
     }
 }

@@ -15,7 +15,7 @@ ghost use Rattle.nv_api_mark.specs.MarkRows.{nvim_buf_del_extmark, nvim_buf_get_
 ghost use Rattle.nv_api_mark.specs.inside.Steps.{Decides};
 ghost use Rattle.nv_api_mark.specs.inside.Telling.{by_id_answer, numbered_answer};
 
-use crate::details::place_value;
+use crate::details::{Live, place_value};
 use crate::naming::namespace_of_id;
 use crate::painting::put_draft;
 use crate::places::mark_numbered;
@@ -47,17 +47,17 @@ fn detail_rules() -> [Rule; 1]
 }
 
 // The place of one mark of a buffer.
-fn place_told(editor: &Editor, buffer: &Buffer, args: &Args) -> Result<Value, Fail>
+fn place_told(editor: &Editor, live: Live, buffer: &Buffer, args: &Args) -> Result<Value, Fail>
     requires painted { All (IsOfGroups editor.now.stage.groups) buffer.now.marks.marks }
-    ensures row { ReadsAnswer (by_id_answer (seen_now editor.now) (seen_buffer_now buffer.now)
-        (typed_arguments args.now)) result }
+    ensures row { ReadsAnswer (by_id_answer (seen_now editor.now) live.handle
+        (seen_buffer_now buffer.now) (typed_arguments args.now)) result }
     ensures spelled { IfOk result (λ value. HasSpelling (content value)) }
 {
     let pairs = args.pairs(3);
     map_fault(editor.alloc(), &detail_rules(), pairs)?;
     let found = mark_given(editor, buffer, args)?;
     let details = flag_or(pairs, "details", false);
-    Ok(place_value(editor.alloc(), editor.groups(), details, found)?)
+    Ok(place_value(editor, live, details, found)?)
 }
 
 /// `nvim_buf_get_extmark_by_id`: row and column of a mark, and its details where they are wanted;
@@ -70,8 +70,9 @@ pub fn nvim_buf_get_extmark_by_id(editor: &Editor, args: &Args) -> Result<Value,
 {
     editor.known();
     let given = args.number(0);
-    match editor.buffer(editor.named_buffer(given)) {
-        Some(buffer) => place_told(editor, buffer, args),
+    let handle = editor.named_buffer(given);
+    match editor.buffer(handle) {
+        Some(buffer) => place_told(editor, Live { handle }, buffer, args),
         None => Err(no_buffer(editor.alloc(), given)),
     }
 }

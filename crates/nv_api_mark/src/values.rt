@@ -33,8 +33,8 @@ fn pair(alloc: Global, key: &str, value: Value) -> Result<Pair, AllocError>
     Ok(Pair { key, value })
 }
 
-// Puts a key with its value behind the others.
-fn put(alloc: Global, fields: &mut Fields, key: &str, value: Value) -> Result<(), AllocError>
+/// Puts a key with its value behind the others.
+pub fn put(alloc: Global, fields: &mut Fields, key: &str, value: Value) -> Result<(), AllocError>
     ensures { OnOk result ((rest : List (Tree × Tree))
         → map pair_content fields.new.items ++ rest
         ≡ map pair_content fields.old.items ++ (text key.now, content value) ∷ rest) }

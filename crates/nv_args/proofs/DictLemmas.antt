@@ -21,7 +21,7 @@ use Rattle.nv_value.specs.declared.fault.ApiFault.{ApiFault}
 use Rattle.nv_args.specs.Arguments.{string_in, is_same, last_pairs}
 use Rattle.nv_args.specs.Faults.{invalid_key, invalid_value}
 use Rattle.nv_args.specs.Maps.{Key, is_name, has_name, value_of, known_key, takes_value, unknown_key, wrong_value, missing_key, map_fault, or_else}
-use Rattle.nv_args.specs.Naming.{bad_name_fault, is_one_of, names_group, wrong_value_of, naming_fault}
+use Rattle.nv_args.specs.Naming.{bad_name_fault, is_one_of, names_groups, wrong_value_of, naming_fault}
 use Rattle.nv_args.specs.Rules.{key_of}
 use Rattle.nv_args.specs.declared.rules.Rule.{Rule}
 use Rattle.nv_args.specs.inside.Looking.{key_name, is_known, are_known, is_faultless, are_faultless, is_key_among, fault_after, misnames, pair_fault, fault_that_counts}
@@ -185,7 +185,7 @@ none-naming keys [] = refl
 none-naming keys (p ∷ ps) = by (takes_value (known_key keys (string_in p.0)) p.1) (string_in p.0) (none-naming keys ps)
   where
     by : (b : Bool) (key : Option (List ℕ)) → wrong_value_of [] keys ps ≡ wrong_value keys ps
-        → cond (not b) (Some (invalid_value (key_name p))) (cond (is_one_of [] key && not (names_group (string_in p.1))) (Some bad_name_fault) (wrong_value_of [] keys ps))
+        → cond (not b) (Some (invalid_value (key_name p))) (cond (is_one_of [] key && not (names_groups p.1)) (Some bad_name_fault) (wrong_value_of [] keys ps))
         ≡ cond b (wrong_value keys ps) (Some (invalid_value (key_name p)))
     by true None e = e
     by true (Some name) e = e

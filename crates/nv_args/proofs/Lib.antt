@@ -1,6 +1,7 @@
 pub mod ArgLemmas
 pub mod Handles
 pub mod CallLemmas
+pub mod ChunkLemmas
 pub mod ColourLemmas
 pub mod DictLemmas
 pub mod HeldLemmas

@@ -5,7 +5,7 @@ use Rattle.nv_value.specs.Content.{Tree, count, list, trees_of}
 use Rattle.nv_msgpack.specs.Shortest.{HasSpelling, HaveSpellings}
 
 -- how many trees a list has
-count-trees : (ts : List Tree) → count (trees_of ts) ≡ length ts
+pub count-trees : (ts : List Tree) → count (trees_of ts) ≡ length ts
 count-trees [] = refl
 count-trees (t ∷ ts) = ap suc (count-trees ts)
 

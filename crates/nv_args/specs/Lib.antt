@@ -1,5 +1,6 @@
 pub mod Faults
 pub mod Arguments
+pub mod Chunks
 pub mod Refusals
 pub mod Weight
 pub mod Table

@@ -5,11 +5,12 @@ ghost use Rattle.nv_value.specs.View.{content, pair_content};
 ghost use Rattle.nv_args.specs.Arguments.{string_in, last_pairs};
 ghost use Rattle.nv_args.specs.Faults.{invalid_key, invalid_value};
 ghost use Rattle.nv_args.specs.Maps.{has_name, value_of, unknown_key, wrong_value, missing_key, map_fault, takes_value, known_key};
-ghost use Rattle.nv_args.specs.Naming.{is_group_name, is_one_of, names_group, wrong_value_of, naming_fault};
+ghost use Rattle.nv_args.specs.Naming.{is_group_name, is_one_of, names_group, names_groups, wrong_value_of, naming_fault};
 ghost use Rattle.nv_args.specs.Refusals.{Finds};
 ghost use Rattle.nv_args.specs.Rules.{key_of};
 ghost use Rattle.nv_args.specs.inside.Looking.{are_faultless, are_known, is_faultless, is_known, stands_in, is_key_among, stands_among, fault_after, misnames, pair_fault, fault_that_counts};
 
+use crate::chunks::all_name_groups;
 use crate::faults::{Fail, invalid_key, invalid_value};
 use crate::reading::name_in;
 use crate::rules::{Rule, rule_of};
@@ -224,7 +225,7 @@ fn takes_value(rules: &[Rule], pair: &Pair) -> bool
 fn misnames(naming: &[&str], pair: &Pair) -> bool
     ensures { result ≡ misnames (map (λ name. name.now) naming.now) (pair_content pair.now) }
 {
-    is_one_of(naming, &pair.key) && !names_group(&pair.value)
+    is_one_of(naming, &pair.key) && !names_groups(&pair.value)
 }
 
 fn is_one_of(names: &[&str], key: &Value) -> bool
@@ -261,6 +262,16 @@ fn names_group(value: &Value) -> bool
     match name_in(value) {
         Some(name) => is_group_name(name),
         None => true,
+    }
+}
+
+// The same of each name of a group among parts of a virtual text.
+fn names_groups(value: &Value) -> bool
+    ensures { result ≡ names_groups (content value.now) }
+{
+    match value {
+        Value::List(items) => all_name_groups(items.as_slice()),
+        _ => names_group(value),
     }
 }
 

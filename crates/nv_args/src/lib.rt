@@ -3,6 +3,7 @@
 #![tactic(auto)]
 
 mod args;
+mod chunks;
 mod dicts;
 mod faults;
 mod getting;
@@ -14,6 +15,7 @@ mod rules;
 mod signatures;
 
 pub use args::{Args, NamedCall, bytes_of, call_in, read};
+pub use chunks::{GivenChunk, chunk_in};
 pub use dicts::{
     is_group_name, map_fault, missing_key, naming_fault, unknown_key, value_of, wrong_value,
     wrong_value_of,

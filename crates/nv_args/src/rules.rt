@@ -7,6 +7,7 @@ ghost use Rattle.nv_args.specs.Dicts.{optional_key, flag_key};
 ghost use Rattle.nv_args.specs.Maps.{known_key};
 ghost use Rattle.nv_args.specs.Rules.{takes_of, key_of};
 
+use crate::chunks::{are_chunks, is_text_place};
 use crate::kinds::{BUFFER, TABPAGE, WINDOW, handle_number};
 use crate::reading::{colour_of, integer_between, integer_from, integer_of, name_in, truth_of};
 use nv_value::Value;
@@ -34,6 +35,10 @@ pub enum Takes {
     TerminalColour,
     /// `left`, `right`, `above` or `below`.
     Side,
+    /// An Array of the parts of a virtual text, each an Array of a String or of two.
+    Chunks,
+    /// `eol`, `overlay` or `right_align`.
+    TextPlace,
     /// No value at all.
     Nothing,
     Any,
@@ -67,6 +72,8 @@ impl Takes {
             Takes::Colour => colour_of(value).is_some(),
             Takes::TerminalColour => integer_between(value, 0, 255).is_some(),
             Takes::Side => is_side(value),
+            Takes::Chunks => are_chunks(value),
+            Takes::TextPlace => is_text_place(value),
             Takes::Nothing => false,
             Takes::Any => true,
         }

@@ -12,11 +12,11 @@ use Rattle.nv_painter.specs.Painters.{Painting}
 use Rattle.nv_history.specs.Events.{Event, open_session, request_of, take_of, close_of, Entry}
 use Rattle.nv_history.specs.Worlds.{World, fresh_world, step, world_made}
 use Rattle.nv_history.specs.Runs.{run, run_from}
-use Rattle.nv_world.specs.Contents.{plain_entry, plain_entries, plain_event}
+use Rattle.nv_core.specs.Contents.{plain_entry, plain_entries, plain_event}
 use Rattle.nv_world.specs.Worlds.{WorldRecord, model_of, with_entry}
-use Rattle.nv_world.specs.declared.entry.Entry as world
+use Rattle.nv_core.specs.declared.entry.Entry as world
 use Rattle.nv_world.specs.declared.step.Step.{Step}
-use Rattle.nv_world.specs.declared.story.Start.{Start}
+use Rattle.nv_core.specs.declared.start.Start.{Start}
 use Rattle.nv_world.proofs.Entries.{entries-push}
 use Rattle.nv_book.specs.Books.{Recorded, entries_of_records, entry_head, book_head, book_end, most_piece, piece_count, pieces_in, output_pieces, recorded_values, front_values, book_values, IsOutputOf, IsFairRecord, HasSmallCall, AreFair, IsBook}
 use Rattle.nv_book.specs.Headings.{Heading as PlainHeading, heading_in, entry_count_in, outbox_in}

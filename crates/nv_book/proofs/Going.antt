@@ -12,10 +12,10 @@ use Rattle.nv_history.specs.Events.{Event, Entry}
 use Rattle.nv_history.specs.Worlds.{World, fresh_world, step, world_made}
 use Rattle.nv_history.specs.Runs.{run_from, run}
 use Rattle.nv_history.proofs.GoingRuns.{run-append}
-use Rattle.nv_world.specs.Contents.{plain_entry, plain_entries}
+use Rattle.nv_core.specs.Contents.{plain_entry, plain_entries}
 use Rattle.nv_world.specs.Worlds.{WorldRecord, model_of}
-use Rattle.nv_world.specs.declared.entry.Entry as world
-use Rattle.nv_world.specs.declared.story.Start.{Start}
+use Rattle.nv_core.specs.declared.entry.Entry as world
+use Rattle.nv_core.specs.declared.start.Start.{Start}
 use Rattle.nv_book.specs.Books.{Recorded, entries_of_records, shortest_of_all, IsFitEntry}
 use Rattle.nv_book.specs.Outputs.{nobody_told, Plays}
 use Rattle.nv_book.specs.Writing.{IsUnfitAt}

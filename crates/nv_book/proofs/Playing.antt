@@ -11,16 +11,16 @@ use Rattle.nv_history.specs.Events.{Event, Entry, Effect, opened, done, gives, n
 use Rattle.nv_history.specs.Worlds.{World, Outcome, refuses, idles, becomes, step, world_made}
 use Rattle.nv_history.specs.Runs.{run_from, run}
 use Rattle.nv_history.specs.Spoken.{ShowsIfGiven, IsSpoken, events_of, told_with}
-use Rattle.nv_world.specs.Contents.{IsEffect, plain_entry, plain_entries, plain_event, plain_effect, scene_given, sent_of_shared}
+use Rattle.nv_core.specs.Contents.{IsEffect, plain_entry, plain_entries, plain_event, plain_effect, scene_given, sent_of_shared}
 use Rattle.nv_painter.specs.Spoken.{IsSoundIfThere}
 use Rattle.nv_world.specs.Worlds.{WorldRecord, model_of, outcome_of_event, with_entry, AppliesOk, AppliesErr}
 use Rattle.nv_world.specs.inside.Entering.{is_entry}
-use Rattle.nv_world.specs.declared.entry.Entry as world
-use Rattle.nv_world.specs.declared.effect.Stop.{Stop}
-use Rattle.nv_world.specs.declared.effect.Stop.TheVariants as stop
-use Rattle.nv_world.specs.declared.effect.Batch.{Batch}
-use Rattle.nv_world.specs.declared.effect.Effect.{Effect as Given}
-use Rattle.nv_world.specs.declared.effect.Effect.TheVariants as given
+use Rattle.nv_core.specs.declared.entry.Entry as world
+use Rattle.nv_core.specs.declared.effect.Stop.{Stop}
+use Rattle.nv_core.specs.declared.effect.Stop.TheVariants as stop
+use Rattle.nv_core.specs.declared.effect.Batch.{Batch}
+use Rattle.nv_core.specs.declared.effect.Effect.{Effect as Given}
+use Rattle.nv_core.specs.declared.effect.Effect.TheVariants as given
 use Rattle.nv_world.proofs.Entries.{Fits, step_fits, run_push}
 use Rattle.nv_book.specs.Books.{Recorded, entries_of_records}
 use Rattle.nv_book.specs.Outputs.{ToldBy, told_once_more, session_named, session_of_effect, IsSessionOf, GoesOut, Enters, Plays}

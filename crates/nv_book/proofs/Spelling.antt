@@ -9,7 +9,7 @@ use Rattle.nv_msgpack.specs.Spelling.{unsigned_number}
 use Rattle.nv_msgpack.specs.Shortest.{shortest, HasSpelling}
 use Rattle.nv_rpc.specs.Calls.{Call, request, notice}
 use Rattle.nv_args.specs.Weight.{weight, weights, AreLight}
-use Rattle.nv_world.specs.Worlds.{IsLightCall, IsLightEvent}
+use Rattle.nv_core.specs.Bounds.{IsLightCall, IsLightEvent}
 use Rattle.nv_history.specs.Events.{Event, open_session, request_of, take_of, close_of, Entry}
 use Rattle.nv_book.specs.Books.{Recorded, method_tree, params_tree, most_value, entry_head, book_head, book_end, shortest_of_all, IsFitEntry}
 use Rattle.nv_book.specs.Outputs.{numbered_piece}

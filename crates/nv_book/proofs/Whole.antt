@@ -6,9 +6,9 @@ use Rattle.std.proofs.lemmas.List.{take_all, take_min, take-append-le, length-ma
 use Rattle.nv_value.specs.Content.{Tree}
 use Rattle.nv_msgpack.specs.Shortest.{shortest}
 use Rattle.nv_history.specs.Events.{Entry}
-use Rattle.nv_world.specs.Contents.{plain_entries}
-use Rattle.nv_world.specs.declared.entry.Entry as world
-use Rattle.nv_world.specs.declared.story.Start.{Start}
+use Rattle.nv_core.specs.Contents.{plain_entries}
+use Rattle.nv_core.specs.declared.entry.Entry as world
+use Rattle.nv_core.specs.declared.start.Start.{Start}
 use Rattle.nv_book.specs.Books.{Recorded, entries_of_records, recorded_values, book_head, book_end, front_values, book_values, bytes_of_book, shortest_of_all}
 use Rattle.nv_book.specs.Outputs.{replay_values, numbered_piece, session_named, AreOutputs}
 use Rattle.nv_book.specs.Writing.{WroteBook, WroteReplay, values_so_far, WroteBookFront, WroteReplayFront}

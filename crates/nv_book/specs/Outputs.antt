@@ -7,7 +7,7 @@ use Rattle.nv_linegrid.specs.Told.{Told, nothing_told}
 use Rattle.nv_history.specs.Events.{Event, open_session, request_of, take_of, close_of, Effect, opened, done, gives, nothing, over, closes}
 use Rattle.nv_history.specs.Worlds.{World, Outcome, refuses, idles, becomes, fresh_world, step}
 use Rattle.nv_history.specs.Spoken.{IsSpoken}
-use Rattle.nv_world.specs.declared.story.Start.{Start}
+use Rattle.nv_core.specs.declared.start.Start.{Start}
 use Rattle.nv_book.specs.Books.{Recorded, output_pieces}
 
 -- what the client of each session was told, by the session's number

@@ -10,11 +10,11 @@ use Rattle.nv_painter.specs.Painters.{Painting}
 use Rattle.nv_history.specs.Events.{Entry}
 use Rattle.nv_history.specs.Worlds.{World, fresh_world, step}
 use Rattle.nv_history.specs.Runs.{run}
-use Rattle.nv_world.specs.Contents.{plain_entries}
+use Rattle.nv_core.specs.Contents.{plain_entries}
 use Rattle.nv_world.specs.Steps.{AreLastSplices}
 use Rattle.nv_world.specs.Worlds.{WorldRecord}
 use Rattle.nv_world.specs.declared.step.Step.{Step}
-use Rattle.nv_world.specs.declared.story.Start.{Start}
+use Rattle.nv_core.specs.declared.start.Start.{Start}
 use Rattle.nv_book.specs.Books.{Recorded, entries_of_records, front_values, book_values, most_nested, most_value, AreFair, IsBook}
 use Rattle.nv_book.specs.Outputs.{nobody_told, Plays, AreOutputs, IsSessionOf}
 use Rattle.nv_book.specs.Writing.{IsUnfitAt}

@@ -3,7 +3,7 @@ use Rattle.std.specs.Prelude.{◌≡◌, ℕ, false, List, [], ◌∷◌, ◌++�
 use Rattle.nv_value.specs.Content.{Tree}
 use Rattle.nv_world.specs.Steps.{AreLastSplices}
 use Rattle.nv_world.specs.Worlds.{WorldRecord, model_of, with_entry}
-use Rattle.nv_world.specs.declared.entry.Entry.{Entry}
+use Rattle.nv_core.specs.declared.entry.Entry.{Entry}
 use Rattle.nv_world.specs.declared.step.Step.{Step}
 use Rattle.nv_book.specs.Books.{Recorded, front_values, AreFair}
 use Rattle.nv_book.specs.Headings.{heading_in}

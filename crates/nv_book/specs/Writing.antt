@@ -3,7 +3,7 @@ use Rattle.std.specs.Prelude.{◌≡◌, ℕ, ◌+◌, List, [], ◌∷◌, ◌+
 use Rattle.std.specs.Io.KnownBytes.{append_known}
 use Rattle.nv_value.specs.Content.{Tree}
 use Rattle.nv_history.specs.Events.{Entry}
-use Rattle.nv_world.specs.declared.story.Start.{Start}
+use Rattle.nv_core.specs.declared.start.Start.{Start}
 use Rattle.nv_book.specs.Books.{IsFitEntry, Recorded, entries_of_records, bytes_of_book, front_values, book_values, shortest_of_all}
 use Rattle.nv_book.specs.Outputs.{AreOutputs, replay_values}
 

@@ -2,11 +2,11 @@
 ghost use Rattle.std.specs.Prelude.{◌≡◌, IfOk};
 ghost use Rattle.nv_value.specs.View.{contents};
 ghost use Rattle.nv_rpc.specs.Frames.{call_of_frame};
-ghost use Rattle.nv_world.specs.Contents.{plain_event};
+ghost use Rattle.nv_core.specs.Contents.{plain_event};
 
+use nv_core::Event;
 use nv_rpc::Frame;
 use nv_value::Items;
-use nv_world::Event;
 use std::alloc::{AllocError, Global};
 
 /// The same values.

@@ -10,9 +10,10 @@ ghost use Rattle.nv_book.specs.Headings.{asked_in, asking_in, call_in_parts, clo
 ghost use Rattle.nv_book.specs.inside.Heads.{plain_heading};
 
 use crate::copying::copy_of_values;
+use nv_core::{Entry, Event};
 use nv_rpc::Frame;
 use nv_value::{Bytes, Items, Value};
-use nv_world::{Entry, Event, LEAST_OUTBOX, MOST_OUTBOX};
+use nv_world::{LEAST_OUTBOX, MOST_OUTBOX};
 use std::alloc::{AllocError, Global};
 
 /// An entry of a book, and of how many pieces its output is.

@@ -2,15 +2,17 @@
 ghost use Rattle.std.specs.Prelude.{◌≡◌, ◌≤◌, [], false, None, Some, Err, IfOk, OnOk};
 ghost use Rattle.nv_painter.specs.Spoken.{IsSoundIfThere};
 ghost use Rattle.nv_history.specs.Worlds.{World as ModelWorld, step, world_made};
-ghost use Rattle.nv_world.specs.Contents.{plain_event, scene_given};
-ghost use Rattle.nv_world.specs.Worlds.{GivesSendable, IsLightEvent, IsOutboxSize, model_of, with_entry};
+ghost use Rattle.nv_core.specs.Contents.{plain_event, scene_given};
+ghost use Rattle.nv_core.specs.Bounds.{GivesSendable, IsLightEvent};
+ghost use Rattle.nv_world.specs.Worlds.{IsOutboxSize, model_of, with_entry};
 ghost use Rattle.nv_book.specs.Outputs.{IsSessionOf, session_named};
 ghost use Rattle.nv_book.specs.inside.Playing.{GaveOut, MakesNoEntry, PlaysOne};
 
 use crate::speaking::speak_for;
+use nv_core::{Effect, Event, Stop};
 use nv_model::Limits;
 use nv_painter::Painter;
-use nv_world::{Effect, Event, Stop, World};
+use nv_world::World;
 use std::alloc::{AllocError, Global};
 
 /// Why an entry isn't played.

@@ -3,10 +3,11 @@ ghost use Rattle.std.specs.Prelude.{◌≡◌, ◌+◌, ◌^◌, ◌<◌, ◌≤
 ghost use Rattle.nv_io.specs.Faults.{Rose};
 ghost use Rattle.nv_io.specs.Streams.{Gave};
 ghost use Rattle.nv_history.specs.Runs.{run};
-ghost use Rattle.nv_world.specs.Contents.{plain_entries, plain_event};
-ghost use Rattle.nv_world.specs.Worlds.{IsLightEvent, IsOutboxSize, model_of};
+ghost use Rattle.nv_core.specs.Contents.{plain_entries, plain_event};
+ghost use Rattle.nv_core.specs.Bounds.{IsLightEvent};
+ghost use Rattle.nv_world.specs.Worlds.{IsOutboxSize, model_of};
 ghost use Rattle.nv_world.specs.declared.step.Step.{Step as PlainStep};
-ghost use Rattle.nv_world.specs.declared.story.Start.{Start as PlainStart};
+ghost use Rattle.nv_core.specs.declared.start.Start.{Start as PlainStart};
 ghost use Rattle.nv_book.specs.Books.{Recorded};
 ghost use Rattle.nv_book.specs.Reading.{BeginsReplay, IsReplaying, ReadsBook, Replays};
 ghost use Rattle.nv_book.specs.Upcoming.{HasEntered, IsUpcoming, PlaysNext, ReadsNext};
@@ -18,10 +19,11 @@ use crate::intake::Intake;
 use crate::parts::{Part, read_end, read_first, read_part};
 use crate::pieces::read_output;
 use crate::player::{Halt, Player};
+use nv_core::{Entry, Event, History, Start};
 use nv_io::Source;
 use nv_model::Limits;
 use nv_value::Bytes;
-use nv_world::{Entry, Event, History, Start, Step, World};
+use nv_world::{Step, World};
 use std::alloc::{AllocError, Global};
 use std::marker::Model;
 

@@ -3,11 +3,11 @@ ghost use Rattle.std.specs.Prelude.{◌≡◌, ◌<◌, ◌++◌, ℕ, [], lengt
 ghost use Rattle.nv_rpc.specs.Messages.{IsSendable};
 ghost use Rattle.nv_painter.specs.Spoken.{IsSoundIfThere};
 ghost use Rattle.nv_history.specs.Spoken.{told_with};
-ghost use Rattle.nv_world.specs.Contents.{sent_of_shared};
+ghost use Rattle.nv_core.specs.Contents.{sent_of_shared};
 ghost use Rattle.nv_book.specs.inside.Playing.{SpeaksFor, bytes_of_given, told_at};
 
+use nv_core::{Batch, put_messages};
 use nv_painter::{Batch as SpokenBatch, Painter};
-use nv_world::{Batch, put_messages};
 use std::alloc::{AllocError, Global};
 
 // Puts a batch behind what `into` holds: its messages, each in its shortest spelling, and then the

@@ -5,13 +5,13 @@ ghost use Rattle.nv_value.specs.View.{content, contents};
 ghost use Rattle.nv_msgpack.specs.Spelling.{unsigned_number};
 ghost use Rattle.nv_rpc.specs.Frames.{call_of_frame};
 ghost use Rattle.nv_history.specs.Events.{request_of};
-ghost use Rattle.nv_world.specs.Contents.{plain_entry};
+ghost use Rattle.nv_core.specs.Contents.{plain_entry};
 ghost use Rattle.nv_book.specs.Books.{book_end, book_head, entry_head, event_values, letter};
 
 use crate::copying::copy_of_values;
+use nv_core::{Entry, Event};
 use nv_rpc::Frame;
 use nv_value::{Bytes, Items, Value};
-use nv_world::{Entry, Event};
 use std::alloc::{AllocError, Global};
 
 // A string.

@@ -7,8 +7,9 @@ ghost use Rattle.nv_msgpack.specs.Shortest.{HasSpelling, shortest};
 ghost use Rattle.nv_args.specs.Weight.{weight};
 ghost use Rattle.nv_history.specs.Runs.{run};
 ghost use Rattle.nv_history.specs.Worlds.{World as ModelWorld, step, world_made};
-ghost use Rattle.nv_world.specs.Contents.{plain_entries, plain_entry, plain_event};
-ghost use Rattle.nv_world.specs.Worlds.{IsLightEvent, IsOutboxSize, model_of};
+ghost use Rattle.nv_core.specs.Contents.{plain_entries, plain_entry, plain_event};
+ghost use Rattle.nv_core.specs.Bounds.{IsLightEvent};
+ghost use Rattle.nv_world.specs.Worlds.{IsOutboxSize, model_of};
 ghost use Rattle.nv_book.specs.Books.{IsFitEntry, IsFitValue, most_value, output_pieces, shortest_of_all};
 ghost use Rattle.nv_book.specs.Outputs.{session_named};
 ghost use Rattle.nv_book.specs.Writing.{IsUnfitAt, WroteBook, WroteBookFront, WroteReplay, WroteReplayFront};
@@ -21,10 +22,10 @@ use crate::fitness::is_tellable;
 use crate::form::Form;
 use crate::player::{Halt, Player, session_named};
 use crate::values::{book_end, book_head, entry_head, numbered_piece, piece};
+use nv_core::{Entry, Event, History, Start};
 use nv_io::{Sink, put_all};
 use nv_msgpack::encode;
 use nv_value::Value;
-use nv_world::{Entry, Event, History, Start};
 use std::alloc::{AllocError, Global};
 
 /// The most bytes of a piece of an output.

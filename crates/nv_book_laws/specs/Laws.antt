@@ -6,7 +6,7 @@ use Rattle.std.specs.Io.KnownBytes.{append_known}
 use Rattle.nv_msgpack.specs.Shortest.{AreInRange}
 use Rattle.nv_rpc.specs.Calls.{Call, request, notice}
 use Rattle.nv_history.specs.Events.{Event, open_session, request_of, take_of, close_of, Entry}
-use Rattle.nv_world.specs.declared.story.Start.{Start}
+use Rattle.nv_core.specs.declared.start.Start.{Start}
 use Rattle.nv_book.specs.Books.{Recorded, entries_of_records, bytes_of_book, IsFitEntry, IsOutputOf, HasSmallCall, AreFair, IsBook}
 use Rattle.nv_book.specs.Outputs.{AreOutputs}
 use Rattle.nv_book.specs.Writing.{WroteBook}

@@ -3,13 +3,13 @@ ghost use Rattle.std.specs.List.{AllByRecursion};
 ghost use Rattle.nv_value.specs.View.{content, contents, pair_contents};
 ghost use Rattle.nv_msgpack.specs.Shortest.{AreInRange, IsInRange};
 ghost use Rattle.nv_rpc.specs.Frames.{call_of_frame};
-ghost use Rattle.nv_world.specs.Contents.{plain_entries, plain_entry};
+ghost use Rattle.nv_core.specs.Contents.{plain_entries, plain_entry};
 ghost use Rattle.nv_book.specs.Books.{HasSmallMsgid};
 ghost use Rattle.nv_book_laws.specs.Laws.{HasTypedArguments, IsTypedEntry};
 
+use nv_core::{Entry, Event};
 use nv_rpc::Frame;
 use nv_value::{Fields, Items, Value};
-use nv_world::{Entry, Event};
 
 // Each number in a value is in the range of its type.
 #[cycle(known)]

@@ -1,5 +1,5 @@
 //! The intake of a stream of calls: how bytes become calls, piece by piece.
-ghost use Rattle.std.specs.Prelude.{◌≡◌, ◌<◌, ◌≤◌, ◌^◌, List, ℕ, [], ◌∷◌, IfOk, OnErr, Err};
+ghost use Rattle.std.specs.Prelude.{◌≡◌, ◌<◌, ◌≤◌, ◌^◌, List, ℕ, [], ◌∷◌, length, IfOk, OnErr, Err};
 ghost use Rattle.std.specs.Bool.{OnTrue, OnFalse};
 ghost use Rattle.std.specs.Io.KnownBytes.{IsAtEnd};
 ghost use Rattle.nv_io.specs.Faults.{Rose};
@@ -87,6 +87,13 @@ impl Intake {
     {
         let taken = self.stream.start() + self.stream.held_len() as u64;
         taken < MOST_TAKEN
+    }
+
+    /// How many bytes came that aren't given yet.
+    pub fn held_len(&self) -> usize
+        ensures { result ≡ length self.now.held }
+    {
+        self.stream.held_len()
     }
 
     /// Takes the next piece of the bytes from `input`, by one read of at most 65,536 bytes.

@@ -26,3 +26,4 @@ pub mod Undone
 pub mod MarksDone
 pub mod Clearing
 pub mod Giving
+pub mod NotesKept

@@ -43,8 +43,8 @@ abbrev pub IsOfGroups : List NamedGroup → Mark → Type 0
 IsOfGroups groups k = IfSome k.paint (λ p. HasGroup groups p.group)
 
 -- Buffers stand by rising handles below the next one; each window shows a live one; the groups of
--- marks are there; the screen has the least size of the UIs. (The windows, the groups and each
--- buffer keep to rules of their own.)
+-- marks are there; the screen has the least size of the UIs. (The windows, the groups, the virtual
+-- texts, whose groups are there, and each buffer keep to rules of their own.)
 pub record IsSoundEditor (e : PresentEditor) : Type 0 where
   pub workspace : IsSoundWorkspace e.stage.workspace
   pub rising : IsRisingFrom (pos 1) (handles_of e.buffers)

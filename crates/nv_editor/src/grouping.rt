@@ -18,7 +18,8 @@ impl Stage {
         ensures there { IfOk result (λ id. HasGroup self.new.groups id) }
         ensures err { OnErr result (self.new ≡ self.old) }
     {
-        self.groups.id_of(name)
+        let id = self.groups.id_of(name)?;
+        Ok(id)
     }
 
     fn put_group(&mut self, id: u32, group: Group)

@@ -2,7 +2,8 @@
 ghost use Rattle.std.specs.Prelude.{◌≡◌, ◌≤◌, ◌++◌, ◌∷◌, [], length, map, take, OnOk, OnErr};
 ghost use Rattle.nv_editor.specs.Facts.{fact_of};
 
-use nv_buffer::{LineList, Spliced};
+use nv_buffer::Spliced;
+use nv_lines::Excerpt;
 use std::alloc::{AllocError, Global};
 use std::marker::Model;
 
@@ -10,11 +11,11 @@ use std::marker::Model;
 #[derive(Drop)]
 pub enum Fact {
     /// The session of the call attaches to a buffer at this changedtick, with its lines where they
-    /// are to be sent.
+    /// are to be sent, which share the tables of the text.
     Attached {
         buffer: i64,
         tick: i64,
-        whole: Option<LineList>,
+        whole: Option<Excerpt>,
     },
     /// The session of the call detaches from a buffer.
     Detached {

@@ -15,6 +15,7 @@ mod making;
 mod marks;
 mod names;
 mod naming;
+mod noting;
 mod sealing;
 mod stage;
 mod text;

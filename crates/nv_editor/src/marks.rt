@@ -23,6 +23,7 @@ impl Editor {
         requires shown { mark.hidden ≡ false }
         requires few { (content_at self.old buffer).marks.settings < most_settings }
         ensures done { OnOk result (Does (mark_set buffer mark ∷ []) self.old self.new) }
+        ensures stage { OnOk result (self.new.stage ≡ self.old.stage) }
         ensures err { OnErr result (self.new ≡ self.old) }
     {
         self.buffers.set_mark(buffer, mark)?;

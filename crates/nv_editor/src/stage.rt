@@ -1,4 +1,5 @@
 //! All of an editor but its buffers.
+ghost use Rattle.nv_notes.specs.Notes.{AreNotesOf};
 ghost use Rattle.std.specs.Prelude.{◌≡◌, ◌+ℤ◌, ◌<ℤ◌, pos, IfOk};
 ghost use Rattle.nv_model.specs.Stage.{fresh_stage, in_workspace};
 ghost use Rattle.nv_windows.specs.Operations.{with_buffer_instead};
@@ -7,17 +8,19 @@ ghost use Rattle.nv_windows.specs.Workspace.{current_buffer};
 use crate::naming::Namespaces;
 use nv_hl::Groups;
 use nv_model::{Limits, Ui};
+use nv_notes::Notes;
 use nv_windows::Windows;
 use std::alloc::{AllocError, Global};
 use std::marker::Model;
 
-/// Windows and tabpages, namespaces, groups, UIs by rising sessions, the next buffer's handle and
-/// the limits.
+/// Windows and tabpages, namespaces, groups, virtual texts, UIs by rising sessions, the next
+/// buffer's handle and the limits.
 #[derive(Drop)]
 pub struct Stage {
     pub(crate) windows: Windows,
     pub(crate) namespaces: Namespaces,
     pub(crate) groups: Groups,
+    pub(crate) notes: Notes,
     pub(crate) uis: Vec<Ui>,
     pub(crate) next_buffer: i64,
     pub(crate) limits: Limits,
@@ -37,10 +40,15 @@ impl Model for Stage {
       workspace = s.windows;
       namespaces = s.namespaces;
       groups = s.groups;
+      notes = s.notes;
       uis = s.uis.items;
       next_buffer = s.next_buffer;
       limits = s.limits;
     } };
+
+    ghost use Rattle.nv_notes.specs.Notes.{AreNotesOf};
+
+    ghost invariant = { λ s. AreNotesOf s.groups s.notes };
 }
 
 impl Stage {
@@ -54,6 +62,7 @@ impl Stage {
             windows,
             namespaces: Namespaces::new(alloc),
             groups,
+            notes: Notes::new(alloc),
             uis: Vec::new(alloc),
             next_buffer: 2,
             limits,
@@ -76,6 +85,13 @@ impl Stage {
         ensures { result.now ≡ self.now.groups }
     {
         &self.groups
+    }
+
+    pub fn notes(&self) -> &Notes
+        ensures notes { result.now ≡ self.now.notes }
+        ensures groups { AreNotesOf self.now.groups self.now.notes }
+    {
+        &self.notes
     }
 
     pub fn uis(&self) -> &[Ui]

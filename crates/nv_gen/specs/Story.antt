@@ -2,7 +2,7 @@
 use Rattle.std.specs.Prelude.{ℕ, suc, List, [], ◌∷◌, ◌++◌}
 use Rattle.nv_rpc.specs.Calls.{request}
 use Rattle.nv_history.specs.Events.{Event, Entry, open_session, request_of, take_of, close_of}
-use Rattle.nv_world.specs.Worlds.{IsLightEvent}
+use Rattle.nv_core.specs.Bounds.{IsLightEvent}
 use Rattle.nv_gen.specs.Draws.{several}
 use Rattle.nv_gen.specs.Questions.{Question, first_questions, drawn_round}
 

@@ -1,7 +1,7 @@
 //! The script of a number.
 ghost use Rattle.std.specs.Prelude.{◌≡◌, ◌++◌, ◌≤◌, [], ◌∷◌, IfOk, OnOk};
 ghost use Rattle.std.specs.List.{AllByRecursion};
-ghost use Rattle.nv_world.specs.Contents.{plain_entries, plain_event};
+ghost use Rattle.nv_core.specs.Contents.{plain_entries, plain_event};
 ghost use Rattle.nv_gen.specs.Questions.{to_follow_buffer, to_show_12_rows, to_name_marks};
 ghost use Rattle.nv_gen.specs.Story.{IsLightEntry, entry_by, script_of, three_opens, three_closes, turns_from, questions_in};
 ghost use Rattle.nv_gen.specs.inside.Views.{question_seen};
@@ -9,9 +9,9 @@ ghost use Rattle.nv_gen.specs.inside.Views.{question_seen};
 use crate::asking::{Asked, ask, number, pair, string};
 use crate::draws::Draws;
 use crate::rounds::round;
+use nv_core::{Entry, Event};
 use nv_rpc::Frame;
 use nv_value::{Pair, Value};
-use nv_world::{Entry, Event};
 use std::alloc::{AllocError, Global};
 
 // How many rounds a script has.

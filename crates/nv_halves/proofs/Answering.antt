@@ -16,17 +16,19 @@ use Rattle.nv_history.specs.Sessions.{Session}
 use Rattle.nv_history.specs.Worlds.{World, Outcome, refuses, idles, becomes, session_of, step, world_made, is_nothing_due, is_scene_due, held_outcome, live_request_outcome, request_outcome, empty_take_outcome, some_take_outcome, take_outcome, live_close_outcome, close_outcome}
 use Rattle.nv_history.specs.Asking.{own, call_if, calls_in, calls_of}
 use Rattle.nv_history.specs.Spoken.{ShowsIfGiven}
-use Rattle.nv_world.specs.Contents.{plain_cause, IsEffect}
-use Rattle.nv_world.specs.Outcomes.{effect_of_taken}
-use Rattle.nv_world.specs.Worlds.{GivesSendable}
-use Rattle.nv_world.specs.declared.calls.Taken.{Taken}
-use Rattle.nv_world.specs.declared.calls.Taken.TheVariants as taken
-use Rattle.nv_world.specs.declared.calls.Untaken.{Untaken}
-use Rattle.nv_world.specs.declared.effect.Effect.{Effect as WorldEffect}
-use Rattle.nv_world.specs.declared.effect.Effect.TheVariants as effect
-use Rattle.nv_world.specs.declared.story.Start.{Start}
-use Rattle.nv_halves.specs.Passes.{WorldPass, world_of_run, OfEach, IsFromReader, IsClosedBy, IsOver}
-use Rattle.nv_halves.specs.Applying.{Visit, visit, AddsEvent, HasEffect, AppliesOnce}
+use Rattle.nv_core.specs.Contents.{plain_cause, IsEffect}
+use Rattle.nv_core.specs.Outcomes.{effect_of_taken}
+use Rattle.nv_core.specs.Bounds.{GivesSendable}
+use Rattle.nv_core.specs.declared.calls.Taken.{Taken}
+use Rattle.nv_core.specs.declared.calls.Taken.TheVariants as taken
+use Rattle.nv_core.specs.declared.calls.Untaken.{Untaken}
+use Rattle.nv_core.specs.declared.effect.Effect.{Effect as WorldEffect}
+use Rattle.nv_core.specs.declared.effect.Effect.TheVariants as effect
+use Rattle.nv_core.specs.declared.start.Start.{Start}
+use Rattle.nv_halves.specs.Passes.{WorldPass, OfEach, IsFromReader, IsClosedBy, IsOver}
+use Rattle.nv_core.specs.Starts.{world_of_run}
+use Rattle.nv_core.specs.Visits.{Visit, AddsEvent, HasEffect}
+use Rattle.nv_halves.specs.Applying.{visit, AppliesOnce}
 use Rattle.nv_halves.specs.Halves.{Asks, Goes}
 use Rattle.nv_halves.specs.inside.Insisting.{Stays, CallsWith, AsksOnce, TriesCall, ClosesWith, ClosesOnce, Shuts, TriesClose}
 use Rattle.nv_halves.specs.inside.Taking.{TakesWith, TakesOnce}

@@ -13,8 +13,9 @@ use Rattle.nv_history.specs.Worlds.{World, fresh_world, Outcome, becomes, step, 
 use Rattle.nv_history.specs.Runs.{TakenBatch, rest_in, batch_if, batch_of, given, out_from}
 use Rattle.nv_history.specs.Asking.{own, is_take_of, takes_by}
 use Rattle.nv_history.proofs.GoingRuns.{out-append}
-use Rattle.nv_world.specs.declared.story.Start.{Start}
-use Rattle.nv_halves.specs.Passes.{world_of_run, out_of, EachEvent, Gained, GainedEach}
+use Rattle.nv_core.specs.declared.start.Start.{Start}
+use Rattle.nv_core.specs.Starts.{world_of_run, out_of}
+use Rattle.nv_halves.specs.Passes.{EachEvent, Gained, GainedEach}
 use Rattle.nv_halves.specs.inside.Taking.{IsExact}
 use Rattle.nv_halves.proofs.Staying.{on_way}
 

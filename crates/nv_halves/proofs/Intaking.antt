@@ -5,14 +5,14 @@ use Rattle.nv_io.specs.declared.lanes.Flaw.{Flaw}
 use Rattle.nv_io.specs.declared.lanes.Flaw.TheVariants.{Bad, TooDeep, TooLong, Inside, NoCall}
 use Rattle.nv_turn.specs.Passes.{IsSamePass}
 use Rattle.nv_rpc.specs.Calls.{Call, request, notice}
-use Rattle.nv_world.specs.Contents.{plain_cause}
-use Rattle.nv_world.specs.Worlds.{IsLightCall}
+use Rattle.nv_core.specs.Contents.{plain_cause}
+use Rattle.nv_core.specs.Bounds.{IsLightCall}
 use Rattle.nv_calls.specs.Reading.{EndsAt, ReadsFrom, WasRead, IsUnfinished, IfInside}
 use Rattle.nv_calls.specs.Intakes.{IntakeState, IsShortCall, GivesCall, with_more, fresh_intake, came}
 use Rattle.nv_calls.proofs.Giving.{calls_read, inside_by, gave_none, gave_fresh, gave_one, gave_fed, gave_then, gave_on, reads_behind, begins_behind, came_more, came_all}
 use Rattle.nv_halves.specs.Passes.{WorldPass}
 use Rattle.nv_halves.specs.Halves.{Asks, AsksAll, AsksSome, Goes, ReadBy, ReadsHalf}
-use Rattle.nv_halves.specs.inside.Insisting.{AsksOnce, Shuts}
+use Rattle.nv_halves.specs.inside.Insisting.{AsksOnce, Shuts, Stays}
 use Rattle.nv_halves.specs.inside.Intakes.{MakesCalls, MakesAll, StopsIn, reader_end_by_flaw, step_of_asked, Steps, MakesHeld, MakesPiece, end_after_close, ClosesAfter}
 use Rattle.nv_halves.specs.declared.ends.ReaderEnd.{ReaderEnd}
 use Rattle.nv_halves.specs.declared.ends.ReaderEnd.TheVariants as reader
@@ -51,6 +51,13 @@ makes_on bytes first second third p q t session g h = record {
   gave = gave_on g.calls h.calls bytes first second third g.gave h.gave;
   asks = asks_then p q t session g.calls h.calls g.asks h.asks;
 }
+
+-- more bytes are needed, and the pass may have seen more
+pub makes_waits : (bytes : List ℕ) (first second third : IntakeState) (p q t : WorldPass) (session : ℕ) → MakesCalls bytes first second p q session → third ≡ second → Stays q t
+    → MakesCalls bytes first third p t session
+makes_waits bytes first second third p q t session g e stays =
+    subst (λ (x : IntakeState). MakesCalls bytes first x p t session) (sym e)
+    (makes_on bytes first second second p q t session g (record { calls = []; gave = gave_none second; asks = asks_stays q t session stays }))
 
 -- a piece came, and that many bytes more
 pub made_more : (piece : List ℕ) (old new : IntakeState) (p q : WorldPass) (session : ℕ) → MakesCalls (old.held ++ piece) old new p q session → came new ≡ came old + length piece

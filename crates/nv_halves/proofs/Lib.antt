@@ -1,5 +1,5 @@
 pub mod Plains
-pub mod Refusing
+pub mod Comings
 pub mod Onces
 pub mod Staying
 pub mod Exactness

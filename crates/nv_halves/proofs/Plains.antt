@@ -1,18 +1,15 @@
 -- Entries of a world, and passes to it, as plain data.
-use Rattle.std.proofs.Common.{◌≡◌, ℕ, ◌==◌, Bool, true, false, cond, List, [], ◌∷◌, ◌++◌, map, refl, ap, sym, ◌∙◌}
+use Rattle.std.proofs.Common.{◌≡◌, ℕ, ◌==◌, Bool, true, false, cond, List, [], ◌∷◌, ◌++◌, refl, ap, sym, ◌∙◌}
 use mathlib.Core.List.{IsPrefix}
 use Rattle.nv_turn.specs.Story.{entries_by}
 use Rattle.nv_turn.specs.Passes.{PassState, IsSamePass}
 use Rattle.nv_history.specs.Events.{Entry}
 use Rattle.nv_history.specs.Asking.{own}
-use Rattle.nv_world.specs.Contents.{plain_entry, plain_entries}
-use Rattle.nv_world.specs.declared.entry.Entry.{Entry as WorldEntry}
-use Rattle.nv_world.specs.declared.story.Start.{Start}
+use Rattle.nv_core.specs.Contents.{plain_entry, plain_entries}
+use Rattle.nv_core.specs.declared.entry.Entry.{Entry as WorldEntry}
+use Rattle.nv_core.specs.declared.start.Start.{Start}
 use Rattle.nv_halves.specs.Passes.{plain_pass}
-
--- the number of the caller of an entry
-abbrev pub caller_of : WorldEntry → ℕ
-caller_of e = e.caller
+use Rattle.nv_core.specs.Gains.{caller_of}
 
 kept : (b : Bool) (e : WorldEntry) (plain : List Entry) (es : List WorldEntry) → plain ≡ plain_entries es → cond b (plain_entry e ∷ plain) plain ≡ plain_entries (cond b (e ∷ es) es)
 kept true e plain es h = ap (λ (l : List Entry). plain_entry e ∷ l) h

@@ -12,8 +12,9 @@ use Rattle.nv_history.specs.Runs.{run, run_from, out_from, all_messages}
 use Rattle.nv_history.specs.Laws.{FrontsRun}
 use Rattle.nv_history.proofs.GoingOn.{PlaceGoesOn}
 use Rattle.nv_history.proofs.GoingRuns.{run-append, fronts_run, run_goes}
-use Rattle.nv_world.specs.declared.story.Start.{Start}
-use Rattle.nv_halves.specs.Passes.{world_of_run, OfEach, IsClosedBy, IsOver}
+use Rattle.nv_core.specs.declared.start.Start.{Start}
+use Rattle.nv_core.specs.Starts.{world_of_run}
+use Rattle.nv_halves.specs.Passes.{OfEach, IsClosedBy, IsOver}
 
 -- the world on the way of a history that goes on
 pub record OnWay (start : Option Start) (front more : List Entry) (v : World) : Type 0 where

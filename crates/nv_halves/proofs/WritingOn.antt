@@ -9,14 +9,15 @@ use Rattle.nv_history.specs.Runs.{TakenBatch}
 use Rattle.nv_history.specs.Asking.{own, takes_by}
 use Rattle.nv_history.specs.Spoken.{events_of, told_with, IsSpoken, AreSpoken, AreBytesOf}
 use Rattle.nv_history.proofs.SpokenParts.{spoken_none, spoken-push}
-use Rattle.nv_world.specs.Contents.{plain_cause}
-use Rattle.nv_world.specs.declared.calls.Taken.{Taken}
-use Rattle.nv_world.specs.declared.calls.Taken.TheVariants as taken
-use Rattle.nv_world.specs.declared.calls.Untaken.{Untaken}
-use Rattle.nv_world.specs.declared.effect.Batch.{Batch}
-use Rattle.nv_world.specs.declared.effect.Cause.{Cause as WorldCause}
-use Rattle.nv_world.specs.declared.story.Start.{Start}
-use Rattle.nv_halves.specs.Passes.{WorldPass, world_of_run, out_of, OfEach, IsFromWriter}
+use Rattle.nv_core.specs.Contents.{plain_cause}
+use Rattle.nv_core.specs.declared.calls.Taken.{Taken}
+use Rattle.nv_core.specs.declared.calls.Taken.TheVariants as taken
+use Rattle.nv_core.specs.declared.calls.Untaken.{Untaken}
+use Rattle.nv_core.specs.declared.effect.Batch.{Batch}
+use Rattle.nv_core.specs.declared.effect.Cause.{Cause as WorldCause}
+use Rattle.nv_core.specs.declared.start.Start.{Start}
+use Rattle.nv_halves.specs.Passes.{WorldPass, OfEach, IsFromWriter}
+use Rattle.nv_core.specs.Starts.{world_of_run, out_of}
 use Rattle.nv_halves.specs.Halves.{WroteFront, WritesHalf}
 use Rattle.nv_halves.specs.inside.Insisting.{Stays, ClosesOnce, Shuts, TriesClose}
 use Rattle.nv_speech.specs.Flows.{sent_in, bytes_said}
@@ -319,7 +320,7 @@ pub goes_on : (p q : WorldPass) (s : ℕ) (told now : Told) (out later : Option 
 goes_on p q s told now out later batch b e n first before h = writes_batch first p q s told now before out later batch b e n h
 
 -- nothing was due
-pub idles_on : (p q : WorldPass) (s : ℕ) (told : Told) (out : Option (List ℕ)) → Stays p q → WritesOnce written.Idle p q s told told out out
+pub idles_on : (p q : WorldPass) (s : ℕ) (told : Told) (out : Option (List ℕ)) → Stays p q → WritesOnce written.On p q s told told out out
 idles_on p q s told out k first before h = writes_stay first p q s told before out h k
 
 -- writing failed, or memory was wanting, and then all that was due was dropped

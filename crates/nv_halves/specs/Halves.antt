@@ -10,8 +10,9 @@ use Rattle.nv_history.specs.Events.{Entry, Cause, closed_at}
 use Rattle.nv_history.specs.Worlds.{World}
 use Rattle.nv_history.specs.Asking.{takes_by, calls_of}
 use Rattle.nv_history.specs.Spoken.{AreBytesOf}
-use Rattle.nv_world.specs.Contents.{plain_cause}
-use Rattle.nv_halves.specs.Passes.{WorldPass, out_of, OfEach, IsFromReader, IsFromWriter, GainedEach, IsClosedBy, IsOver}
+use Rattle.nv_core.specs.Contents.{plain_cause}
+use Rattle.nv_halves.specs.Passes.{WorldPass, OfEach, IsFromReader, IsFromWriter, GainedEach, IsClosedBy, IsOver}
+use Rattle.nv_core.specs.Starts.{out_of}
 use Rattle.nv_calls.specs.Reading.{Reads, BeginWithCalls, WasRead, IsUnfinished, IfInside}
 use Rattle.nv_halves.specs.declared.ends.ReaderEnd.{ReaderEnd}
 use Rattle.nv_halves.specs.declared.ends.ReaderEnd.TheVariants as r

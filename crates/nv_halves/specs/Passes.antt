@@ -1,16 +1,15 @@
 -- Passes to the world behind a turn, as plain data, and what they gain (own rule).
-use Rattle.std.specs.Prelude.{◌≡◌, ℕ, List, [], ◌∷◌, ◌++◌, Option, Some, None}
+use Rattle.std.specs.Prelude.{◌≡◌, ℕ, List, [], ◌∷◌, ◌++◌, Option, Some}
 use mathlib.Core.List.{IsPrefix}
 use Rattle.nv_turn.specs.Passes.{PassState}
 use Rattle.nv_history.specs.Events.{Event, open_session, request_of, take_of, close_of, Entry, Cause}
 use Rattle.nv_history.specs.Sessions.{Session}
 use Rattle.nv_history.specs.Worlds.{World, session_of}
-use Rattle.nv_history.specs.Runs.{TakenBatch, run, out}
 use Rattle.nv_history.specs.Asking.{own}
-use Rattle.nv_world.specs.Contents.{plain_entries}
-use Rattle.nv_world.specs.Worlds.{WorldRecord}
-use Rattle.nv_world.specs.declared.entry.Entry.{Entry as WorldEntry}
-use Rattle.nv_world.specs.declared.story.Start.{Start}
+use Rattle.nv_core.specs.Contents.{plain_entries}
+use Rattle.nv_core.specs.declared.entry.Entry.{Entry as WorldEntry}
+use Rattle.nv_core.specs.declared.start.Start.{Start}
+use Rattle.nv_core.specs.Starts.{world_of_run}
 
 -- a pass to the world, whose entries are plain
 abbrev pub WorldPass : Type 0
@@ -24,19 +23,6 @@ plain_pass p = record {
   seen = plain_entries p.seen;
   start = p.start;
 }
-
--- what a world begins with
-abbrev pub start_of : WorldRecord → Start
-start_of k = record { outbox = k.capacity; limits = k.limits }
-
--- the world after a history, and the batches that a session took in it, where worlds begin so
-abbrev pub world_of_run : Option Start → List Entry → Option World
-world_of_run None history = None
-world_of_run (Some start) history = run start.outbox start.limits history
-
-abbrev pub out_of : Option Start → ℕ → List Entry → List TakenBatch
-out_of None s history = []
-out_of (Some start) s history = out start.outbox start.limits s history
 
 -- this is so of each history that runs and goes on from these entries
 abbrev pub OfEach : Option Start → List Entry → (List Entry → World → Type 0) → Type 0

@@ -1,5 +1,4 @@
 -- What private contracts alone cite.
-pub mod Applied
 pub mod Insisting
 pub mod Taking
 pub mod Intakes

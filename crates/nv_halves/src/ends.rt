@@ -1,7 +1,7 @@
 // How each half of a session ends.
 
+use nv_core::Cause;
 use nv_io::Flaw;
-use nv_world::Cause;
 
 /// How the half that reads ended.
 #[derive(Clone, Copy, Debug, PartialEq, Eq)]

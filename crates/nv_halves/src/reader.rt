@@ -7,35 +7,36 @@ ghost use Rattle.nv_halves.specs.Halves.{LeavesClosed, ReadsHalf};
 ghost use Rattle.nv_calls.specs.Intakes.{fresh_intake};
 ghost use Rattle.nv_halves.specs.inside.Intakes.{ClosesAfter, end_after_close};
 
-use crate::bells::Bell;
+use crate::bells::{Bell, end_call, lane_of, set_asking};
 use crate::ends::ReaderEnd;
 use crate::insisting::{Asked, shut};
 use crate::steps::{end_of, make_piece};
 use nv_calls::Intake;
+use nv_core::Core;
 use nv_io::Source;
 use nv_turn::{Pass, Turn};
-use nv_world::World;
 use std::alloc::Global;
 use std::sync::Wait;
 
 /// The half that reads, once it ended.
 #[derive(Drop)]
-pub struct ReaderHalf<I> {
-    pub pass: Pass<World>,
+pub struct ReaderHalf<C: Core, I> {
+    pub pass: Pass<C>,
     pub input: I,
     pub end: ReaderEnd,
 }
 
 // Takes bytes from `input` and makes the calls in them, up to its end.
-fn read_all<R: Wait, I: Source>(
+fn read_all<R: Wait, C: Core, I: Source>(
     rt: &R,
-    turn: &Turn<World>,
+    turn: &Turn<C>,
     bells: &[Bell],
-    pass: Pass<World>,
+    lane: usize,
+    pass: Pass<C>,
     session: u64,
     mut intake: Intake,
     input: &mut I,
-) -> (Pass<World>, ReaderEnd)
+) -> (Pass<C>, ReaderEnd)
     requires turn { pass.turn ≡ turn.now.turn }
     requires fresh { intake ≡ fresh_intake }
     ensures read { ReadsHalf result.1 (plain_pass pass) (plain_pass result.0) session
@@ -47,7 +48,7 @@ fn read_all<R: Wait, I: Source>(
 {
     let mut pass = pass;
     'pieces: while intake.is_open() {
-        let (next, made) = make_piece(rt, turn, bells, pass, session, &mut intake, input);
+        let (next, made) = make_piece(rt, turn, bells, lane, pass, session, &mut intake, input);
         pass = next;
         match made {
             Ok(()) => {}
@@ -58,15 +59,15 @@ fn read_all<R: Wait, I: Source>(
 }
 
 // Takes the memory that reading needs, and reads.
-fn read_session<R: Wait, I: Source>(
+fn read_session<R: Wait, C: Core, I: Source>(
     rt: &R,
     alloc: Global,
-    turn: &Turn<World>,
+    turn: &Turn<C>,
     bells: &[Bell],
-    pass: Pass<World>,
+    pass: Pass<C>,
     session: u64,
     input: &mut I,
-) -> (Pass<World>, ReaderEnd)
+) -> (Pass<C>, ReaderEnd)
     requires { pass.turn ≡ turn.now.turn }
     ensures read { ReadsHalf result.1 (plain_pass pass) (plain_pass result.0) session
         (I.words input.old).taken (I.words input.new).taken (I.words input.old).left
@@ -78,7 +79,11 @@ fn read_session<R: Wait, I: Source>(
     let Ok(intake) = Intake::new(alloc) else {
         return (pass, ReaderEnd::NoMemory);
     };
-    read_all(rt, turn, bells, pass, session, intake, input)
+    let lane = lane_of(bells, session);
+    let (pass, end) = read_all(rt, turn, bells, lane, pass, session, intake, input);
+    set_asking(bells, lane, false);
+    end_call(bells, lane);
+    (pass, end)
 }
 
 // How a reader ends that was to close its session.
@@ -94,14 +99,14 @@ fn end_after(end: ReaderEnd, asked: Asked) -> ReaderEnd
 }
 
 // Closes the session of a reader that ended, unless it is gone.
-fn close<R: Wait>(
+fn close<R: Wait, C: Core>(
     rt: &R,
-    turn: &Turn<World>,
+    turn: &Turn<C>,
     bells: &[Bell],
-    pass: Pass<World>,
+    pass: Pass<C>,
     session: u64,
     end: ReaderEnd,
-) -> (Pass<World>, ReaderEnd)
+) -> (Pass<C>, ReaderEnd)
     requires { pass.turn ≡ turn.now.turn }
     ensures { ClosesAfter end result.1 (plain_pass pass) (plain_pass result.0) session }
 {
@@ -116,15 +121,15 @@ fn close<R: Wait>(
 /// by one event under the turn; it decodes outside the turn. A call that is held waits, and is made
 /// before the next one. After a flaw, the end of the bytes, a fault of `input` or want of memory
 /// the half closes the session, unless that was closed before.
-pub fn reader_half<R: Wait, I: Source>(
+pub fn reader_half<R: Wait, C: Core, I: Source>(
     rt: &R,
     alloc: Global,
-    turn: &Turn<World>,
+    turn: &Turn<C>,
     bells: &[Bell],
-    pass: Pass<World>,
+    pass: Pass<C>,
     session: u64,
     mut input: I,
-) -> ReaderHalf<I>
+) -> ReaderHalf<C, I>
     requires { pass.turn ≡ turn.now.turn }
     ensures pass { IsSamePass (plain_pass pass) (plain_pass result.pass) }
     ensures read { ReadsHalf result.end (plain_pass pass) (plain_pass result.pass) session
@@ -142,14 +147,14 @@ pub fn reader_half<R: Wait, I: Source>(
 
 /// The half that reads where no thread could be had for it: it reads nothing, and closes the
 /// session, unless that was closed before.
-pub fn unread_half<R: Wait, I: Source>(
+pub fn unread_half<R: Wait, C: Core, I: Source>(
     rt: &R,
-    turn: &Turn<World>,
+    turn: &Turn<C>,
     bells: &[Bell],
-    pass: Pass<World>,
+    pass: Pass<C>,
     session: u64,
     input: I,
-) -> ReaderHalf<I>
+) -> ReaderHalf<C, I>
     requires { pass.turn ≡ turn.now.turn }
     ensures pass { IsSamePass (plain_pass pass) (plain_pass result.pass) }
     ensures read { ReadsHalf result.end (plain_pass pass) (plain_pass result.pass) session

@@ -9,9 +9,9 @@ ghost use Rattle.nv_speech.specs.Flows.{bytes_said, sent_in};
 ghost use Rattle.nv_halves.specs.inside.Taking.{IsCutOff, writer_end_unsaid};
 
 use crate::ends::WriterEnd;
+use nv_core::Batch;
 use nv_io::{Sink, put_all};
 use nv_speech::{Unsaid, Voice, say};
-use nv_world::Batch;
 use std::alloc::Global;
 
 // How a writer ends whose batch didn't go out whole.

@@ -12,11 +12,11 @@ ghost use Rattle.nv_halves.specs.inside.Intakes.{HoldsPiece, MakesHeld, MakesPie
 
 use crate::bells::Bell;
 use crate::ends::ReaderEnd;
-use crate::insisting::{Asked, ask};
+use crate::insisting::{Asked, ask, wake_behind};
 use nv_calls::{Intake, NextCall, Unfed};
+use nv_core::Core;
 use nv_io::Source;
 use nv_turn::{Pass, Turn};
-use nv_world::World;
 use std::sync::Wait;
 
 /// What a step over what is held did.
@@ -41,14 +41,15 @@ fn stepped_by(asked: Asked) -> Stepped
 }
 
 // Makes the next call of what an intake holds.
-fn step<R: Wait>(
+fn step<R: Wait, C: Core>(
     rt: &R,
-    turn: &Turn<World>,
+    turn: &Turn<C>,
     bells: &[Bell],
-    pass: Pass<World>,
+    lane: usize,
+    pass: Pass<C>,
     session: u64,
     intake: &mut Intake,
-) -> (Pass<World>, Stepped)
+) -> (Pass<C>, Stepped)
     requires turn { pass.turn ≡ turn.now.turn }
     requires live { IsLive intake.old }
     ensures steps { Steps result.1 intake.old intake.new (plain_pass pass) (plain_pass result.0)
@@ -60,23 +61,28 @@ fn step<R: Wait>(
     };
     match next {
         NextCall::Call(call) => {
-            let (pass, asked) = ask(rt, turn, bells, pass, session, call);
+            let at_hand = intake.held_len();
+            let (pass, asked) = ask(rt, turn, bells, lane, pass, session, call, at_hand);
             (pass, stepped_by(asked))
         }
-        NextCall::More => (pass, Stepped::Waits),
+        NextCall::More => {
+            let pass = wake_behind(rt, turn, bells, lane, pass, intake.held_len());
+            (pass, Stepped::Waits)
+        }
         NextCall::Flaw(flaw) => (pass, Stepped::Ends(ReaderEnd::Malformed(flaw))),
     }
 }
 
 // Makes the calls of what an intake holds, one after another.
-fn make_held<R: Wait>(
+fn make_held<R: Wait, C: Core>(
     rt: &R,
-    turn: &Turn<World>,
+    turn: &Turn<C>,
     bells: &[Bell],
-    pass: Pass<World>,
+    lane: usize,
+    pass: Pass<C>,
     session: u64,
     intake: &mut Intake,
-) -> (Pass<World>, Result<(), ReaderEnd>)
+) -> (Pass<C>, Result<(), ReaderEnd>)
     requires turn { pass.turn ≡ turn.now.turn }
     requires live { IsLive intake.old }
     ensures makes { MakesHeld ⊥ result.1 intake.old.held intake.old intake.new (plain_pass pass)
@@ -85,7 +91,7 @@ fn make_held<R: Wait>(
 {
     let mut pass = pass;
     'calls: loop {
-        let (next, stepped) = step(rt, turn, bells, pass, session, intake);
+        let (next, stepped) = step(rt, turn, bells, lane, pass, session, intake);
         pass = next;
         match stepped {
             Stepped::On => {}
@@ -132,15 +138,16 @@ fn take_piece<R, I: Source>(rt: &R, intake: &mut Intake, input: &mut I) -> Resul
 }
 
 /// Takes a piece and makes the calls that are whole by it.
-pub(crate) fn make_piece<R: Wait, I: Source>(
+pub(crate) fn make_piece<R: Wait, C: Core, I: Source>(
     rt: &R,
-    turn: &Turn<World>,
+    turn: &Turn<C>,
     bells: &[Bell],
-    pass: Pass<World>,
+    lane: usize,
+    pass: Pass<C>,
     session: u64,
     intake: &mut Intake,
     input: &mut I,
-) -> (Pass<World>, Result<(), ReaderEnd>)
+) -> (Pass<C>, Result<(), ReaderEnd>)
     requires turn { pass.turn ≡ turn.now.turn }
     requires live { IsLive intake.old }
     requires waits { WantsMore intake.old }
@@ -157,5 +164,5 @@ pub(crate) fn make_piece<R: Wait, I: Source>(
     if let Err(end) = take_piece(rt, intake, input) {
         return (pass, Err(end));
     }
-    make_held(rt, turn, bells, pass, session, intake)
+    make_held(rt, turn, bells, lane, pass, session, intake)
 }

@@ -4,26 +4,26 @@ ghost use Rattle.std.specs.Prelude.{◌≡◌, ◌<◌, ◌≤◌, length};
 ghost use Rattle.nv_io.specs.Faults.{Rose};
 ghost use Rattle.nv_linegrid.specs.Told.{nothing_told};
 ghost use Rattle.nv_turn.specs.Passes.{IsSamePass};
+ghost use Rattle.nv_core.specs.Gains.{GainsIn};
+ghost use Rattle.nv_halves.specs.inside.Taking.{TakesWith, Drops, TakesOnce, WritesOnce};
 ghost use Rattle.nv_halves.specs.Passes.{plain_pass};
 ghost use Rattle.nv_halves.specs.Halves.{WritesHalf};
-ghost use Rattle.nv_halves.specs.inside.Applied.{GainsIn};
-ghost use Rattle.nv_halves.specs.inside.Taking.{Drops, TakesOnce, TakesWith, WritesOnce};
 
-use crate::bells::{Bell, Lanes, lanes_if_spent, ring, tell_taken};
+use crate::bells::{Bell, Lanes, lanes_if_closed, ring};
 use crate::ends::WriterEnd;
 use crate::insisting::try_close;
 use crate::sending::send;
+use nv_core::{Core, Taken, Untaken};
 use nv_io::Sink;
 use nv_speech::Voice;
 use nv_turn::{Pass, Turn};
-use nv_world::{Taken, Untaken, World};
 use std::alloc::Global;
 use std::sync::Wait;
 
 /// The half that writes, once it ended.
 #[derive(Drop)]
-pub struct WriterHalf<S> {
-    pub pass: Pass<World>,
+pub struct WriterHalf<C: Core, S> {
+    pub pass: Pass<C>,
     pub output: S,
     pub end: WriterEnd,
 }
@@ -31,48 +31,54 @@ pub struct WriterHalf<S> {
 /// What came of one take.
 #[derive(Clone, Copy, Debug, PartialEq, Eq)]
 pub enum Written {
-    /// What was due went out.
+    /// What was due, if anything was, went out.
     On,
-    /// Nothing was due.
-    Idle,
     Ends(WriterEnd),
 }
 
-// Takes what is due to a session in the world in hand, and tells whom that wakes.
-fn take_in(world: &mut World, caller: u32, session: u64) -> (Result<Taken, Untaken>, Lanes)
-    ensures { GainsIn world.old world.new caller (TakesWith result.0 session) }
+// Takes what is due to a session in the world in hand, and tells whom that wakes: where the session
+// is closed its own writer too, which takes once more.
+fn take_in<R, C: Core>(
+    rt: &R,
+    world: &mut C,
+    caller: u32,
+    session: u64,
+    bells: &[Bell],
+) -> (Result<Taken, Untaken>, Lanes)
+    ensures { GainsIn C.Story.stands C.Story.start world.old world.new caller
+        (TakesWith result.0 session) }
 {
-    let taken = world.take(caller, session);
-    (taken, lanes_if_spent(world))
+    let taken = world.take(rt, caller, session);
+    (taken, lanes_if_closed(world, bells, session))
 }
 
 // Takes what is due to a session.
-fn take_due<R: Wait>(
+fn take_due<R: Wait, C: Core>(
     rt: &R,
-    turn: &Turn<World>,
+    turn: &Turn<C>,
     bells: &[Bell],
-    pass: Pass<World>,
+    pass: Pass<C>,
     session: u64,
-) -> (Pass<World>, Result<Taken, Untaken>)
+) -> (Pass<C>, Result<Taken, Untaken>)
     requires { pass.turn ≡ turn.now.turn }
     ensures { TakesOnce result.1 (plain_pass pass) (plain_pass result.0) session }
 {
     let mut held = turn.enter(rt, pass);
     let number = held.number();
-    let (taken, lanes) = take_in(held.value(), number, session);
+    let (taken, lanes) = take_in(rt, held.value(), number, session, bells);
     let pass = held.leave(rt);
     ring(bells, lanes);
     (pass, taken)
 }
 
 // Closes a session for which no message waits. Where one does the session stays open.
-fn shut_idle<R: Wait>(
+fn shut_idle<R: Wait, C: Core>(
     rt: &R,
-    turn: &Turn<World>,
+    turn: &Turn<C>,
     bells: &[Bell],
-    pass: Pass<World>,
+    pass: Pass<C>,
     session: u64,
-) -> Pass<World>
+) -> Pass<C>
     requires { pass.turn ≡ turn.now.turn }
     ensures { Drops (plain_pass pass) (plain_pass result) session }
 {
@@ -87,13 +93,13 @@ fn is_over(taken: Result<Taken, Untaken>) -> bool {
 
 // Takes all that is due to a session, which nobody is sent, and closes the session, unless
 // something else has: nothing stays in the world for it.
-fn drop_due<R: Wait>(
+fn drop_due<R: Wait, C: Core>(
     rt: &R,
-    turn: &Turn<World>,
+    turn: &Turn<C>,
     bells: &[Bell],
-    pass: Pass<World>,
+    pass: Pass<C>,
     session: u64,
-) -> Pass<World>
+) -> Pass<C>
     requires { pass.turn ≡ turn.now.turn }
     ensures { Drops (plain_pass pass) (plain_pass result) session }
 {
@@ -110,17 +116,18 @@ fn drop_due<R: Wait>(
 
 // Takes what is due to a session, and writes it. Where that fails all that is due is dropped, and
 // the session is closed.
-fn write_once<R: Wait, S: Sink, V: Voice>(
+fn write_once<R: Wait, C: Core, S: Sink, V: Voice>(
     rt: &R,
     alloc: Global,
-    turn: &Turn<World>,
+    turn: &Turn<C>,
     bells: &[Bell],
-    pass: Pass<World>,
+    bell: &Bell,
+    pass: Pass<C>,
     session: u64,
     voice: &mut V,
     room: &mut Vec<u8>,
     output: &mut S,
-) -> (Pass<World>, Written)
+) -> (Pass<C>, Written)
     requires { pass.turn ≡ turn.now.turn }
     ensures turn { result.0.turn ≡ pass.turn }
     ensures writes { WritesOnce result.1 (plain_pass pass) (plain_pass result.0) session
@@ -133,7 +140,7 @@ fn write_once<R: Wait, S: Sink, V: Voice>(
     let (pass, taken) = take_due(rt, turn, bells, pass, session);
     match taken {
         Ok(Taken::Items(batch)) => {
-            tell_taken(bells, session);
+            bell.tell_taken();
             match send(rt, alloc, batch, voice, room, output) {
                 Ok(()) => (pass, Written::On),
                 Err(end) => {
@@ -142,26 +149,26 @@ fn write_once<R: Wait, S: Sink, V: Voice>(
                 }
             }
         }
-        Ok(Taken::Nothing) => (pass, Written::Idle),
+        Ok(Taken::Nothing) => (pass, Written::On),
         Ok(Taken::Over(cause)) => (pass, Written::Ends(WriterEnd::Over(cause))),
-        Err(Untaken::Stranger) => (pass, Written::Idle),
+        Err(Untaken::Stranger) => (pass, Written::On),
         Err(Untaken::NoMemory) => (pass, Written::Ends(WriterEnd::NoMemory)),
     }
 }
 
-// Takes and writes what is due to a session, and sleeps where nothing is, until the session is over
-// or writing fails.
-fn write_all<R: Wait, S: Sink, V: Voice>(
+// Takes and writes what is due to a session, and sleeps until more is, until the session is over or
+// writing fails.
+fn write_all<R: Wait, C: Core, S: Sink, V: Voice>(
     rt: &R,
     alloc: Global,
-    turn: &Turn<World>,
+    turn: &Turn<C>,
     bells: &[Bell],
     lane: usize,
-    pass: Pass<World>,
+    pass: Pass<C>,
     session: u64,
     voice: &mut V,
     output: &mut S,
-) -> (Pass<World>, WriterEnd)
+) -> (Pass<C>, WriterEnd)
     requires turn { pass.turn ≡ turn.now.turn }
     requires lane { lane < length bells.now }
     requires told { V.told voice.old ≡ nothing_told }
@@ -173,15 +180,15 @@ fn write_all<R: Wait, S: Sink, V: Voice>(
 {
     let mut pass = pass;
     let mut room = Vec::new(alloc);
+    let bell = &bells[lane];
     'takes: for _ in rt.forever() {
-        let heard = bells[lane].heard();
+        let heard = bell.heard();
         let (next, written) = write_once(
-            rt, alloc, turn, bells, pass, session, voice, &mut room, output,
+            rt, alloc, turn, bells, bell, pass, session, voice, &mut room, output,
         );
         pass = next;
         match written {
-            Written::On => {}
-            Written::Idle => bells[lane].sleep(rt, heard),
+            Written::On => bell.sleep(rt, heard),
             Written::Ends(end) => return (pass, end),
         }
     }
@@ -190,21 +197,21 @@ fn write_all<R: Wait, S: Sink, V: Voice>(
 
 /// Takes what is due to a session, one batch after another, and writes each to `output` as the
 /// voice speaks it, until the session is over. Each batch is taken under the turn; it is spoken and
-/// written outside it. Where nothing is due the half sleeps on the bell of its lane. After a fault
-/// of `output`, or want of memory, it takes what is due without writing it, and closes the session.
-/// On every way out `output` is finished, so that the half that reads from the same connection
-/// finds its end.
-pub fn writer_half<R: Wait, S: Sink, V: Voice + Drop>(
+/// written outside it. Then the half sleeps on the bell of its lane, until that is rung. After a
+/// fault of `output`, or want of memory, it takes what is due without writing it, and closes the
+/// session. On every way out `output` is finished, so that the half that reads from the same
+/// connection finds its end.
+pub fn writer_half<R: Wait, C: Core, S: Sink, V: Voice + Drop>(
     rt: &R,
     alloc: Global,
-    turn: &Turn<World>,
+    turn: &Turn<C>,
     bells: &[Bell],
     lane: usize,
-    pass: Pass<World>,
+    pass: Pass<C>,
     session: u64,
     mut output: S,
     mut voice: V,
-) -> WriterHalf<S>
+) -> WriterHalf<C, S>
     requires turn { pass.turn ≡ turn.now.turn }
     requires lane { lane < length bells.now }
     requires told { V.told voice ≡ nothing_told }
@@ -226,7 +233,7 @@ pub fn writer_half<R: Wait, S: Sink, V: Voice + Drop>(
         &mut voice,
         &mut output,
     );
-    tell_taken(bells, session);
+    bells[lane].tell_taken();
     output.finish(rt);
     WriterHalf { pass, output, end }
 }

@@ -1,5 +1,5 @@
 -- Lemmas on lists of groups.
-use Rattle.std.proofs.Common.{◌≡◌, ◌<◌, ◌≤◌, ◌+◌, ◌-◌, ◌^◌, ◌↔◌, ℕ, zero, suc, List, [], ◌∷◌, ◌++◌, length, refl, sym, ap, subst, ◌∙◌, arith, Bool, true, false, not, cond, Option, Some, None, All, is_some, option_map, position, slice_get, slice_set, map, eqb, if◌then◌else◌, nat_lt, IfSome, IsSome, ◌||◌}
+use Rattle.std.proofs.Common.{◌≡◌, ◌<◌, ◌≤◌, ◌+◌, ◌-◌, ◌^◌, ◌↔◌, ℕ, zero, suc, List, [], ◌∷◌, ◌++◌, length, refl, sym, ap, subst, ◌∙◌, append_assoc, arith, Bool, true, false, not, cond, Option, Some, None, All, is_some, option_map, unwrap_or, position, slice_get, slice_set, map, eqb, if◌then◌else◌, nat_lt, IfSome, IsSome, ◌||◌}
 use Rattle.std.proofs.Math.Nat.{add-zero}
 use Rattle.std.proofs.lemmas.Bool.Decides.{nat_tests}
 use Rattle.std.proofs.lemmas.Map.Keys.{IsDistinct-push}
@@ -87,6 +87,85 @@ known-after-by false gs g name is none =
 pub known-after : (gs : List NamedGroup) (g : NamedGroup) (name : List ℕ) → known_id gs g.name ≡ None
     → known_id (gs ++ g ∷ []) name ≡ cond (bytes_eq g.name name) (Some (length gs + 1)) (known_id gs name)
 known-after gs g name none = known-after-by (bytes_eq g.name name) gs g name refl none
+
+-- ---- groups behind others
+
+found_if : (b : Bool) (n : ℕ) → is_some (cond b (Some n) None) ≡ b
+found_if true n = refl
+found_if false n = refl
+
+found_cons : (b : Bool) (n l : ℕ) → nat_lt (cond (not b) (1 + n) 0) (suc l) ≡ cond b true (nat_lt n l)
+found_cons true n l = grind (arith, nat_tests)
+found_cons false n l = grind (arith, nat_tests)
+
+module _ {X : Type 0} (p : X → Bool) where
+  abbrev is_found : List X → Bool
+  is_found xs = nat_lt (position_or_len p xs) (length xs)
+
+  or_found : (b : Bool) (s t u : Bool) → u ≡ (s || t) → cond b true u ≡ (cond b true s || t)
+  or_found true s t u is = refl
+  or_found false s t u is = is
+
+  found_behind : (xs ys : List X) → is_found (xs ++ ys) ≡ (is_found xs || is_found ys)
+  found_behind [] ys = refl
+  found_behind (x ∷ xs) ys =
+      found_cons (p x) (position_or_len p (xs ++ ys)) (length (xs ++ ys))
+      ∙ or_found (p x) (is_found xs) (is_found ys) (is_found (xs ++ ys)) (found_behind xs ys)
+      ∙ ap (λ t. t || is_found ys) (sym (found_cons (p x) (position_or_len p xs) (length xs)))
+
+  is_position : (xs : List X) → is_some (position p xs) ≡ is_found xs
+  is_position xs = found_if (is_found xs) (position_or_len p xs)
+
+some_more : {X Y : Type 0} (f : X → Y) (o : Option X) → is_some (option_map f o) ≡ is_some o
+some_more f None = refl
+some_more f (Some x) = refl
+
+-- a name is known where it is among the first or the further ones
+pub known_behind : (gs hs : List NamedGroup) (name : List ℕ)
+    → is_some (known_id (gs ++ hs) name) ≡ (is_some (known_id gs name) || is_some (known_id hs name))
+known_behind gs hs name =
+    let p = λ (g : NamedGroup). bytes_eq name g.name in
+    let next = λ (i : ℕ). i + 1 in
+    let has = λ (xs : List NamedGroup). some_more next (position p xs) ∙ is_position p xs in
+    has (gs ++ hs) ∙ found_behind p gs hs ∙ (λ i. sym (has gs) i || sym (has hs) i)
+
+with_known : (b : Bool) (gs hs : List NamedGroup) (g : NamedGroup) → is_some (known_id gs g.name) ≡ b
+    → with_named (gs ++ hs) g ≡ cond b (gs ++ hs) (gs ++ with_named hs g)
+with_known true gs hs g is =
+    ap (λ c. cond c (gs ++ hs) ((gs ++ hs) ++ g ∷ [])) (known_behind gs hs g.name ∙ ap (λ c. c || is_some (known_id hs g.name)) is)
+with_known false gs hs g is =
+    ap (λ c. cond c (gs ++ hs) ((gs ++ hs) ++ g ∷ [])) (known_behind gs hs g.name ∙ ap (λ c. c || is_some (known_id hs g.name)) is)
+    ∙ put_behind (is_some (known_id hs g.name))
+  where
+    put_behind : (c : Bool) → cond c (gs ++ hs) ((gs ++ hs) ++ g ∷ []) ≡ gs ++ cond c hs (hs ++ g ∷ [])
+    put_behind true = refl
+    put_behind false = append_assoc gs hs (g ∷ [])
+
+-- a group behind others: where its name is known among the first, nothing comes
+pub with_behind : (gs hs : List NamedGroup) (g : NamedGroup) → is_some (known_id gs g.name) ≡ false → with_named (gs ++ hs) g ≡ gs ++ with_named hs g
+with_behind gs hs g none = with_known false gs hs g none
+
+pub with_there : (gs hs : List NamedGroup) (g : NamedGroup) → is_some (known_id gs g.name) ≡ true → with_named (gs ++ hs) g ≡ gs ++ hs
+with_there gs hs g some = with_known true gs hs g some
+
+-- a name that is known stays known
+pub stays_known : (gs : List NamedGroup) (g : NamedGroup) (name : List ℕ) → is_some (known_id gs name) ≡ true → is_some (known_id (with_named gs g) name) ≡ true
+stays_known gs g name some = by (is_some (known_id gs g.name))
+  where
+    by : (b : Bool) → is_some (known_id (cond b gs (gs ++ g ∷ [])) name) ≡ true
+    by true = some
+    by false = known_behind gs (g ∷ []) name ∙ ap (λ c. c || is_some (known_id (g ∷ []) name)) some
+
+-- the id of a name that is known has a group
+some_place : (n l : ℕ) (b : Bool) → nat_lt n l ≡ b → is_some (option_map (λ i. i + 1) (cond b (Some n) None)) ≡ true
+    → (0 < unwrap_or (option_map (λ i. i + 1) (cond b (Some n) None)) 0) × (unwrap_or (option_map (λ i. i + 1) (cond b (Some n) None)) 0 ≤ l)
+some_place n l true lt some = (omega arith, grind (arith, nat_tests, lt))
+some_place n l false lt some = absurd (true≢false (sym some))
+
+pub known_has : (gs : List NamedGroup) (name : List ℕ) → is_some (known_id gs name) ≡ true → HasGroup gs (unwrap_or (known_id gs name) 0)
+known_has gs name some =
+    let n = position_or_len (λ g. bytes_eq name g.name) gs in
+    some_place n (length gs) (nat_lt n (length gs)) refl some
 
 -- ---- names alone
 

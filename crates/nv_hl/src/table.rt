@@ -34,6 +34,16 @@ impl Model for Groups {
 }
 
 impl Groups {
+    /// No groups.
+    pub fn none(alloc: Global) -> Groups
+        ensures { result ≡ [] }
+    {
+        Groups {
+            index: BTreeMap::new(alloc),
+            entries: Vec::new(alloc),
+        }
+    }
+
     /// The seven groups of a fresh editor.
     pub fn new(alloc: Global) -> Result<Groups, AllocError>
         ensures { IfOk result (λ g. g ≡ fresh_groups) }
@@ -50,10 +60,7 @@ impl Groups {
             bold: true,
             ..reverse
         };
-        let mut groups = Groups {
-            index: BTreeMap::new(alloc),
-            entries: Vec::new(alloc),
-        };
+        let mut groups = Groups::none(alloc);
         groups.add(b"Normal", Group::Plain(Attr::EMPTY), false)?;
         groups.add(b"NonText", Group::Plain(bold), true)?;
         groups.add(b"EndOfBuffer", Group::Link(2), true)?;

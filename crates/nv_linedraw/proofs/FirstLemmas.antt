@@ -20,7 +20,7 @@ all_from_few n xs ys is few =
 
 module _ (w t : ℕ) (line : List ℕ) (spans : List Span) (looks : Looks) where
   -- the cells of pieces from the first column on, and the column behind them
-  abbrev total : List Piece → List Cell
+  abbrev pub total : List Piece → List Cell
   total ps = cells_from_column w (filler_of looks) 0 (atoms_from t 0 line spans looks.special ps)
 
   abbrev behind : List Piece → ℕ
@@ -60,6 +60,28 @@ module _ (w t : ℕ) (line : List ℕ) (spans : List Span) (looks : Looks) where
       ∙ sym (take-append-le most (total ps) (more.0 ++ blanks (behind all)) enough)
       ∙ ap (take most) (sym (append_assoc (total ps) more.0 (blanks (behind all))))
       ∙ ap (λ cs. take most (cs ++ blanks (behind all))) (sym split)
+
+  -- without what fills the last row
+  pub laid_front : (most : ℕ) (laid : List Cell) (ps : List Piece) → ps ≡ take most (pieces_of line)
+      → laid ≡ take (length laid) (total ps)
+      → (length laid < most → laid ≡ total ps)
+      → (length laid < most → length ps + 0 ≤ length laid)
+      → take most laid ≡ take most (total (pieces_of line))
+  laid_front most laid ps is laid_is all count =
+      let every = pieces_of line in
+      let more = more_cells (take most every) (drop most every) in
+      let split : total every ≡ total ps ++ more.0 =
+      ap total (sym (take-append-drop most every)) ∙ more.1 ∙ ap (λ qs. total qs ++ more.0) (sym is) in
+      ⊎_elim
+      (λ (few : length laid < most).
+      ap (take most) (all few ∙ ap total (all_from_few most ps every is (omega (arith, few, count few)))))
+      (λ (many : most ≤ length laid).
+      let enough : most ≤ length (total ps) = omega (arith, many, ap length laid_is, length-take (length laid) (total ps)) in
+      ap (take most) laid_is
+      ∙ take-take most (length laid) (total ps) many
+      ∙ sym (take-append-le most (total ps) more.0 enough)
+      ∙ ap (take most) (sym split))
+      (cases_lt (length laid) most)
 
   pub first_are : (most : ℕ) (laid filled : List Cell) (col : ℕ) (ps : List Piece) → ps ≡ take most (pieces_of line)
       → laid ≡ take (length laid) (total ps)

@@ -1,8 +1,11 @@
+pub mod EndLemmas
 pub mod FirstLemmas
 pub mod HalfLemmas
 pub mod LayLemmas
+pub mod OneRowLemmas
 pub mod PlaceLemmas
 pub mod PlainLines
+pub mod Printable
 pub mod RowLemmas
 pub mod SpanLemmas
 pub mod WholeLemmas

@@ -95,7 +95,7 @@ round-lt-by : (b : Bool) (w k : ℕ) → (k + 1 == w) ≡ b → k < w → cond b
 round-lt-by true w k e lt = omega (arith, lt)
 round-lt-by false w k e lt = grind (arith, nat_tests)
 
-round-lt : (w k : ℕ) → k < w → round w k < w
+pub round-lt : (w k : ℕ) → k < w → round w k < w
 round-lt w k lt = round-lt-by (k + 1 == w) w k refl lt
 
 round_rows-by : (b : Bool) (w k : ℕ) → (k + 1 == w) ≡ b → (j : ℕ) × (k + 1 ≡ j * w + cond b 0 (k + 1))

@@ -191,3 +191,21 @@ cell_of_byte_from width tabstop line byte stop col at (p ∷ ps) =
 abbrev pub cell_of_byte : ℕ → ℕ → List ℕ → ℕ → ℕ
 cell_of_byte width tabstop line byte =
     cell_of_byte_from width tabstop line byte 0 0 0 (pieces_of line)
+
+-- the number of cells of a line in rows of a width, fillers counted, and not the spaces behind them
+abbrev pub line_length : ℕ → ℕ → List ℕ → ℕ
+line_length width tabstop line =
+    length (cells_from_column width (space empty_attr) 0
+    (atoms_from tabstop 0 line [] empty_attr (pieces_of line)))
+
+-- ---- a text in one row
+
+-- a span over all of a text
+abbrev pub whole_span : Attr → List ℕ → List Span
+whole_span attr text = record { from = 0; to = length text; attr = attr; eol = false } ∷ []
+
+-- the cells of a text in a row without end, all with one attribute (own rule)
+abbrev pub cells_in_one_row : ℕ → Attr → List ℕ → List Cell
+cells_in_one_row tabstop attr text =
+    cells_from_column 0 (space attr) 0
+    (atoms_from tabstop 0 text (whole_span attr text) empty_attr (pieces_of text))

@@ -1,4 +1,5 @@
 pub mod DrawnCells
+pub mod OneRow
 pub mod Placing
 pub mod Plain
 pub mod Stretches

@@ -77,7 +77,7 @@ fn lay_each(
 /// Lays pieces until there are so many cells. `stop` cells of the line stand behind the last tab
 /// stop; gives how many do then. Of many spans each half of the pieces looks only at those that
 /// reach into it, so none is looked at more often than the logarithm of the number of pieces says.
-fn lay_pieces(
+pub fn lay_pieces(
     flow: &mut Flow,
     alloc: Global,
     d: &Drawn,
@@ -127,6 +127,37 @@ fn fill(flow: &mut Flow, d: &Drawn, most: usize) -> Result<(), AllocError>
     put_blanks(&mut flow.cells, n, d)
 }
 
+// Whether all bytes are printable characters of ASCII.
+fn are_printable(bytes: &[u8]) -> bool
+    ensures { IsTrue result → list_all (is_in_range 0x20 0x7E) bytes.now ≡ true }
+{
+    let mut plain = true;
+    for byte in bytes {
+        plain &= (0x20..=0x7E).contains(byte);
+    }
+    plain
+}
+
+// How many bytes are looked at at once.
+const BLOCK: usize = 16;
+
+// The same of a block's bytes or more: block by block, the last of which may share bytes with the
+// one before.
+fn are_printable_blocks(bytes: &[u8]) -> bool
+    requires { 16 ≤ length bytes.now }
+    ensures { IsTrue result → list_all (is_in_range 0x20 0x7E) bytes.now ≡ true }
+{
+    let end = bytes.len() - BLOCK;
+    let mut at = 0;
+    'looking: while at < end {
+        if !are_printable(&bytes[at..at + BLOCK]) {
+            return false;
+        }
+        at += BLOCK;
+    }
+    are_printable(&bytes[end..end + BLOCK])
+}
+
 /// Whether a line has at most so many bytes, all of them printable characters of ASCII, each of
 /// which is a cell by itself. Of a longer line no byte is looked at.
 pub fn is_plain(line: &[u8], most: usize) -> bool
@@ -135,11 +166,10 @@ pub fn is_plain(line: &[u8], most: usize) -> bool
     if most < line.len() {
         return false;
     }
-    let mut plain = true;
-    for byte in line {
-        plain &= (0x20..=0x7E).contains(byte);
+    if line.len() < BLOCK {
+        return are_printable(line);
     }
-    plain
+    are_printable_blocks(line)
 }
 
 // How many spaces fill the last row of so many cells, each by itself.

@@ -1,6 +1,6 @@
 //! Where a byte of a line stands.
 
-ghost use Rattle.nv_linedraw.specs.LineCells.{cell_of_byte, cells_ahead};
+ghost use Rattle.nv_linedraw.specs.LineCells.{cell_of_byte, cells_ahead, line_length};
 ghost use Rattle.nv_linedraw.specs.inside.Placing.{StandsAt, cells_taken};
 ghost use Rattle.std.specs.Prelude.{◌≡◌, ◌<◌, ◌≤◌, ◌+◌, ◌/◌, ◌%◌, ℕ, IfOk, min};
 
@@ -99,4 +99,32 @@ pub fn place_of_byte(
         stop = stop_after(tabstop, stop, piece.kind);
     }
     Ok((0, 0))
+}
+
+/// Where the next cell would stand behind the last one of a line, as a row and a column, both
+/// counted from 0, in rows of a width: the number of its cells, fillers counted, by the width. Rows
+/// from `most` on count as `most`, and then the column may be any.
+pub fn line_end(
+    alloc: Global,
+    line: &[u8],
+    width: u32,
+    tabstop: u32,
+    most: u32,
+) -> Result<(u32, u32), AllocError>
+    requires wide { 0 < width }
+    requires stop { 0 < tabstop }
+    ensures row { IfOk result (λ place. place.0
+        ≡ min most (line_length width tabstop line.now / width)) }
+    ensures col { IfOk result (λ place. place.0 < most → place.1
+        ≡ line_length width tabstop line.now % width) }
+{
+    let mut place = Place { row: 0, col: 0 };
+    let mut stop = 0;
+    let pieces = first_pieces(alloc, line, most as usize * width as usize)?;
+    for piece in pieces.as_slice() {
+        let count = cells_taken(width, tabstop - stop, place.col, piece.kind);
+        place = moved(place, count, width, most);
+        stop = stop_after(tabstop, stop, piece.kind);
+    }
+    Ok((place.row, place.col))
 }

@@ -81,8 +81,9 @@ impl LineList {
         }
     }
 
-    // The same lines, in a table that its shares have in common.
-    pub(crate) fn in_common(self) -> Result<LineList, AllocError>
+    /// The same lines, in a table that its shares have in common: what is shared from then on costs
+    /// no more for many lines than for few.
+    pub fn in_common(self) -> Result<LineList, AllocError>
         ensures { IfOk result (λ list. list ≡ self) }
     {
         let held = self.held.in_common()?;

@@ -12,7 +12,7 @@ use Rattle.nv_windows.specs.Sound.{IsRisingFrom}
 use Rattle.nv_windows.specs.declared.window.Window.{Window}
 use Rattle.nv_model.specs.Stage.{Stage, view_moved, with_uis}
 use Rattle.nv_model.specs.Editors.{ModelEditor, at_handle, updated_at, fresh_editor}
-use Rattle.nv_model.specs.Operations.{Operation, spliced, spliced_back, stepped, sealed_in, mark_set, mark_removed, name_put, modifiable_put, modified_put, listed_put, tabstop_put, buffer_made, buffer_dropped, namespace_made, group_made, group_put, window_opened, window_closed, tab_made, tab_closed, went_to_window, went_to_tab, cursor_put, top_put, shown, wish_put, ui_put, uis_dropped, stage_spliced, after_operation}
+use Rattle.nv_model.specs.Operations.{Operation, spliced, spliced_back, stepped, sealed_in, mark_set, mark_removed, name_put, modifiable_put, modified_put, listed_put, tabstop_put, buffer_made, buffer_dropped, namespace_made, group_made, group_put, note_put, window_opened, window_closed, tab_made, tab_closed, went_to_window, went_to_tab, cursor_put, top_put, shown, wish_put, ui_put, uis_dropped, stage_spliced, after_operation}
 use Rattle.nv_model.specs.Laws.{IsNumbered, HandlesStayBelow, buffers_given, windows_given, tabpages_given, all_given, NoHandleTwice}
 use Rattle.nv_model.specs.declared.parts.Limits.{Limits}
 use Rattle.nv_model.specs.declared.parts.Ui.{Ui}
@@ -188,6 +188,7 @@ stays_below (buffer_dropped k) m is = record {
 stays_below (namespace_made name) m is = on_stage _ m is refl (record { windows = is.windows; tabpages = is.tabpages })
 stays_below (group_made name) m is = on_stage _ m is refl (record { windows = is.windows; tabpages = is.tabpages })
 stays_below (group_put id group) m is = on_stage _ m is refl (record { windows = is.windows; tabpages = is.tabpages })
+stays_below (note_put n set note) m is = on_stage _ m is refl (record { windows = is.windows; tabpages = is.tabpages })
 stays_below (window_opened beside side buffer width height) m is = on_stage _ m is refl (record {
   windows =
       All-push (WindowBelow (m.stage.workspace.next_window +ℤ pos 1)) m.stage.workspace.windows _

@@ -4,7 +4,7 @@ use Rattle.std.specs.Prelude.{◌≡◌, ◌⊎◌, ℕ, List, [], ◌∷◌, �
 use Rattle.std.specs.List.{AllByRecursion}
 use Rattle.nv_args.specs.Reading.{Arg}
 use Rattle.nv_model.specs.Seen.{Seen}
-use Rattle.nv_model.specs.Operations.{Operation, spliced, spliced_back, stepped, sealed_in, mark_set, mark_removed, name_put, modifiable_put, modified_put, listed_put, tabstop_put, buffer_made, buffer_dropped, namespace_made, group_made, group_put, window_opened, window_closed, tab_made, tab_closed, went_to_window, went_to_tab, cursor_put, top_put, shown, wish_put, ui_put, uis_dropped}
+use Rattle.nv_model.specs.Operations.{Operation, spliced, spliced_back, stepped, sealed_in, mark_set, mark_removed, name_put, modifiable_put, modified_put, listed_put, tabstop_put, buffer_made, buffer_dropped, namespace_made, group_made, group_put, note_put, window_opened, window_closed, tab_made, tab_closed, went_to_window, went_to_tab, cursor_put, top_put, shown, wish_put, ui_put, uis_dropped}
 use Rattle.nv_model.specs.Answers.{Answer, Fact, attached, detached, edited, deleted, quit, refused, replied}
 use Rattle.nv_model.specs.Rows.{Row}
 
@@ -16,6 +16,7 @@ pub data OperationKind : Type 0 where
   puts_names puts_options : OperationKind
   makes_buffers drops_buffers : OperationKind
   makes_namespaces makes_groups puts_groups : OperationKind
+  puts_notes : OperationKind
   opens_windows closes_windows makes_tabs closes_tabs : OperationKind
   -- another window or tabpage becomes current
   goes : OperationKind
@@ -39,6 +40,7 @@ kind_of_operation (buffer_dropped n) = drops_buffers
 kind_of_operation (namespace_made name) = makes_namespaces
 kind_of_operation (group_made name) = makes_groups
 kind_of_operation (group_put id group) = puts_groups
+kind_of_operation (note_put n set note) = puts_notes
 kind_of_operation (window_opened beside side buffer width height) = opens_windows
 kind_of_operation (window_closed w) = closes_windows
 kind_of_operation (tab_made buffer) = makes_tabs

@@ -12,6 +12,7 @@ use Rattle.nv_hl.specs.Groups.{empty_group, with_named, with_group}
 use Rattle.nv_hl.specs.declared.linking.Group.{Group}
 use Rattle.nv_layout.specs.declared.nodes.Axis.{Axis}
 use Rattle.nv_layout.specs.declared.nodes.Side.{Side}
+use Rattle.nv_notes.specs.Notes.{NoteText, notes_with}
 use Rattle.nv_model.specs.Buffers.{Splice, SetFar, SetMark, ModelBuffer, text_of, fresh_buffer, with_seal, with_splice, with_splice_back, with_mark, without_mark}
 use Rattle.nv_windows.specs.Operations.{with_window, without_window, with_tabpage, without_tabpage, at_window, at_tabpage, with_wish_of, with_cursor, with_top, with_buffer_in}
 use Rattle.nv_model.specs.Stage.{Stage, in_workspace, stage_with_views, with_uis, ui_among, other_uis}
@@ -46,6 +47,8 @@ pub data Operation : Type 0 where
   group_made : List ℕ → Operation
   -- a group is put at an id
   group_put : ℕ → Group → Operation
+  -- a virtual text of a buffer is put that comes with the setting of this number
+  note_put : ℤ → ℕ → NoteText → Operation
   -- the next window is opened on a side of one, shows a buffer, and wishes a width and a height, 0
   -- for none
   window_opened : ℤ → Side → ℤ → ℕ → ℕ → Operation
@@ -145,6 +148,8 @@ after_operation (group_made name) m =
     with_stage (λ stage. record stage { groups = with_named stage.groups (empty_group name) }) m
 after_operation (group_put id group) m =
     with_stage (λ stage. record stage { groups = with_group stage.groups id group }) m
+after_operation (note_put n set note) m =
+    with_stage (λ stage. record stage { notes = notes_with n set note stage.notes }) m
 after_operation (window_opened beside side buffer width height) m =
     with_stage (in_workspace (with_window beside side buffer width height)) m
 after_operation (window_closed w) m = with_stage (in_workspace (without_window w)) m

@@ -1,5 +1,5 @@
--- An editor but for its buffers: windows and tabpages, namespaces, groups, UIs, the next buffer's
--- handle and limits.
+-- An editor but for its buffers: windows and tabpages, namespaces, groups, virtual texts, UIs, the
+-- next buffer's handle and limits.
 use Rattle.std.specs.Prelude.{ℕ, ℤ, pos, ◌-◌, ◌==◌, if◌then◌else◌, not, List, [], ◌∷◌, length, map, filter, fold, min, nat_lt}
 use Rattle.std.specs.List.{list_any}
 use Rattle.std.specs.Ordering.{int_eq}
@@ -11,16 +11,19 @@ use Rattle.nv_windows.specs.Workspace.{Workspace, fresh_workspace}
 use Rattle.nv_windows.specs.Operations.{with_size}
 use Rattle.nv_windows.specs.Views.{Move, view_after}
 use Rattle.nv_windows.specs.declared.window.Window.{Window}
+use Rattle.nv_notes.specs.Notes.{NoteText}
 use Rattle.nv_model.specs.Buffers.{Splice, text_after, inverse_splice}
 use Rattle.nv_model.specs.declared.parts.Limits.{Limits}
 use Rattle.nv_model.specs.declared.parts.Ui.{Ui}
 
 -- all of an editor but its buffers. The namespaces are their names by id from 1, with the empty
--- name for those made without one
+-- name for those made without one; the virtual texts are in the order of their buffers and of the
+-- numbers of the settings that they came with
 pub record Stage : Type 0 where
   pub workspace : Workspace
   pub namespaces : List (List ℕ)
   pub groups : List NamedGroup
+  pub notes : List ((ℤ × ℕ) × NoteText)
   pub uis : List Ui
   pub next_buffer : ℤ
   pub limits : Limits
@@ -105,6 +108,7 @@ fresh_stage limits = record {
   workspace = fresh_workspace (pos 1);
   namespaces = [];
   groups = fresh_groups;
+  notes = [];
   uis = [];
   next_buffer = pos 2;
   limits = limits;

@@ -164,7 +164,7 @@ end_from attrs cells row to end is s =
 
 -- ---- a row is told
 
-map-between : (attrs : List Attr) (cells : List Cell) (n m : ℕ) → map (shown_cell attrs) (take n (drop m cells)) ≡ take n (drop m (map (shown_cell attrs) cells))
+pub map-between : (attrs : List Attr) (cells : List Cell) (n m : ℕ) → map (shown_cell attrs) (take n (drop m cells)) ≡ take n (drop m (map (shown_cell attrs) cells))
 map-between attrs cells n m = front n (drop m cells) ∙ ap (take n) (sym (drop-map (shown_cell attrs) m cells))
   where
     front : (n : ℕ) (cs : List Cell) → map (shown_cell attrs) (take n cs) ≡ take n (map (shown_cell attrs) cs)

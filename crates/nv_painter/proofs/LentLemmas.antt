@@ -3,12 +3,12 @@ use Rattle.std.specs.Prelude.{All, IfSome}
 use Rattle.nv_painter.specs.Keys.{LineKey, cells_of_key, same_line_key}
 use Rattle.nv_painter.specs.declared.key.LentKey.{LentKey}
 use Rattle.nv_painter.specs.declared.lent.LentRow.{LentRow}
-use Rattle.nv_painter.specs.inside.Lent.{AreLent, DifferBetween, IsFound, IsLikeBut, IsLone, IsOfLine, cells_placed, lent_cells, lent_content, lent_rows, placed_cells, placed_rows, row_of_key}
+use Rattle.nv_painter.specs.inside.Lent.{AreLent, DifferBetween, IsFound, IsLikeBut, IsLone, IsOfLine, cells_placed, lent_cells, lent_content, lent_rows, placed_cells, placed_rows, plain_cells, row_of_key}
 use Rattle.nv_painter.specs.inside.SameKeys.{key_decides}
-use Rattle.std.proofs.Common.{Some, true, false, cond, subst, ◌≡◌, ◌==◌, ◌<◌, ◌≤◌, ◌+◌, ◌-◌, ◌*◌, ◌/◌, ◌%◌, ◌∙◌, ◌++◌, ℕ, List, [], ◌∷◌, get_or, length, length-append, map, replicate, take, drop, ap, ap₂, sym, arith}
+use Rattle.std.proofs.Common.{Some, true, false, cond, subst, ◌≡◌, ◌==◌, ◌<◌, ◌≤◌, ◌+◌, ◌-◌, ◌*◌, ◌/◌, ◌%◌, ◌∙◌, ◌++◌, ℕ, List, [], ◌∷◌, get_or, length, map, replicate, take, drop, ap, ap₂, sym, arith}
 use Rattle.std.proofs.Math.Nat.{div-mul-le_self, div_self, mod-eq_of_lt, mul-le-mul_right}
 use Rattle.std.proofs.lemmas.Bool.Decides.{nat_tests}
-use Rattle.std.proofs.lemmas.List.{drop-map, drop-replicate, get_or-map, length-drop, length-map, length-replicate, length-take, take-append-le, take-map, take_all}
+use Rattle.std.proofs.lemmas.List.{drop-drop, drop-map, drop-replicate, get_or-map, length-drop, length-map, length-take, take-append-drop, take-append-le, take-map}
 use Rattle.std.proofs.lemmas.List.Elements.{All-get_or}
 use Rattle.nv_lines.proofs.Ranges.{drop-append}
 use Rattle.nv_hl.specs.declared.cell.Cell.{Cell}
@@ -25,6 +25,7 @@ use Rattle.nv_screen.specs.Drawing.{drawn_rows, pane_rows, scene_cells, text_row
 use Rattle.nv_screen.specs.Sound.{IsSoundScene}
 use Rattle.nv_screen.proofs.SteadyLemmas.{line_behind, row_of_line, wide_text}
 use Rattle.nv_painter.proofs.MovedLemmas.{there_is}
+use Rattle.nv_painter.proofs.PlainLemmas.{cells_length}
 
 module _ (w t : ℕ) (looks : Looks) (height room n : ℕ) (line : SceneLine) (lines rest : List SceneLine) (cells : List Cell)
     (pane : List (List Cell)) (split : rest ≡ line ∷ lines) (cells_are : cells ≡ scene_cells w t looks line) (count : n ≡ length cells / w)
@@ -87,14 +88,14 @@ no_row w n cells some = omega (arith, some, length-take w (drop (n * w) cells), 
 
 -- a row of a line that was found
 pub of_found : (r : LentRow) (k : LentKey) (n : ℕ) (cells : List Cell) (count : ℕ) → 0 < k.width → n < count → IsFound (lent_content k) cells count
-    → r.line ≡ Some k → r.number ≡ n → lent_cells r ≡ take k.width (drop (n * k.width) cells) → IsOfLine r
+    → r.line ≡ Some k → r.number ≡ n → (0 < length (lent_cells r) → lent_cells r ≡ take k.width (drop (n * k.width) cells)) → IsOfLine r
 of_found r k n cells count wide lt found is number are =
     let placed : placed_cells r ≡ row_of_key (lent_content k) n = placed_is r k is ∙ ap (row_of_key (lent_content k)) number in
     let some : 0 < length (placed_cells r) =
     omega (arith, ap length placed, row_fits k.width count n (cells_of_key (lent_content k)) wide found.rows lt) in record {
       some = subst (λ o. IfSome o (λ k. 0 < length (placed_cells r))) (sym is) some;
-      cells = λ there. are
-          ∙ ap (λ cs. take k.width (drop (n * k.width) cs)) (found.same (no_row k.width n cells (omega (arith, there, ap length are))))
+      cells = λ there. are there
+          ∙ ap (λ cs. take k.width (drop (n * k.width) cs)) (found.same (no_row k.width n cells (omega (arith, there, ap length (are there)))))
           ∙ sym placed;
     }
 
@@ -116,18 +117,8 @@ lent_of_placed rows screen all placed k some =
 
 -- ---- rows of lines that differ between two places alone
 
--- the row of a line of printable ASCII, with spaces behind it
-abbrev lone_row : ℕ → List ℕ → List Cell
-lone_row w line = map byte_cell line ++ replicate (w - length line) (space empty_attr)
-
-lone_count : (w : ℕ) (line : List ℕ) → length line < w → length (lone_row w line) ≡ w
-lone_count w line lt = omega (
-  arith,
-  lt,
-  length-append (map byte_cell line) (replicate (w - length line) (space empty_attr)),
-  length-map line byte_cell,
-  length-replicate (w - length line) (space empty_attr),
-)
+lone_count : (w : ℕ) (line : List ℕ) → length line < w → length (plain_cells w line) ≡ w
+lone_count w line lt = omega (arith, lt, cells_length w line)
 
 blanks_of : (w n : ℕ) → 0 < n → n < w → plain_filling w n ≡ w - n
 blanks_of w n some lt =
@@ -136,36 +127,29 @@ blanks_of w n some lt =
     ∙ ap (λ m. cond (m == 0) 0 (w - m)) (mod-eq_of_lt lt)
     ∙ ap (λ b. cond b 0 (w - n)) more
 
-lone_line : (k : LineKey) → IsLone k → cells_of_key k ≡ lone_row k.width k.bytes
+lone_line : (k : LineKey) → IsLone k → cells_of_key k ≡ plain_cells k.width k.bytes
 lone_line k lone =
     let w = k.width in
     ap (λ ss. cells_of_key (record { bytes = k.bytes; spans = ss; width = w; tabstop = k.tabstop; looks = k.looks })) lone.spans
     ∙ cells_of_plain w k.tabstop k.bytes k.looks (omega (arith, lone.short)) lone.plain
     ∙ ap (λ n. map byte_cell k.bytes ++ replicate n (space empty_attr)) (blanks_of w (length k.bytes) lone.some lone.short)
 
-lone_cells : (k : LineKey) → IsLone k → row_of_key k 0 ≡ lone_row k.width k.bytes
-lone_cells k lone =
-    let w = k.width in
-    let none : 0 * w ≡ 0 = omega arith in
-    ap₂ (λ n (cs : List Cell). take w (drop n cs)) none (lone_line k lone)
-    ∙ take_all w (lone_row w k.bytes) (omega (arith, lone_count w k.bytes lone.short))
-
 -- such a line is one row
-pub lone_is_found : (k : LineKey) → IsLone k → IsFound k [] 1
+pub lone_is_found : (k : LineKey) → IsLone k → IsFound k (plain_cells k.width k.bytes) 1
 lone_is_found k lone = record {
   rows =
       let wide : 0 < k.width = omega (arith, lone.short) in
       sym (div_self wide) ∙ ap (λ n. n / k.width) (sym (ap length (lone_line k lone) ∙ lone_count k.width k.bytes lone.short));
-  same = λ some. absurd (omega (arith, some));
+  same = λ some. sym (lone_line k lone);
 }
 
-front_is : (w from : ℕ) (line : List ℕ) → from ≤ length line → take from (lone_row w line) ≡ map byte_cell (take from line)
+front_is : (w from : ℕ) (line : List ℕ) → from ≤ length line → take from (plain_cells w line) ≡ map byte_cell (take from line)
 front_is w from line le =
     take-append-le from (map byte_cell line) (replicate (w - length line) (space empty_attr)) (omega (arith, le, length-map line byte_cell))
     ∙ take-map byte_cell from line
 
 back_is : (w to : ℕ) (line : List ℕ)
-    → drop to (lone_row w line) ≡ map byte_cell (drop to line) ++ replicate (w - (length line + (to - length line))) (space empty_attr)
+    → drop to (plain_cells w line) ≡ map byte_cell (drop to line) ++ replicate (w - (length line + (to - length line))) (space empty_attr)
 back_is w to line =
     let blanks = w - length line in
     drop-append to (map byte_cell line) (replicate blanks (space empty_attr))
@@ -174,7 +158,7 @@ back_is w to line =
     ∙ ap (λ n. replicate n (space empty_attr)) (omega (arith, length-map line byte_cell)))
 
 rows_like : (w : ℕ) (a b : List ℕ) (from to : ℕ) → length a < w → length b < w → DifferBetween a b from to
-    → IsLikeBut (lone_row w a) (lone_row w b) from to
+    → IsLikeBut (plain_cells w a) (plain_cells w b) from to
 rows_like w a b from to in_a in_b d = record {
   order = d.order;
   within = omega (arith, d.within, in_a, in_b, lone_count w b in_b);
@@ -186,15 +170,25 @@ rows_like w a b from to in_a in_b d = record {
       ∙ sym (back_is w to b);
 }
 
-row_is : (r : LentRow) (k : LentKey) → r.line ≡ Some k → r.number ≡ 0 → IsLone (lent_content k) → placed_cells r ≡ lone_row k.width k.bytes.now
-row_is r k is first lone = placed_is r k is ∙ ap (row_of_key (lent_content k)) first ∙ lone_cells (lent_content k) lone
+-- rows whose bytes are known
+pub places_are : (a b : LentRow) (w : ℕ) (old new : List ℕ) (from to : ℕ) → IsOfLine a → lent_cells a ≡ plain_cells w old
+    → lent_cells b ≡ plain_cells w new → length old < w → length new < w → DifferBetween old new from to
+    → IsLikeBut (placed_cells a) (lent_cells b) from to
+places_are a b w old new from to of_a cells_a cells_b in_old in_new d =
+    let placed : placed_cells a ≡ plain_cells w old =
+    sym (of_a.cells (omega (arith, in_old, ap length cells_a, lone_count w old in_old))) ∙ cells_a in
+    subst (λ (q : List Cell × List Cell). IsLikeBut q.0 q.1 from to) (λ i. (sym placed i, sym cells_b i))
+    (rows_like w old new from to in_old in_new d)
 
-pub places_are : (a b : LentRow) (old new : LentKey) (from to : ℕ) → IsOfLine b → a.line ≡ Some old → b.line ≡ Some new
-    → a.number ≡ 0 → b.number ≡ 0 → 0 < length (lent_cells b) → old.width ≡ new.width → IsLone (lent_content old) → IsLone (lent_content new)
-    → DifferBetween old.bytes.now new.bytes.now from to → IsLikeBut (placed_cells a) (lent_cells b) from to
-places_are a b old new from to of_b is_a is_b first_a first_b some widths lone_a lone_b d =
-    let cells_a : placed_cells a ≡ lone_row new.width old.bytes.now =
-    row_is a old is_a first_a lone_a ∙ ap (λ w. lone_row w old.bytes.now) widths in
-    let cells_b : lent_cells b ≡ lone_row new.width new.bytes.now = of_b.cells some ∙ row_is b new is_b first_b lone_b in
-    subst (λ (q : List Cell × List Cell). IsLikeBut q.0 q.1 from to) (λ i. (sym cells_a i, sym cells_b i))
-    (rows_like new.width old.bytes.now new.bytes.now from to (omega (arith, lone_a.short, widths)) lone_b.short d)
+-- ---- blocks of texts
+
+pub block_back : (a b : List ℕ) (start end : ℕ) → start ≤ end → take (end - start) (drop start a) ≡ take (end - start) (drop start b)
+    → drop end a ≡ drop end b → drop start a ≡ drop start b
+block_back a b start end le same back =
+    let n = end - start in
+    let at : start + n ≡ end = omega (arith, le) in
+    let in_a : drop n (drop start a) ≡ drop end a = drop-drop n start a ∙ ap (λ k. drop k a) at in
+    let in_b : drop n (drop start b) ≡ drop end b = drop-drop n start b ∙ ap (λ k. drop k b) at in
+    sym (take-append-drop n (drop start a))
+    ∙ (λ i. same i ++ (in_a ∙ back ∙ sym in_b) i)
+    ∙ take-append-drop n (drop start b)

@@ -8,6 +8,7 @@ pub mod LoneLemmas
 pub mod MoveLemmas
 pub mod MovedLemmas
 pub mod PictureLemmas
+pub mod PlainLemmas
 pub mod RunLemmas
 pub mod SketchLemmas
 pub mod ToldLemmas

@@ -4,6 +4,7 @@ pub mod Last
 pub mod Lent
 pub mod Lone
 pub mod Moving
+pub mod Plain
 pub mod SameKeys
 pub mod Screens
 pub mod Sketch

@@ -2,16 +2,17 @@
 
 ghost use Rattle.nv_hl.specs.Attributes.{empty_attr, same_attr, same_colour, same_flag};
 ghost use Rattle.nv_linegrid.specs.Batch.{attrs_defined};
+ghost use Rattle.nv_hl.specs.declared.attribute.Attr.{Attr as SpecAttr};
 ghost use Rattle.nv_hl.specs.declared.cell.Cell.{Cell as SpecCell};
 ghost use Rattle.nv_linegrid.specs.Client.{Shown, ShownRows};
 ghost use Rattle.nv_linegrid.specs.Told.{has_id, id_from, id_of, shown_cell, with_attr, with_attrs_of, with_attrs_of_rows};
 ghost use Rattle.nv_painter.specs.inside.Due.{AreDue, AreKnown, IsDue, ShowsBut};
-ghost use Rattle.nv_painter.specs.inside.Lent.{lent_rows};
+ghost use Rattle.nv_painter.specs.inside.Lent.{cells_lent, lent_rows};
 ghost use Rattle.nv_painter.specs.inside.Sketch.{IsIdOf, IsSketch, ShowsCells};
 ghost use Rattle.std.specs.List.{list_any};
 ghost use Rattle.std.specs.Prelude.{◌≡◌, ◌<◌, ◌≤◌, ◌++◌, List, Option, false, suc, true, IfOk, IfSome, IsTrue, None, OnOk, Some, drop, get_or, length, map, take};
 
-use crate::lent::LentRow;
+use crate::lent::{LentCells, LentRow, plain_count};
 use crate::shown::{ShownCell, ShownRow};
 use nv_hl::{Attr, Cell, is_same_attr};
 use nv_linegrid::Redraw;
@@ -169,8 +170,9 @@ fn add_attrs_of(attrs: &mut Vec<Attr>, cells: &[Cell]) -> Result<(), AllocError>
     Ok(())
 }
 
-// Gives the attributes of those cells of a row ids that may differ from what it shows.
-fn add_attrs_of_row(
+// Gives the attributes of those cells of a row ids that may differ from what it shows, of cells
+// that were drawn.
+fn add_attrs_of_drawn(
     attrs: &mut Vec<Attr>,
     due: Option<(usize, usize)>,
     cells: &[Cell],
@@ -186,6 +188,22 @@ fn add_attrs_of_row(
     let from = due.0.min(to);
     add_attrs_of(attrs, &cells[from..to])?;
     Ok(())
+}
+
+// The same of any cells that are lent.
+fn add_attrs_of_row(
+    attrs: &mut Vec<Attr>,
+    due: Option<(usize, usize)>,
+    cells: LentCells,
+) -> Result<(), AllocError>
+    ensures { OnOk result ((row : List (Option Shown)) (screen : List SpecCell)
+        → IsDue due attrs.old.items (cells_lent cells.entry) screen row
+        → attrs.new.items ≡ with_attrs_of attrs.old.items screen) }
+{
+    match cells {
+        LentCells::Drawn(cells) => add_attrs_of_drawn(attrs, due, cells),
+        LentCells::Plain(..) => Ok(()),
+    }
 }
 
 /// Whether the row with this number has a flag.
@@ -357,24 +375,42 @@ fn due_in(
     }
 }
 
-// The same of a row of a sketch: one with a flag shows its cells.
+// The places between which cells that aren't looked at may differ, of so many: those that are
+// known, or all.
+fn due_within(count: usize, known: Option<(usize, usize)>) -> Option<(usize, usize)>
+    ensures { (attrs : List SpecAttr) (cells : List SpecCell) (row : List (Option Shown))
+        → count ≡ length cells → length row ≡ length cells
+        → IfSome known (λ d. ShowsBut attrs cells row d.0 d.1)
+        → IsDue result attrs cells cells row }
+{
+    match known {
+        Some(places) => Some(places),
+        None => Some((0, count)),
+    }
+}
+
+// The cells of a row of a sketch that may differ from what it shows, from one to before another.
+// One with a flag shows its cells. Bytes are looked at only where they are told.
 fn due_of(
     is_shown: bool,
-    cells: &[Cell],
+    cells: LentCells,
     attrs: &[Attr],
     row: &[Option<ShownCell>],
     known: Option<(usize, usize)>,
 ) -> Option<(usize, usize)>
-    requires { IfSome known (λ d. ShowsBut attrs.now cells.now row.now d.0 d.1) }
-    ensures { (screen : List SpecCell) → (is_shown ≡ false → cells.now ≡ screen)
+    requires { IfSome known (λ d. ShowsBut attrs.now (cells_lent cells) row.now d.0 d.1) }
+    ensures { (screen : List SpecCell) → (is_shown ≡ false → cells_lent cells.entry ≡ screen)
         → (is_shown ≡ true → ShowsCells attrs.now screen row.now)
         → length row.now ≡ length screen
-        → IsDue result attrs.now cells.now screen row.now }
+        → IsDue result attrs.now (cells_lent cells.entry) screen row.now }
 {
     if is_shown {
         return None;
     }
-    due_in(cells, attrs, row, known)
+    match cells {
+        LentCells::Drawn(cells) => due_in(cells, attrs, row, known),
+        LentCells::Plain(bytes, width) => due_within(plain_count(bytes, width), known),
+    }
 }
 
 /// For each row of a sketch the cells that may differ from what is shown, from one to before

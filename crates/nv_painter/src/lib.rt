@@ -9,6 +9,7 @@ mod laws;
 mod lent;
 mod lines;
 mod painter;
+mod plain;
 mod scrolling;
 mod shown;
 mod sketch;

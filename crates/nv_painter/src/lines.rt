@@ -6,12 +6,13 @@ ghost use Rattle.nv_linegrid.specs.declared.event.Redraw.TheVariants.{LineOf};
 ghost use Rattle.nv_linegrid.specs.Rows.{differs_at, end_due, first_due, is_due, is_last_id, is_right_at, line_of_row, lines_of_rows, run_of, runs_of, same_shown, starts_with_right};
 ghost use Rattle.nv_linegrid.specs.Told.{known_rows, shown_cell, shown_rows};
 ghost use Rattle.nv_painter.specs.inside.Due.{AreDue, IsDue, ShowsBut};
-ghost use Rattle.nv_painter.specs.inside.Lent.{lent_rows};
+ghost use Rattle.nv_painter.specs.inside.Lent.{cells_lent, lent_rows};
 ghost use Rattle.nv_painter.specs.inside.Telling.{half_at, joins_at, runs_with};
 ghost use Rattle.std.specs.Prelude.{◌≡◌, ◌<◌, ◌≤◌, ◌+◌, ◌-◌, ◌^◌, ◌++◌, ◌∷◌, List, [], All, IfOk, OnOk, Some, drop, length, map, min, pos};
 
 use crate::ids::{due_at, id_of, shown_cells};
-use crate::lent::LentRow;
+use crate::lent::{LentCells, LentRow};
+use crate::plain::push_plain;
 use crate::shown::{ShownCell, ShownRow};
 use nv_hl::{Attr, Cell};
 use nv_linegrid::{Redraw, Run, Runs};
@@ -65,7 +66,8 @@ fn run_of(alloc: Global, last: Option<u64>, cell: &ShownCell, count: u32) -> Res
     Ok(Run::One(text, cell.id))
 }
 
-fn is_last(last: Option<u64>, id: u64) -> bool
+/// Whether this id was told last.
+pub fn is_last(last: Option<u64>, id: u64) -> bool
     ensures { result ≡ is_last_id last id }
 {
     match last {
@@ -217,23 +219,24 @@ fn push_line(
     Ok(())
 }
 
-// The place before one, within so many.
-fn one_before(at: usize, count: usize) -> usize
+/// The place before one, within so many.
+pub fn one_before(at: usize, count: usize) -> usize
     ensures { result ≡ min at count - 1 }
 {
     at.min(count).saturating_sub(1)
 }
 
-// The place behind one, within so many.
-fn one_behind(at: usize, count: usize) -> usize
+/// The place behind one, within so many.
+pub fn one_behind(at: usize, count: usize) -> usize
     ensures { result ≡ min (at + 1) count }
 {
     if at < count { at + 1 } else { count }
 }
 
-// Tells a row from its first due cell to its last. It then shows these cells. Half of a pair is due
-// where the other is, so cells next to those that may differ are looked at too.
-fn push_due(
+// Tells a row from its first due cell to its last, of cells that were drawn. It then shows these
+// cells. Half of a pair is due where the other is, so cells next to those that may differ are
+// looked at too.
+fn push_drawn(
     alloc: Global,
     events: &mut Vec<Redraw>,
     number: u32,
@@ -261,6 +264,31 @@ fn push_due(
     Ok(())
 }
 
+// The same of any cells that are lent.
+fn push_due(
+    alloc: Global,
+    events: &mut Vec<Redraw>,
+    number: u32,
+    row: &mut ShownRow,
+    due: (usize, usize),
+    attrs: &[Attr],
+    cells: LentCells,
+) -> Result<(), AllocError>
+    requires { length (cells_lent cells) < 2 ^ 32 }
+    ensures events { OnOk result (ShowsBut attrs.now (cells_lent cells.entry) row.old due.0 due.1
+        → events.new.items ≡ events.old.items
+        ++ line_of_row number row.old (map (shown_cell attrs.now) (cells_lent cells.entry))) }
+    ensures row { OnOk result (ShowsBut attrs.now (cells_lent cells.entry) row.old due.0 due.1
+        → row.new ≡ map Some (map (shown_cell attrs.now) (cells_lent cells.entry))) }
+{
+    match cells {
+        LentCells::Drawn(cells) => push_drawn(alloc, events, number, row, due, attrs, cells),
+        LentCells::Plain(bytes, width) => {
+            push_plain(alloc, events, number, row, due, bytes, width)
+        }
+    }
+}
+
 // Tells the due cells of a row, which then shows its cells.
 fn push_row(
     alloc: Global,
@@ -269,14 +297,15 @@ fn push_row(
     row: &mut ShownRow,
     due: Option<(usize, usize)>,
     attrs: &[Attr],
-    cells: &[Cell],
+    cells: LentCells,
 ) -> Result<(), AllocError>
-    requires { length cells.now < 2 ^ 32 }
+    requires { length (cells_lent cells) < 2 ^ 32 }
     ensures events { OnOk result ((screen : List SpecCell)
-        → IsDue due attrs.now cells.now screen row.old → events.new.items ≡ events.old.items
+        → IsDue due attrs.now (cells_lent cells.entry) screen row.old
+        → events.new.items ≡ events.old.items
         ++ line_of_row number row.old (map (shown_cell attrs.now) screen)) }
     ensures row { OnOk result ((screen : List SpecCell)
-        → IsDue due attrs.now cells.now screen row.old
+        → IsDue due attrs.now (cells_lent cells.entry) screen row.old
         → row.new ≡ map Some (map (shown_cell attrs.now) screen)) }
 {
     let Some(due) = due else {

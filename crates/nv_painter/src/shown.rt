@@ -3,7 +3,8 @@
 ghost use Rattle.nv_linegrid.specs.Client.{row_with};
 ghost use Rattle.nv_linegrid.specs.Rows.{same_shown};
 ghost use Rattle.nv_linegrid.specs.Told.{blank_shown_rows};
-ghost use Rattle.std.specs.Prelude.{◌≡◌, ◌≤◌, ◌+◌, ◌∷◌, [], IfOk, None, Some, length, replicate};
+ghost use Rattle.nv_painter.specs.inside.Plain.{plain_shown};
+ghost use Rattle.std.specs.Prelude.{◌≡◌, ◌≤◌, ◌+◌, ◌-◌, ◌∷◌, ℕ, [], IfOk, None, Some, drop, get_or, length, replicate, take};
 
 use nv_hl::CellText;
 use std::alloc::{AllocError, Global};
@@ -88,6 +89,28 @@ fn put_cells(row: &mut Vec<Option<ShownCell>>, at: usize, cells: Vec<ShownCell>)
     }
 }
 
+/// The byte that the cell at a place shows, of bytes with spaces behind them.
+pub fn byte_at(bytes: &[u8], at: usize) -> u8
+    ensures { result ≡ get_or bytes.now at 32 }
+{
+    if at < bytes.len() { bytes[at] } else { b' ' }
+}
+
+// Puts bytes from one place to before another, each in a cell without an attribute.
+fn put_bytes(row: &mut Vec<Option<ShownCell>>, bytes: &[u8], first: usize, end: usize)
+    requires { first ≤ end }
+    ensures { (width : ℕ) → end ≤ length (plain_shown width bytes.now)
+        → end ≤ length row.old.items → row.new.items ≡ row_with row.old.items first
+        (take (end - first) (drop first (plain_shown width bytes.now))) }
+{
+    for k in first..end {
+        if k >= row.len() {
+            return;
+        }
+        row[k] = Some(ShownCell::new(CellText::from_byte(byte_at(bytes, k)), 0));
+    }
+}
+
 fn blank_cells(alloc: Global, width: u32) -> Result<Vec<Option<ShownCell>>, AllocError>
     ensures { IfOk result
         (λ cells. cells.items ≡ replicate width (Some (record { text = 32 ∷ []; id = 0 }))) }
@@ -113,6 +136,16 @@ impl ShownRow {
             → self.new ≡ row_with self.old col cells.items }
     {
         put_cells(&mut self.cells, col, cells);
+    }
+
+    /// Puts bytes from one column to before another, each in a cell without an attribute.
+    pub fn put_bytes(&mut self, bytes: &[u8], first: usize, end: usize)
+        requires { first ≤ end }
+        ensures { (width : ℕ) → end ≤ length (plain_shown width bytes.now)
+            → end ≤ length self.old → self.new ≡ row_with self.old first
+            (take (end - first) (drop first (plain_shown width bytes.now))) }
+    {
+        put_bytes(&mut self.cells, bytes, first, end);
     }
 
     /// A row of so many unknown cells.

@@ -10,7 +10,7 @@ ghost use Rattle.std.specs.Prelude.{◌≡◌, ◌<◌, ◌⊎◌, [], ℕ, All,
 
 use crate::ids::has_flag;
 use crate::kept::KeptLines;
-use crate::lent::{LentRow, is_same_row, lent_rows, look_up, places_of};
+use crate::lent::{LentRow, is_same_row, lent_rows, places_of};
 use crate::scrolling::{Shift, clear_moved, is_whole, origin_of};
 use crate::told::{Sketch, ToldScreen};
 use crate::view::PaneView;
@@ -23,7 +23,7 @@ fn are_drawn(flags: &[bool], drawn: &[LentRow]) -> bool
         → 0 < length (get_or (lent_rows drawn.now) k []) }
 {
     for k in 0..drawn.len() {
-        if !has_flag(flags, k) && drawn[k].cells.is_empty() {
+        if !has_flag(flags, k) && drawn[k].cells.len() == 0 {
             return false;
         }
     }
@@ -32,6 +32,7 @@ fn are_drawn(flags: &[bool], drawn: &[LentRow]) -> bool
 
 // Whether a shift brings the row at a place as it is.
 fn is_brought(shift: &Shift, before: &[LentRow], drawn: &[LentRow], row: usize) -> bool
+    requires before { All IsOfLine before.now }
     requires drawn { All IsOfLine drawn.now }
     requires row { row < length drawn.now }
     ensures { IsTrue result
@@ -51,7 +52,7 @@ fn places_at(
     drawn: &[LentRow],
     row: usize,
 ) -> Option<(usize, usize)>
-    requires drawn { All IsOfLine drawn.now }
+    requires before { All IsOfLine before.now }
     requires row { row < length drawn.now }
     ensures { IfSome result (λ d. IsLikeBut (get_or (placed_rows before.now) row [])
         (get_or (lent_rows drawn.now) row []) d.0 d.1) }
@@ -69,7 +70,7 @@ fn places_of_rows(
     before: &[LentRow],
     drawn: &[LentRow],
 ) -> Result<Vec<Option<(usize, usize)>>, AllocError>
-    requires { All IsOfLine drawn.now }
+    requires { All IsOfLine before.now }
     ensures { IfOk result (λ known. AreLike known.items (placed_rows before.now)
         (lent_rows drawn.now)) }
 {
@@ -83,7 +84,8 @@ fn places_of_rows(
 
 // Sets the flags of the rows that a shift brings as they are: of the same line before it and after.
 fn flag_brought(flags: &mut Vec<bool>, shift: &Shift, before: &[LentRow], drawn: &[LentRow])
-    requires { All IsOfLine drawn.now }
+    requires before { All IsOfLine before.now }
+    requires drawn { All IsOfLine drawn.now }
     ensures { (k : ℕ) → get_or flags.new.items k false ≡ true
         → (get_or flags.old.items k false ≡ true)
         ⊎ ComesAsIs shift.now (placed_rows before.now) (placed_rows drawn.now) k }
@@ -115,12 +117,40 @@ fn flag_moved(
     if shifts.len() != 1 || !is_whole(&shifts[0], width) {
         return Ok(());
     }
-    let before = lent_rows(alloc, kept, last)?;
+    let before = lent_rows(alloc, kept, last, drawn.len())?;
     flag_brought(flags, &shifts[0], before.as_slice(), drawn);
     Ok(())
 }
 
-// The same after the scene that was painted last; of no row where windows' texts moved.
+// Behind the last row without a flag.
+fn end_of_open(flags: &[bool]) -> usize {
+    for k in (0..flags.len()).rev() {
+        if !flags[k] {
+            return k + 1;
+        }
+    }
+    0
+}
+
+// How many rows without a flag are few: what is known of the scene before isn't worth the look at
+// it.
+const FEW_ROWS: usize = 2;
+
+fn are_few_open(flags: &[bool]) -> bool {
+    let mut open = 0;
+    for flag in flags {
+        if !*flag {
+            if open >= FEW_ROWS {
+                return false;
+            }
+            open += 1;
+        }
+    }
+    true
+}
+
+// The same after the scene that was painted last; of no row where windows' texts moved, or where
+// few rows have no flag.
 fn known_places(
     alloc: Global,
     kept: &KeptLines,
@@ -129,15 +159,14 @@ fn known_places(
     last: &Scene,
     drawn: &[LentRow],
 ) -> Result<Vec<Option<(usize, usize)>>, AllocError>
-    requires sound { IsSoundScene last.now }
-    requires drawn { All IsOfLine drawn.now }
+    requires { IsSoundScene last.now }
     ensures { IfOk result (λ known. StayBut shifts.now known.items (drawn_rows last.now)
         (lent_rows drawn.now)) }
 {
-    if !shifts.is_empty() {
+    if !shifts.is_empty() || are_few_open(flags) {
         return Ok(Vec::new(alloc));
     }
-    let before = lent_rows(alloc, kept, last)?;
+    let before = lent_rows(alloc, kept, last, end_of_open(flags))?;
     let known = places_of_rows(alloc, flags, before.as_slice(), drawn)?;
     Ok(known)
 }
@@ -164,7 +193,7 @@ fn sketch_after<'a>(
     let shifts = told.shifts_to(alloc, views)?;
     let mut flags = steady_rows(alloc, last, scene)?;
     clear_moved(&mut flags, shifts.as_slice());
-    let mut drawn = lent_rows(alloc, kept, scene)?;
+    let drawn = lent_rows(alloc, kept, scene, end_of_open(flags.as_slice()))?;
     flag_moved(
         alloc,
         kept,
@@ -174,7 +203,6 @@ fn sketch_after<'a>(
         scene.width,
         drawn.as_slice(),
     )?;
-    look_up(&mut drawn, kept, flags.as_slice());
     if !are_drawn(flags.as_slice(), drawn.as_slice()) {
         return Ok(None);
     }

@@ -277,6 +277,9 @@ fn put_cell(first: u8, cell: &[u8], into: &mut Vec<u8>) -> Result<(), AllocError
     ensures ok { OnOk result (into.new.items ≡ into.old.items ++ first ∷ shortest (text cell.now)) }
     ensures err { OnErr result (BeginsAs into.old.items into.new.items) }
 {
+    if let [byte] = cell {
+        return into.extend_from_slice(&[first, 0xa1, *byte]);
+    }
     if cell.len() < 0x20 {
         into.extend_from_slice(&[first, 0xa0 + cell.len() as u8])?;
         into.extend_from_slice(cell)

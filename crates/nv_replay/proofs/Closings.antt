@@ -4,9 +4,9 @@ use Rattle.std.specs.Io.KnownBytes.{append_known}
 use Rattle.nv_model.specs.declared.parts.Limits.{Limits}
 use Rattle.nv_history.specs.Events.{Entry}
 use Rattle.nv_history.specs.Runs.{run}
-use Rattle.nv_world.specs.Contents.{plain_entries}
-use Rattle.nv_world.specs.declared.entry.Entry.{Entry as HeldEntry}
-use Rattle.nv_world.specs.declared.story.Start.{Start}
+use Rattle.nv_core.specs.Contents.{plain_entries}
+use Rattle.nv_core.specs.declared.entry.Entry.{Entry as HeldEntry}
+use Rattle.nv_core.specs.declared.start.Start.{Start}
 use Rattle.nv_book.specs.Books.{Recorded, entries_of_records}
 use Rattle.nv_book.specs.Outputs.{AreOutputs}
 use Rattle.nv_book.specs.Reading.{IsRead, IsReplaying, IsWhyUnread, Replaying}

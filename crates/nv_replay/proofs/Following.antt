@@ -7,10 +7,10 @@ use Rattle.nv_history.specs.Events.{Entry as PlainEntry}
 use Rattle.nv_history.specs.Runs.{run, run_from}
 use Rattle.nv_history.specs.Worlds.{World, fresh_world}
 use Rattle.nv_history.proofs.GoingRuns.{run-append}
-use Rattle.nv_world.specs.Contents.{plain_entries, plain_entry, plain_event}
+use Rattle.nv_core.specs.Contents.{plain_entries, plain_entry, plain_event}
 use Rattle.nv_world.specs.Steps.{splices_of_event}
 use Rattle.nv_world.specs.Worlds.{WorldRecord, model_of}
-use Rattle.nv_world.specs.declared.entry.Entry.{Entry}
+use Rattle.nv_core.specs.declared.entry.Entry.{Entry}
 use Rattle.nv_world.specs.declared.step.Moved.{Moved}
 use Rattle.nv_world.specs.declared.step.Step.{Step}
 use Rattle.nv_world.proofs.Entries.{entries-push}

@@ -6,12 +6,12 @@ use Rattle.nv_history.specs.Events.{Entry, Effect}
 use Rattle.nv_history.specs.Worlds.{World, Outcome, refuses, idles, becomes, fresh_world, step}
 use Rattle.nv_history.specs.Runs.{run, run_from}
 use Rattle.nv_history.proofs.GoingRuns.{run-append}
-use Rattle.nv_world.specs.Contents.{plain_entries, plain_entry, plain_event}
+use Rattle.nv_core.specs.Contents.{plain_entries, plain_entry, plain_event}
 use Rattle.nv_world.specs.Worlds.{AppliesErr, AppliesOk, WorldRecord, model_of, outcome_of_event, with_entry}
-use Rattle.nv_world.specs.declared.effect.Effect.{Effect as HeldEffect}
-use Rattle.nv_world.specs.declared.effect.Stop.{Stop}
-use Rattle.nv_world.specs.declared.effect.Stop.TheVariants.{NoMemory, Stranger, Gone, Held}
-use Rattle.nv_world.specs.declared.entry.Entry.{Entry as HeldEntry}
+use Rattle.nv_core.specs.declared.effect.Effect.{Effect as HeldEffect}
+use Rattle.nv_core.specs.declared.effect.Stop.{Stop}
+use Rattle.nv_core.specs.declared.effect.Stop.TheVariants.{NoMemory, Stranger, Gone, Held}
+use Rattle.nv_core.specs.declared.entry.Entry.{Entry as HeldEntry}
 use Rattle.nv_replay.specs.Entering.{entered, entered_behind}
 use Rattle.nv_replay.specs.inside.Offering.{HasOffered, Offers}
 

@@ -7,7 +7,7 @@ use Rattle.nv_history.specs.Runs.{run, run_from}
 use Rattle.std.specs.Prelude.{option_and_then}
 use Rattle.nv_world.specs.Worlds.{WorldRecord, model_of}
 use Rattle.nv_world.specs.declared.step.Step.{Step}
-use Rattle.nv_world.specs.declared.story.Start.{Start}
+use Rattle.nv_core.specs.declared.start.Start.{Start}
 use Rattle.nv_book.specs.Books.{Recorded, entries_of_records}
 use Rattle.nv_book.specs.Outputs.{ToldBy, session_named, Enters, GoesOut, Plays}
 use Rattle.nv_book.specs.Reading.{IsReplayed, IsReplaying, IsStepOf, Replaying, ReplaysOne}

@@ -1,9 +1,9 @@
 -- What is seen of a history that is gone over (own rule).
 use Rattle.std.specs.Prelude.{◌≡◌, ⊤, List, [], ◌∷◌, ◌++◌}
 use Rattle.nv_history.specs.Runs.{run}
-use Rattle.nv_world.specs.Contents.{plain_entries}
+use Rattle.nv_core.specs.Contents.{plain_entries}
 use Rattle.nv_world.specs.Worlds.{model_of}
-use Rattle.nv_world.specs.declared.story.Start.{Start}
+use Rattle.nv_core.specs.declared.start.Start.{Start}
 use Rattle.nv_book.specs.Books.{Recorded, entries_of_records}
 use Rattle.nv_book.specs.Reading.{IsStepOf}
 use Rattle.nv_watch.specs.Verdicts.{Sight}

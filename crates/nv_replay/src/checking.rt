@@ -3,8 +3,8 @@ ghost use Rattle.std.specs.Prelude.{◌≡◌, ◌≤◌, ◌++◌, ◌↔◌, �
 ghost use Rattle.nv_io.specs.Faults.{Rose};
 ghost use Rattle.nv_io.specs.Streams.{Gave};
 ghost use Rattle.nv_dispatch.specs.Runs.{usual_limits};
-ghost use Rattle.nv_world.specs.Contents.{plain_entries, plain_event};
-ghost use Rattle.nv_world.specs.Worlds.{IsLightEvent};
+ghost use Rattle.nv_core.specs.Contents.{plain_entries, plain_event};
+ghost use Rattle.nv_core.specs.Bounds.{IsLightEvent};
 ghost use Rattle.nv_book.specs.Books.{Recorded};
 ghost use Rattle.nv_book.specs.Reading.{IsReplaying};
 ghost use Rattle.nv_watch.specs.Verdicts.{IsVerdict, Sight, sight};
@@ -20,10 +20,11 @@ use crate::summary::summary;
 use crate::tallying::{Tally, compare_next};
 use crate::watching::{prepare, watch};
 use nv_book::{Replay, Unread, Upcoming};
+use nv_core::History;
 use nv_dispatch::usual_limits;
 use nv_io::{Sink, Source, put_all};
 use nv_watch::{Watcher, catch_up};
-use nv_world::{History, Step};
+use nv_world::Step;
 use std::alloc::Global;
 
 /// A book that was gone over: its history, and what was counted and compared.

@@ -3,8 +3,9 @@ ghost use Rattle.std.specs.Prelude.{◌≡◌, ◌≤◌, IfOk, IsSome, OnOk};
 ghost use Rattle.nv_io.specs.Faults.{Rose};
 ghost use Rattle.nv_history.specs.Runs.{run};
 ghost use Rattle.nv_history.specs.Worlds.{fresh_world};
-ghost use Rattle.nv_world.specs.Contents.{plain_entries, plain_entry, plain_event};
-ghost use Rattle.nv_world.specs.Worlds.{IsLightEvent, IsOutboxSize};
+ghost use Rattle.nv_core.specs.Contents.{plain_entries, plain_entry, plain_event};
+ghost use Rattle.nv_core.specs.Bounds.{IsLightEvent};
+ghost use Rattle.nv_world.specs.Worlds.{IsOutboxSize};
 ghost use Rattle.nv_gen.specs.Story.{script_of};
 ghost use Rattle.nv_replay.specs.Ends.{WriteEnds, start_within};
 ghost use Rattle.nv_replay.specs.Entering.{entered};
@@ -12,10 +13,11 @@ ghost use Rattle.nv_replay.specs.inside.Offering.{Offers};
 
 use crate::ending::WriteEnd;
 use nv_book::{BookFault, write_book};
+use nv_core::{Entry, History, Start, Stop};
 use nv_gen::script;
 use nv_io::Sink;
 use nv_model::Limits;
-use nv_world::{Entry, History, Start, Stop, World};
+use nv_world::World;
 use std::alloc::{AllocError, Global};
 
 /// Writes the book of a history, with the outputs of its takes. Want of memory is told, too, where

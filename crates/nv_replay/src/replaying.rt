@@ -4,7 +4,7 @@ ghost use Rattle.nv_io.specs.Faults.{Rose};
 ghost use Rattle.nv_io.specs.Streams.{Gave};
 ghost use Rattle.nv_history.specs.Runs.{run};
 ghost use Rattle.nv_dispatch.specs.Runs.{usual_limits};
-ghost use Rattle.nv_world.specs.Contents.{plain_entries};
+ghost use Rattle.nv_core.specs.Contents.{plain_entries};
 ghost use Rattle.nv_book.specs.Reading.{AreWritable};
 ghost use Rattle.nv_replay.specs.Ends.{ReplayEnds};
 ghost use Rattle.nv_replay.specs.inside.Endings.{WritesOutputs};
@@ -12,9 +12,9 @@ ghost use Rattle.nv_world.specs.Worlds.{IsOutboxSize};
 
 use crate::ending::{ReplayEnd, end_of_unread};
 use nv_book::{Book, BookFault, read_book, write_replay};
+use nv_core::History;
 use nv_dispatch::usual_limits;
 use nv_io::{Sink, Source};
-use nv_world::History;
 use std::alloc::Global;
 
 // Writes the outputs of a book's history, which is kept.

@@ -1,11 +1,11 @@
 //! The line that a comparison ends with.
 ghost use Rattle.std.specs.Prelude.{◌≡◌, ◌++◌, IfOk, OnOk};
-ghost use Rattle.nv_world.specs.Contents.{plain_entries, plain_event};
+ghost use Rattle.nv_core.specs.Contents.{plain_entries, plain_event};
 ghost use Rattle.nv_replay.specs.Summary.{count_of_kind, counted, is_opening, is_take};
 ghost use Rattle.nv_replay.specs.inside.Endings.{line_for};
 
 use itoa::Buffer;
-use nv_world::{Entry, Event};
+use nv_core::{Entry, Event};
 use std::alloc::{AllocError, Global};
 
 fn is_opening(event: &Event) -> bool

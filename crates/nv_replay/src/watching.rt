@@ -1,15 +1,16 @@
 //! Watchers that follow a history.
 ghost use Rattle.std.specs.Prelude.{◌≡◌, ℕ, true, false, length, slice_get, Some, OnOk};
 ghost use Rattle.nv_rpc.specs.Frames.{call_of_frame};
-ghost use Rattle.nv_world.specs.Contents.{plain_event};
+ghost use Rattle.nv_core.specs.Contents.{plain_event};
 ghost use Rattle.nv_watch.specs.Verdicts.{sight};
 ghost use Rattle.nv_replay.specs.inside.Quiet.{is_of_buffers, is_of_texts, may_splice, may_splice_by, method_called};
 ghost use Rattle.nv_replay.specs.inside.Watching.{HasLookedOn, IsPrepared};
 
+use nv_core::Event;
 use nv_rpc::Frame;
 use nv_value::Bytes;
 use nv_watch::{Watcher, catch_up, drive, glance};
-use nv_world::{Event, Step, World};
+use nv_world::{Step, World};
 use std::alloc::AllocError;
 
 // Whether a method may change a text.

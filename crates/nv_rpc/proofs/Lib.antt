@@ -6,5 +6,6 @@ pub mod OtherLengths
 pub mod Puts
 pub mod Sendable
 pub mod Spelled
+pub mod Told
 pub mod Triples
 pub mod WholeRequests

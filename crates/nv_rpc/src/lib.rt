@@ -2,6 +2,7 @@
 #![tactic(auto)]
 
 mod arriving;
+mod events;
 mod frame;
 mod laws;
 mod message;
@@ -14,6 +15,7 @@ mod shortest;
 mod spelling;
 
 pub use arriving::decode_call;
+pub use events::put_lines_event;
 pub use frame::{Frame, call_of};
 pub use laws::{read_is_told, told_is_read};
 pub use message::Message;

@@ -298,7 +298,8 @@ fn put_lists(lists: &[LineList], into: &mut Vec<u8>) -> Result<(), AllocError>
     Ok(())
 }
 
-fn put_lines(lines: &Excerpt, into: &mut Vec<u8>) -> Result<(), AllocError>
+/// Adds lines at the end, as a list of strings.
+pub(crate) fn put_lines(lines: &Excerpt, into: &mut Vec<u8>) -> Result<(), AllocError>
     requires { HasSpelling (items (map text lines.now)) }
     ensures { OnOk result (into.new.items
         ≡ into.old.items ++ shortest (items (map text lines.now))) }

@@ -4,7 +4,7 @@ use Rattle.clap.proofs.OnLiterals.{clap_on_literals}
 use Rattle.nv_io.specs.Streams.{Tells}
 use Rattle.nv_io.specs.declared.lanes.Ended.TheVariants as ended
 use Rattle.nv_io.proofs.StreamLemmas.{each_none}
-use Rattle.nv_world.specs.Contents.{plain_entries}
+use Rattle.nv_core.specs.Contents.{plain_entries}
 use Rattle.nv_watch.specs.Verdicts.{Sight}
 use Rattle.nv_watch.specs.declared.verdict.Verdict.{Verdict}
 use Rattle.nv_replay.specs.declared.ending.ReplayEnd.TheVariants as replay

@@ -3,9 +3,9 @@ use Rattle.std.proofs.Common.{◌≡◌, ℕ, ◌+◌, List, [], Option, Some, N
 use Rattle.std.specs.Prelude.{IfSome, IsSome, option_map}
 use Rattle.nv_io.specs.Known.{IsOut, out_after}
 use Rattle.nv_history.specs.Events.{Entry}
-use Rattle.nv_world.specs.declared.entry.Entry as world
-use Rattle.nv_world.specs.declared.story.Start.{Start}
-use Rattle.nv_world.specs.Contents.{plain_entries}
+use Rattle.nv_core.specs.declared.entry.Entry as world
+use Rattle.nv_core.specs.declared.start.Start.{Start}
+use Rattle.nv_core.specs.Contents.{plain_entries}
 use Rattle.nv_session.specs.Sending.{world_after}
 use Rattle.nv_words.specs.Commands.{PlainCommand, embeds, serves, replays, generates, follows_buffer, shows}
 use Rattle.nv_run.specs.Commands.{RunsAs, usual_start}

@@ -11,7 +11,7 @@ use Rattle.nv_history.specs.MarkPlaces.{EachMarkStands}
 use Rattle.nv_history.specs.UiLaws.{FoldsToScreen}
 use Rattle.nv_history.proofs.GoingOn.{PlaceGoesOn}
 use Rattle.nv_history.proofs.GoingRuns.{run_goes}
-use Rattle.nv_world.specs.declared.story.Start.{Start}
+use Rattle.nv_core.specs.declared.start.Start.{Start}
 use Rattle.nv_session.specs.Sending.{world_after}
 use Rattle.nv_run.specs.Following.{IsFolded, HasMarksInPlace, IsShown, messages_taken_by}
 

@@ -9,7 +9,7 @@ use Rattle.nv_io.specs.declared.lanes.Flaw.{Flaw}
 use Rattle.nv_io.specs.declared.lanes.Ended.{Ended}
 use Rattle.nv_io.specs.declared.lanes.Ended.TheVariants.{Closed, Malformed, Overflowed, ReadFault, WriteFault, Quit, NoMemory}
 use Rattle.nv_history.specs.Events.{Entry, quit_at}
-use Rattle.nv_world.specs.declared.story.Start.{Start}
+use Rattle.nv_core.specs.declared.start.Start.{Start}
 use Rattle.nv_calls.specs.Reading.{WasRead}
 use Rattle.nv_session.specs.Ends.{AnswersAll, AnswersUpTo, SessionEnds}
 use Rattle.nv_run.specs.Statuses.{status_of}

@@ -7,9 +7,9 @@ use Rattle.nv_io.specs.Faults.{Rose}
 use Rattle.nv_io.specs.Words.{SinkWords, SourceWords}
 use Rattle.nv_dispatch.specs.Runs.{usual_limits}
 use Rattle.nv_history.specs.Events.{Entry}
-use Rattle.nv_world.specs.Contents.{plain_entries}
-use Rattle.nv_world.specs.declared.entry.Entry as world
-use Rattle.nv_world.specs.declared.story.Start.{Start}
+use Rattle.nv_core.specs.Contents.{plain_entries}
+use Rattle.nv_core.specs.declared.entry.Entry as world
+use Rattle.nv_core.specs.declared.start.Start.{Start}
 use Rattle.nv_book.specs.Writing.{WroteBook, WroteBookFront}
 use Rattle.nv_watch.specs.Verdicts.{Sight}
 use Rattle.nv_watch.specs.declared.verdict.Verdict.{Verdict}

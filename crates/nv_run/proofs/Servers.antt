@@ -6,13 +6,15 @@ use Rattle.nv_io.specs.Faults.{Rose}
 use Rattle.nv_io.specs.Known.{append_items}
 use Rattle.nv_io.specs.Lanes.{IsFreshLane}
 use Rattle.nv_history.specs.Events.{Entry}
-use Rattle.nv_world.specs.declared.entry.Entry as world
-use Rattle.nv_world.specs.Contents.{plain_entries}
-use Rattle.nv_world.specs.declared.story.Start.{Start}
+use Rattle.nv_core.specs.declared.entry.Entry as world
+use Rattle.nv_core.specs.Contents.{plain_entries}
+use Rattle.nv_core.specs.declared.start.Start.{Start}
+use Rattle.nv_world.specs.Worlds.{WorldRecord, start_of}
 use Rattle.nv_session.specs.Sending.{world_after}
 use Rattle.nv_model.specs.declared.parts.Limits.{Limits}
 use Rattle.nv_dispatch.specs.Runs.{usual_limits}
 use Rattle.nv_serve.specs.Headline.{ServerLeaves}
+use Rattle.nv_serve.specs.Leaving.{LeavesCore}
 use Rattle.nv_serve.specs.Jobs.{lanes_of}
 use Rattle.nv_serve.specs.Links.{LanesWords}
 use Rattle.nv_serve.specs.declared.job.Job.{Job}
@@ -45,7 +47,7 @@ pub lent_whole : {A : Type 0} (xs ys : List A) (n : ℕ) → length ys ≡ n →
 lent_whole xs ys n e = take-append-le n ys (drop (length ys) xs) (omega (arith, e)) ∙ take_all n ys (omega (arith, e))
 
 -- lanes came back that were lent in jobs
-pub back_whole : {L : Type 0} (before mid after : Option (List L)) (whole news : List (Job L)) → after ≡ append_items mid (lanes_of whole) → mid ≡ before → whole ≡ news → after ≡ append_items before (lanes_of news)
+pub back_whole : {C L : Type 0} (before mid after : Option (List L)) (whole news : List (Job C L)) → after ≡ append_items mid (lanes_of whole) → mid ≡ before → whole ≡ news → after ≡ append_items before (lanes_of news)
 back_whole before mid after whole news e f h = e ∙ ap (λ known. append_items known (lanes_of whole)) f ∙ ap (λ js. append_items before (lanes_of js)) h
 
 module _ {L I S : Type 0} (t : LanesWords L I S) (start : Start) where
@@ -163,3 +165,15 @@ module _ {L I S : Type 0} (t : LanesWords L I S) (outbox n : ℕ) (kept : List E
       → (ended ≡ Done → (spent ≡ false) × (failed ≡ false)) → (ended ≡ Failed → (spent ≡ false) × (failed ≡ true)) → (ended ≡ WriteFault → ⊥) → LeavesLanes t (usual_start outbox) n kept ended ⊥ olds news
   lanes_left limits ended same e h done fault other =
       subst (λ (l : Limits). LeavesLanes t (record { outbox = outbox; limits = l }) n kept ended ⊥ olds news) same (left_so (record { outbox = outbox; limits = limits }) ended e h done fault other)
+
+module _ {L I S : Type 0} (t : LanesWords L I S) (outbox n : ℕ) (spent failed : Bool) (olds news : List L) where
+  -- what lanes left on a fresh world of the usual limits, whose history is now kept
+  pub world_left : (limits : Limits) (ended : ServerEnd) (fresh left : WorldRecord) (entries : List world.Entry) → limits ≡ usual_limits → length olds ≡ n
+      → fresh ≡ record { capacity = outbox; limits = limits; history = []; spent = false } → entries ≡ left.history
+      → LeavesCore t (λ (w : WorldRecord) (story : List world.Entry). w.history ≡ story) start_of (start_of fresh) left spent failed olds news
+      → (ended ≡ Done → (spent ≡ false) × (failed ≡ false)) → (ended ≡ Failed → (spent ≡ false) × (failed ≡ true)) → (ended ≡ WriteFault → ⊥)
+      → LeavesLanes t (usual_start outbox) n (plain_entries entries) ended ⊥ olds news
+  world_left limits ended fresh left entries same e is kept l done fault other =
+      let leaves = subst (λ (k : List world.Entry). ServerLeaves t (start_of fresh) (plain_entries k) spent failed olds news) (sym (kept ∙ l.stands_for)) l.leaves in
+      lanes_left t outbox n (plain_entries entries) spent failed olds news limits ended same e
+      (subst (λ (d : Start). ServerLeaves t d (plain_entries entries) spent failed olds news) (ap start_of is) leaves) done fault other

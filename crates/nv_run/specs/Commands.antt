@@ -2,7 +2,7 @@
 use Rattle.std.specs.Prelude.{◌≡◌, ℕ, Bool, IsSome, List, Option, Some, None}
 use Rattle.nv_dispatch.specs.Runs.{usual_limits}
 use Rattle.nv_history.specs.Events.{Entry}
-use Rattle.nv_world.specs.declared.story.Start.{Start}
+use Rattle.nv_core.specs.declared.start.Start.{Start}
 use Rattle.nv_session.specs.Sending.{world_after}
 use Rattle.nv_words.specs.Commands.{PlainCommand, embeds, serves, replays, generates, follows_buffer, shows}
 use Rattle.nv_run.specs.declared.command.TheConstants.{USUAL_OUTBOX}

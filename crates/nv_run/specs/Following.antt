@@ -13,7 +13,7 @@ use Rattle.nv_history.specs.MarkPlaces.{MarksStand, operations_of}
 use Rattle.nv_history.specs.Runs.{TakenBatch, out, all_messages}
 use Rattle.nv_history.specs.Spoken.{AreSpoken}
 use Rattle.nv_history.specs.UiLaws.{ShowsMoment}
-use Rattle.nv_world.specs.declared.story.Start.{Start}
+use Rattle.nv_core.specs.declared.start.Start.{Start}
 use Rattle.nv_session.specs.Sending.{world_after}
 
 -- the batches that a session took in a history, and their messages

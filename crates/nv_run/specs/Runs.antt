@@ -8,9 +8,9 @@ use Rattle.nv_io.specs.declared.lanes.Ended.TheVariants.{ReadFault, WriteFault}
 use Rattle.nv_dispatch.specs.Runs.{usual_limits}
 use Rattle.nv_history.specs.Events.{Entry}
 use Rattle.nv_history.specs.Worlds.{fresh_world}
-use Rattle.nv_world.specs.declared.story.Start.{Start}
-use Rattle.nv_world.specs.Contents.{plain_entries}
-use Rattle.nv_world.specs.Ledgers.{Ledger}
+use Rattle.nv_core.specs.declared.start.Start.{Start}
+use Rattle.nv_core.specs.Contents.{plain_entries}
+use Rattle.nv_core.specs.Ledgers.{Ledger}
 use Rattle.nv_gen.specs.Story.{script_of}
 use Rattle.nv_watch.specs.Verdicts.{Sight}
 use Rattle.nv_watch.specs.declared.verdict.Verdict.{Verdict}

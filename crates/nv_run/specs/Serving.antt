@@ -5,7 +5,7 @@ use Rattle.nv_io.specs.Known.{append_items, IsUnused}
 use Rattle.nv_io.specs.Lanes.{IsFreshLane}
 use Rattle.nv_io.specs.Words.{SinkWords}
 use Rattle.nv_history.specs.Events.{Entry}
-use Rattle.nv_world.specs.declared.story.Start.{Start}
+use Rattle.nv_core.specs.declared.start.Start.{Start}
 use Rattle.nv_book.specs.Writing.{WroteBook, WroteBookFront}
 use Rattle.nv_serve.specs.Headline.{AreServed, AreServedOrFailed, HasFault, Headline}
 use Rattle.nv_serve.specs.Links.{LanesWords}

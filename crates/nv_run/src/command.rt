@@ -4,7 +4,7 @@ ghost use Rattle.nv_io.specs.Faults.{Rose};
 ghost use Rattle.nv_io.specs.Streams.{GaveEach, Tells};
 ghost use Rattle.nv_io.specs.declared.lanes.Ended.{Ended};
 ghost use Rattle.nv_words.specs.Commands.{HasFairNumbers, command_asked, plain_command};
-ghost use Rattle.nv_world.specs.Contents.{plain_entries};
+ghost use Rattle.nv_core.specs.Contents.{plain_entries};
 ghost use Rattle.nv_session.specs.Ends.{SessionEnds};
 ghost use Rattle.nv_session.specs.Sending.{world_after, HasSession};
 ghost use Rattle.nv_run.specs.Commands.{MayDial, MayListen, MayOpen, RunsAs, usual_start};
@@ -21,6 +21,7 @@ use crate::telling::{
     status_of, status_of_follow, status_of_replay, status_of_script, status_of_server, tell,
     tell_end, tell_follow, tell_replay, tell_script, tell_server,
 };
+use nv_core::{History, Start};
 use nv_dispatch::usual_limits;
 use nv_history::{fold_law, mark_law, screen_law};
 use nv_io::{Dial, Ended, Files, Lane, Port, Sink, Source};
@@ -28,7 +29,7 @@ use nv_replay::{ReplayEnd, WriteEnd, generate};
 use nv_session::alone;
 use nv_watch::Watcher;
 use nv_words::{Command, Refusal, read_words};
-use nv_world::{History, Start, World};
+use nv_world::World;
 use std::alloc::Global;
 use std::fs::File;
 use std::net::{Net, TcpListener, TcpStream};

@@ -9,6 +9,7 @@ ghost use Rattle.nv_run.specs.inside.Lanes.{AreOut};
 
 use nv_io::{Lane, Port};
 use nv_serve::Job;
+use nv_world::World;
 
 /// Takes so many lanes, for which `jobs` has room. `false` is a fault, and says that `jobs` has
 /// the lanes that were got before it.
@@ -16,7 +17,7 @@ pub fn take_lanes<R, P: Port>(
     rt: &R,
     port: &mut P,
     count: usize,
-    jobs: &mut Vec<Job<P::Line>>,
+    jobs: &mut Vec<Job<World, P::Line>>,
 ) -> bool
     requires none { jobs.old.items ≡ [] }
     requires room { count ≤ vec_capacity jobs.old }
@@ -41,7 +42,7 @@ pub fn take_lanes<R, P: Port>(
 }
 
 /// Hands lanes back that are out, in order.
-pub fn give_back<P: Port>(port: &mut P, jobs: Vec<Job<P::Line>>)
+pub fn give_back<P: Port>(port: &mut P, jobs: Vec<Job<World, P::Line>>)
     requires out { AreOut (P.words port.old).lent (vec_len jobs) }
     ensures returned { (P.words port.new).returned
         ≡ append_items (P.words port.old).returned (lanes_of jobs.items) }

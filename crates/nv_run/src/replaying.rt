@@ -2,14 +2,14 @@
 ghost use Rattle.std.specs.Prelude.{◌≡◌, ℕ, List, length};
 ghost use Rattle.nv_io.specs.Faults.{Rose};
 ghost use Rattle.nv_io.specs.Streams.{Gave};
-ghost use Rattle.nv_world.specs.Contents.{plain_entries};
+ghost use Rattle.nv_core.specs.Contents.{plain_entries};
 ghost use Rattle.nv_replay.specs.Ends.{IsNothingDone};
 ghost use Rattle.nv_run.specs.Replaying.{AreVerdicts, LeavesFile, PlaysBook};
 
+use nv_core::History;
 use nv_io::{Files, Sink, Source};
 use nv_replay::ReplayEnd;
 use nv_watch::Watcher;
-use nv_world::History;
 use std::alloc::Global;
 use std::fs::File;
 use std::rt::Files as SystemFiles;

@@ -3,7 +3,7 @@ ghost use Rattle.std.specs.Prelude.{◌≡◌, ◌⊎◌, ◌+◌, ◌<◌, ◌�
 ghost use Rattle.std.specs.Bool.{OnFalse, OnTrue};
 ghost use Rattle.nv_io.specs.Faults.{Rose};
 ghost use Rattle.nv_io.specs.Lanes.{IsFreshLane};
-ghost use Rattle.nv_world.specs.Contents.{plain_entries};
+ghost use Rattle.nv_core.specs.Contents.{plain_entries};
 ghost use Rattle.nv_serve.specs.Jobs.{lanes_of};
 ghost use Rattle.nv_run.specs.Commands.{usual_start};
 ghost use Rattle.nv_session.specs.Sending.{world_after};
@@ -12,11 +12,12 @@ ghost use Rattle.nv_run.specs.inside.Ends.{IsEndOfBook, IsLater};
 ghost use Rattle.nv_world.specs.Worlds.{IsOutboxSize};
 
 use crate::lanes::{give_back, take_lanes};
+use nv_core::{History, Start};
 use nv_dispatch::usual_limits;
 use nv_io::{Files, Lane, Port, Sink, Source};
 use nv_replay::{WriteEnd, keep_book};
-use nv_serve::{Job, Kept};
-use nv_world::{History, Start};
+use nv_serve::{Job, Left};
+use nv_world::World;
 use std::alloc::Global;
 use std::fs::File;
 use std::net::{Net, TcpListener, TcpStream};
@@ -37,16 +38,16 @@ pub enum ServerEnd {
 }
 
 // How a server ended whose lanes have ended.
-fn end_of(kept: &Kept) -> ServerEnd
+fn end_of(left: &Left<World>) -> ServerEnd
     ensures done { result ≡ ServerEnd.Done
-        → (kept.now.spent ≡ false) × (kept.now.failed ≡ false) }
+        → (left.now.spent ≡ false) × (left.now.failed ≡ false) }
     ensures failed { result ≡ ServerEnd.Failed
-        → (kept.now.spent ≡ false) × (kept.now.failed ≡ true) }
+        → (left.now.spent ≡ false) × (left.now.failed ≡ true) }
     ensures other { result ≡ ServerEnd.WriteFault → ⊥ }
 {
-    if kept.spent {
+    if left.spent {
         ServerEnd::NoMemory
-    } else if kept.failed {
+    } else if left.failed {
         ServerEnd::Failed
     } else {
         ServerEnd::Done
@@ -57,7 +58,7 @@ fn end_of(kept: &Kept) -> ServerEnd
 fn serve_lanes<
     R: Net<Listener = TcpListener, Stream = TcpStream> + Threads + Wait + Sync,
     L: Lane + Send,
->(rt: &R, alloc: Global, outbox: u32, jobs: &mut [Job<L>], kept: &mut History) -> ServerEnd
+>(rt: &R, alloc: Global, outbox: u32, jobs: &mut [Job<World, L>], kept: &mut History) -> ServerEnd
     requires lanes { (0 < length jobs.old) × (length jobs.old ≤ 256) }
     requires outbox { IsOutboxSize outbox }
     requires empty { kept.old.entries ≡ [] }
@@ -69,11 +70,14 @@ fn serve_lanes<
         (lanes_of jobs.old) (lanes_of jobs.new) }
     ensures other { result ≡ ServerEnd.WriteFault → ⊥ }
 {
-    let Ok(left) = nv_serve::serve(rt, alloc, usual_limits(), outbox, jobs) else {
+    let Ok(world) = World::new(alloc, usual_limits(), outbox) else {
+        return ServerEnd::NoMemory;
+    };
+    let Ok(left) = nv_serve::serve(rt, alloc, world, jobs) else {
         return ServerEnd::NoMemory;
     };
     let ended = end_of(&left);
-    *kept = left.history;
+    *kept = left.core.into_history();
     ended
 }
 
@@ -83,7 +87,7 @@ fn open<R: SystemFiles<File = File> + Net<Listener = TcpListener, Stream = TcpSt
     port: &mut P,
     address: &str,
     count: usize,
-    jobs: &mut Vec<Job<P::Line>>,
+    jobs: &mut Vec<Job<World, P::Line>>,
 ) -> bool
     requires may { P.may address.now }
     requires none { jobs.old.items ≡ [] }

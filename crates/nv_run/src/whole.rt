@@ -3,15 +3,15 @@ ghost use Rattle.std.specs.Prelude.{◌≡◌, ◌≢◌, ◌⊎◌, ℕ, ◌^�
 ghost use Rattle.nv_io.specs.Memory.{AreSizes};
 ghost use Rattle.nv_io.specs.declared.lanes.Flaw.{Flaw};
 ghost use Rattle.nv_history.specs.Events.{quit_at};
-ghost use Rattle.nv_world.specs.Contents.{plain_entries};
+ghost use Rattle.nv_core.specs.Contents.{plain_entries};
 ghost use Rattle.nv_session.specs.Ends.{AnswersAll, AnswersUpTo};
 ghost use Rattle.nv_run.specs.Commands.{usual_start};
 ghost use Rattle.nv_run.specs.declared.command.TheConstants.{USUAL_OUTBOX};
 
 use crate::command::run;
+use nv_core::History;
 use nv_io::{MemDial, MemFiles, MemPort, MemSink, SureSink, SureSource};
 use nv_watch::Counter;
-use nv_world::History;
 use std::alloc::Global;
 use std::fs::File;
 use std::net::{Net, TcpListener, TcpStream};

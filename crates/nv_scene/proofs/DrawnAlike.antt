@@ -10,14 +10,14 @@ use Rattle.nv_hl.specs.Groups.{NamedGroup}
 use Rattle.nv_layout.specs.Places.{rects, separators}
 use Rattle.nv_layout.specs.declared.nodes.Placed.{Placed}
 use Rattle.nv_layout.specs.declared.nodes.Rect.{Rect}
-use Rattle.nv_linedraw.specs.LineCells.{cell_of_byte, cells_of_line, rows_of_line}
+use Rattle.nv_linedraw.specs.LineCells.{cell_of_byte, cells_in_one_row, cells_of_line, rows_of_line}
 use Rattle.nv_linedraw.specs.declared.looks.Looks.{Looks}
 use Rattle.nv_marks.specs.Sound.{same_name}
 use Rattle.nv_windows.specs.Rooms.{windows_area, without_status}
 use Rattle.nv_windows.specs.Workspace.{Page, Workspace}
 use Rattle.nv_windows.specs.declared.window.Window.{Window}
 use Rattle.nv_screen.specs.Cursor.{bytes_at, cursor_among, cursor_in_pane, rows_together}
-use Rattle.nv_screen.specs.Drawing.{bar_attr, cells_of_width, drawn_rows, line_rows, pane_rows, status_cells, status_row, text_rows, with_pane, with_panes, with_patches, with_rows, with_separators}
+use Rattle.nv_screen.specs.Drawing.{bar_attr, cells_of_width, drawn_rows, line_rows, pane_rows, status_row, text_rows, with_pane, with_panes, with_patches, with_rows, with_separators}
 use Rattle.nv_screen.specs.declared.scene.Bars.{Bars}
 use Rattle.nv_screen.specs.declared.scene.Pane.{Pane}
 use Rattle.nv_screen.specs.declared.scene.SceneLine.{SceneLine}
@@ -120,7 +120,7 @@ pane_drawn looks bars rows p q like =
     (λ i. text_rows (rect i).width (stop i) looks (rect i).height p.lines.items)
     ∙ rows_alike q.rect.width q.tabstop looks q.rect.height p.lines.items q.lines.items like.lines in
     let bar : status_row bars p ≡ status_row bars q =
-    λ i. cells_of_width (rect i).width (bar_attr bars (current i)) (status_cells (stop i) (bar_attr bars (current i)) (status i)) in
+    λ i. cells_of_width (rect i).width (bar_attr bars (current i)) (cells_in_one_row (stop i) (bar_attr bars (current i)) (status i)) in
     λ i. with_strip (with_rows rows (rect i).row (rect i).col (text i)) ((rect i).row + (rect i).height) (rect i).col (bar i)
 
 cursor_like : (p q : Pane) (cursor : Spot) → IsLike p q → cursor_in_pane p cursor ≡ cursor_in_pane q cursor

@@ -98,22 +98,3 @@ taken_short cells rest all n k lt is none e =
 pub taken_none : (cells rest all : List Cell) (n k : ℕ) → k < n → length cells ≡ k → rest ≡ [] → cells ++ rest ≡ all → rest ≡ drop n all
 taken_none cells rest all n k lt is none e =
     none ∙ sym (drop_all n cells (omega (arith, is))) ∙ ap (drop n) (sym (append-nil cells) ∙ ap (λ r. cells ++ r) (sym none) ∙ e)
-
--- ---- cells changed one after another
-
-pub changed_next : {X : Type 0} (f : X → X) (ys : List X) (i : ℕ) (d : X) → i < length ys
-    → set (map f (take i ys) ++ drop i ys) i (f (get_or (map f (take i ys) ++ drop i ys) i d)) ≡ map f (take (suc i) ys) ++ drop (suc i) ys
-changed_next f [] i d lt = absurd (omega (arith, lt))
-changed_next f (y ∷ ys) zero d lt = refl
-changed_next f (y ∷ ys) (suc i) d lt = ap (λ r. f y ∷ r) (changed_next f ys i d (omega (arith, lt)))
-
-pub changed_step : {X : Type 0} (f : X → X) (xs ys : List X) (i : ℕ) (d : X) → i < length ys
-    → xs ≡ map f (take i ys) ++ drop i ys
-    → set xs i (f (get_or xs i d)) ≡ map f (take (i + 1) ys) ++ drop (i + 1) ys
-changed_step f xs ys i d lt is =
-    let next : suc i ≡ i + 1 = omega arith in
-    ap (λ zs. set zs i (f (get_or zs i d))) is ∙ changed_next f ys i d lt ∙ ap (λ k. map f (take k ys) ++ drop k ys) next
-
-pub changed_all : {X : Type 0} (f : X → X) (xs ys : List X) (i : ℕ) → length ys ≤ i → xs ≡ map f (take i ys) ++ drop i ys → xs ≡ map f ys
-changed_all f xs ys i le is =
-    is ∙ (λ j. map f (take_all i ys le j) ++ drop_all i ys le j) ∙ append-nil (map f ys)

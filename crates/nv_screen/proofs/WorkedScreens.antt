@@ -8,11 +8,11 @@ use Rattle.nv_text.specs.Pieces.{parts}
 use Rattle.nv_hl.specs.declared.cell.Cell.{Cell}
 use Rattle.nv_hl.specs.Cells.{blank_rows, with_strip}
 use Rattle.nv_layout.specs.declared.nodes.Rect.{Rect}
-use Rattle.nv_linedraw.specs.LineCells.{cells_of_line}
+use Rattle.nv_linedraw.specs.LineCells.{cells_in_one_row, cells_of_line}
 use Rattle.nv_screen.specs.declared.scene.Pane.{Pane}
 use Rattle.nv_screen.specs.declared.scene.Scene.{Scene}
 use Rattle.nv_screen.specs.declared.scene.SceneLine.{SceneLine}
-use Rattle.nv_screen.specs.Drawing.{bar_attr, cells_of_width, drawn_rows, line_rows, status_cells, text_rows, with_pane, with_panes, with_patches, with_rows, with_separators}
+use Rattle.nv_screen.specs.Drawing.{bar_attr, cells_of_width, drawn_rows, line_rows, text_rows, with_pane, with_panes, with_patches, with_rows, with_separators}
 use Rattle.nv_screen.specs.Screens.{FirstScreenIsDrawn, HasLine, HasPanes, TwoWindowsAreDrawn, first_bars, first_looks, first_rect, left_rect, middle_rect, right_rect}
 
 -- a window with one line, by what it shows
@@ -23,7 +23,7 @@ one_line rows rect current bytes status =
     (line_rows rect.width first_looks rect.height (cells_of_line rect.width 8 bytes [] first_looks)
     (λ left. text_rows rect.width 8 first_looks left [])))
     (rect.row + rect.height) rect.col
-    (cells_of_width rect.width (bar_attr first_bars current) (status_cells 8 (bar_attr first_bars current) status))
+    (cells_of_width rect.width (bar_attr first_bars current) (cells_in_one_row 8 (bar_attr first_bars current) status))
 
 -- a window, by its fields
 abbrev by_fields : List (List Cell) → Rect → ℕ → Bool → List SceneLine → List ℕ → List (List Cell)
@@ -31,7 +31,7 @@ by_fields rows rect tabstop current lines status =
     with_strip
     (with_rows rows rect.row rect.col (text_rows rect.width tabstop first_looks rect.height lines))
     (rect.row + rect.height) rect.col
-    (cells_of_width rect.width (bar_attr first_bars current) (status_cells tabstop (bar_attr first_bars current) status))
+    (cells_of_width rect.width (bar_attr first_bars current) (cells_in_one_row tabstop (bar_attr first_bars current) status))
 
 shown : (rows : List (List Cell)) (p : Pane) (rect : Rect) (current : Bool) (bytes status : List ℕ) → HasLine p rect current bytes status
     → with_pane first_looks first_bars rows p ≡ one_line rows rect current bytes status
@@ -42,7 +42,7 @@ shown rows p rect current bytes status is =
     (line_rows rect.width first_looks rect.height (cells_of_line rect.width 8 (is.bytes_are i) (is.plain i) first_looks)
     (λ left. text_rows rect.width 8 first_looks left [])))
     (rect.row + rect.height) rect.col
-    (cells_of_width rect.width (bar_attr first_bars current) (status_cells 8 (bar_attr first_bars current) status)))
+    (cells_of_width rect.width (bar_attr first_bars current) (cells_in_one_row 8 (bar_attr first_bars current) status)))
 
 drawn : (s : Scene) (w h : ℕ) (ps : List Pane) (rs : List Rect) → HasPanes s w h ps rs
     → drawn_rows s ≡ with_separators first_bars (with_panes first_looks first_bars (blank_rows w h) ps) rs

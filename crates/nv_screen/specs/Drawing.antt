@@ -1,14 +1,12 @@
 -- The screen that a scene is drawn as.
 use Rattle.std.specs.Prelude.{ℕ, zero, suc, ◌+◌, ◌-◌, ◌/◌, Bool, true, false, nat_le, min, if◌then◌else◌, List, [], ◌∷◌, ◌++◌, length, take, drop, replicate, slice_index_or}
-use Rattle.nv_text.specs.Pieces.{pieces_of}
 use Rattle.nv_hl.specs.declared.attribute.Attr.{Attr}
 use Rattle.nv_hl.specs.declared.cell.Cell.{Cell}
 use Rattle.nv_hl.specs.Attributes.{empty_attr}
 use Rattle.nv_hl.specs.Cells.{Screen, blank_rows, cell_of, is_right_half, space, with_strip}
 use Rattle.nv_layout.specs.declared.nodes.Rect.{Rect}
 use Rattle.nv_linedraw.specs.declared.looks.Looks.{Looks}
-use Rattle.nv_linedraw.specs.declared.looks.Span.{Span}
-use Rattle.nv_linedraw.specs.LineCells.{atoms_from, cells_from_column, cells_of_line}
+use Rattle.nv_linedraw.specs.LineCells.{cells_in_one_row, cells_of_line}
 use Rattle.nv_screen.specs.declared.scene.Bars.{Bars}
 use Rattle.nv_screen.specs.declared.scene.Pane.{Pane}
 use Rattle.nv_screen.specs.declared.scene.Patch.{Patch}
@@ -82,15 +80,6 @@ abbrev pub with_rows : List (List Cell) → ℕ → ℕ → List (List Cell) →
 with_rows rows row col [] = rows
 with_rows rows row col (r ∷ rs) = with_rows (with_strip rows row col r) (row + 1) col rs
 
--- a status line is drawn in a row without end, all with one attribute
-abbrev pub bar_span : Attr → List ℕ → List Span
-bar_span attr text = record { from = 0; to = length text; attr = attr; eol = false } ∷ []
-
-abbrev pub status_cells : ℕ → Attr → List ℕ → List Cell
-status_cells tabstop attr text =
-    cells_from_column 0 (space attr) 0
-    (atoms_from tabstop 0 text (bar_span attr text) empty_attr (pieces_of text))
-
 -- cells cut or filled with spaces to a width
 abbrev pub cells_of_width : ℕ → Attr → List Cell → List Cell
 cells_of_width width attr cs = cells_up_to width cs ++ replicate (width - length cs) (space attr)
@@ -99,10 +88,11 @@ abbrev pub bar_attr : Bars → Bool → Attr
 bar_attr bars true = bars.current
 bar_attr bars false = bars.other
 
+-- a status line is drawn in one row, all with one attribute
 abbrev pub status_row : Bars → Pane → List Cell
 status_row bars p =
     cells_of_width p.rect.width (bar_attr bars p.current)
-    (status_cells p.tabstop (bar_attr bars p.current) p.status)
+    (cells_in_one_row p.tabstop (bar_attr bars p.current) p.status)
 
 -- a window: its text, and its status line below
 abbrev pub with_pane : Looks → Bars → List (List Cell) → Pane → List (List Cell)

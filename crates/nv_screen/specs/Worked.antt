@@ -3,8 +3,8 @@ use Rattle.std.specs.Prelude.{◌≡◌, ℕ, List, [], ◌∷◌, ◌++◌, cod
 use Rattle.nv_hl.specs.declared.cell.Cell.{Cell}
 use Rattle.nv_hl.specs.Attributes.{empty_attr}
 use Rattle.nv_hl.specs.Cells.{cell_of, right_half, space}
-use Rattle.nv_linedraw.specs.LineCells.{cells_of_line, no_looks}
-use Rattle.nv_screen.specs.Drawing.{cells_of_width, status_cells, with_patch_cells}
+use Rattle.nv_linedraw.specs.LineCells.{cells_in_one_row, cells_of_line, no_looks}
+use Rattle.nv_screen.specs.Drawing.{cells_of_width, with_patch_cells}
 
 -- cells without colours, each with a text, and spaces behind them up to ten
 abbrev pub plain_cell : List ℕ → Cell
@@ -50,5 +50,5 @@ OddLineIsDrawn =
 -- the status line of a window without a name, in twelve cells
 abbrev pub NoNameIsDrawn : Type 0
 NoNameIsDrawn =
-    cells_of_width 12 empty_attr (status_cells 8 empty_attr (codes "[No Name]"))
+    cells_of_width 12 empty_attr (cells_in_one_row 8 empty_attr (codes "[No Name]"))
     ≡ map (λ byte. plain_cell (byte ∷ [])) (codes "[No Name]   ")

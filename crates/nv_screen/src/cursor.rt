@@ -30,8 +30,8 @@ fn rows_together(
     Ok(rows)
 }
 
-// The bytes of a line by its place among lines; none past the last one.
-fn bytes_at(lines: &[SceneLine], at: usize) -> &[u8]
+/// The bytes of a line by its place among lines; none past the last one.
+pub fn bytes_at(lines: &[SceneLine], at: usize) -> &[u8]
     ensures { result.now ≡ bytes_at lines.now at }
 {
     if at >= lines.len() {

@@ -1,31 +1,14 @@
 //! Status lines.
 
-ghost use Rattle.nv_hl.specs.Cells.{cell_of};
 ghost use Rattle.nv_screen.specs.Drawing.{bar_attr, status_row};
 ghost use Rattle.nv_screen.specs.Sound.{IsDrawable};
-ghost use Rattle.nv_screen.specs.inside.Laying.{recoloured};
-ghost use Rattle.std.specs.Prelude.{◌≡◌, IfOk, map};
+ghost use Rattle.std.specs.Prelude.{◌≡◌, IfOk};
 
-use crate::laying::cut_cells;
+use crate::laying::{cut_cells, pad};
 use crate::scene::{Bars, Pane};
 use nv_hl::{Attr, Cell};
-use nv_linedraw::{Looks, first_cells};
+use nv_linedraw::cells_in_one_row;
 use std::alloc::{AllocError, Global};
-
-const PLAIN: Looks = Looks {
-    nontext: Attr::EMPTY,
-    special: Attr::EMPTY,
-    beyond: Attr::EMPTY,
-};
-
-// Gives all cells one attribute.
-fn recolour(cells: &mut Vec<Cell>, attr: Attr)
-    ensures { cells.new.items ≡ map (recoloured attr) cells.old.items }
-{
-    for cell in cells.iter_mut() {
-        cell.attr = attr;
-    }
-}
 
 fn bar_attr(bars: &Bars, current: bool) -> Attr
     ensures { result ≡ bar_attr bars.now current }
@@ -33,20 +16,20 @@ fn bar_attr(bars: &Bars, current: bool) -> Attr
     if current { bars.current } else { bars.other }
 }
 
-/// The cells of a window's status line. Drawn in rows that are two columns longer, no pair of its
-/// first cells stands at a row's end.
+/// The cells of a window's status line.
 pub fn status_row(alloc: Global, pane: &Pane, bars: &Bars) -> Result<Vec<Cell>, AllocError>
     requires { IsDrawable pane.now }
     ensures { IfOk result (λ cells. cells.items ≡ status_row bars.now pane.now) }
 {
     let width = pane.rect.width;
-    let Some(long) = width.checked_add(2) else {
+    let Some(most) = width.checked_add(1) else {
         return Err(AllocError);
     };
+    let attr = bar_attr(bars, pane.current);
     let text = pane.status.as_slice();
-    let most = width as usize + 1;
-    let mut cells = first_cells(alloc, text, &[], long, pane.tabstop, &PLAIN, most)?;
-    recolour(&mut cells, bar_attr(bars, pane.current));
+    let mut cells = cells_in_one_row(alloc, text, attr, pane.tabstop, most)?;
     cut_cells(&mut cells, width as usize);
+    let left = (width as usize).saturating_sub(cells.len());
+    pad(&mut cells, left, b' ', attr)?;
     Ok(cells)
 }

@@ -63,7 +63,8 @@ fn clear_line(
     Ok(room - rows)
 }
 
-// Clears the flags of the rows in which the text of a window differs.
+// Clears the flags of the rows in which the text of a window differs; of all its rows where it
+// begins with another line of the buffer, since texts that move are seldom the same row by row.
 fn clear_text(
     alloc: Global,
     flags: &mut Vec<bool>,
@@ -76,6 +77,11 @@ fn clear_text(
         → ShowsSame new.now.rect.width new.now.tabstop new.now.rect.row new.now.rect.height
         old.now.lines.items new.now.lines.items r) }
 {
+    if old.top != new.top {
+        let row = new.rect.row as usize;
+        clear_rows(flags, row, row + new.rect.height as usize);
+        return Ok(());
+    }
     let olds = old.lines.as_slice();
     let news = new.lines.as_slice();
     let count = olds.len().min(news.len());

@@ -12,9 +12,10 @@ use Rattle.nv_io.specs.declared.lanes.Ended.{Ended}
 use Rattle.nv_io.specs.declared.lanes.Ended.TheVariants.{ReadFault, WriteFault}
 use Rattle.nv_history.specs.Events.{Entry}
 use Rattle.nv_history.specs.Asking.{own}
-use Rattle.nv_world.specs.Contents.{plain_entries}
-use Rattle.nv_world.specs.declared.entry.Entry.{Entry as WorldEntry}
-use Rattle.nv_world.specs.declared.story.Start.{Start}
+use Rattle.nv_core.specs.Contents.{plain_entries}
+use Rattle.nv_core.specs.Gains.{caller_of}
+use Rattle.nv_core.specs.declared.entry.Entry.{Entry as WorldEntry}
+use Rattle.nv_core.specs.declared.start.Start.{Start}
 use Rattle.nv_halves.specs.Passes.{WorldPass, plain_pass}
 use Rattle.nv_halves.proofs.Plains.{own_plain, plain_begins, plain_same}
 use Rattle.nv_session.specs.Openings.{opening_entry}
@@ -40,17 +41,18 @@ pub same_self : {E D : Type 0} (p : PassState E D) → IsSamePass p p
 same_self p = record { turn = refl; number = refl; numbers = refl; start = refl }
 
 -- own entries of a pass that has seen more
-pub own_seen : (c : ℕ) (p q : PassState WorldEntry Start) → entries_by (λ (e : WorldEntry). e.caller) c q.seen ≡ entries_by (λ (e : WorldEntry). e.caller) c p.seen
-    → own c (plain_entries q.seen) ≡ own c (plain_entries p.seen)
+pub own_seen : (c : ℕ) (p q : PassState WorldEntry Start) → entries_by caller_of c q.seen ≡ entries_by caller_of c p.seen → own c (plain_entries q.seen) ≡ own c (plain_entries p.seen)
 own_seen c p q same = own_plain c q.seen ∙ ap plain_entries same ∙ sym (own_plain c p.seen)
 
-pub looks_only : (p h q : PassState WorldEntry Start) → IsSamePass p h → SeesMore (λ (e : WorldEntry). e.caller) p h → Has p.number p.numbers → IsSamePass h q → q.seen ≡ h.seen
+pub looks_only : (caller : WorldEntry → ℕ) (p h q : PassState WorldEntry Start) → caller ≡ caller_of → IsSamePass p h → SeesMore caller p h → Has p.number p.numbers → IsSamePass h q → q.seen ≡ h.seen
     → LooksOnly (plain_pass p) (plain_pass q)
-looks_only p h q same sees number later seen = record {
-  same = plain_same p q (same_passes p h q same later);
-  begins = plain_begins p.seen q.seen (subst (λ (l : List WorldEntry). IsPrefix p.seen l) (sym seen) sees.begins);
-  own_is = own_seen p.number p q (ap (entries_by (λ (e : WorldEntry). e.caller) p.number) seen ∙ sees.own_entries p.number number);
-}
+looks_only caller p h q named same sees number later seen =
+    let named_sees : SeesMore caller_of p h = subst (λ (f : WorldEntry → ℕ). SeesMore f p h) named sees in
+    record {
+      same = plain_same p q (same_passes p h q same later);
+      begins = plain_begins p.seen q.seen (subst (λ (l : List WorldEntry). IsPrefix p.seen l) (sym seen) sees.begins);
+      own_is = own_seen p.number p q (ap (entries_by caller_of p.number) seen ∙ named_sees.own_entries p.number number);
+    }
 
 -- ---- lists that are told
 

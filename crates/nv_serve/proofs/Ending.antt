@@ -7,8 +7,8 @@ use Rattle.nv_history.specs.Events.{Event, open_session, request_of, take_of, cl
 use Rattle.nv_history.specs.Sessions.{Session, fresh_session, shown_after, session_emptied, session_closed_by, has_quit}
 use Rattle.nv_history.specs.Worlds.{World, first_end, world_ended_if, sessions_losing_uis, world_without_uis, with_session_at, after_entry, after_settled_entry, outcome_of_frame, world_after_call, is_scene_due}
 use Rattle.nv_history.proofs.Makings.{Makes, run_keeps}
-use Rattle.nv_world.specs.declared.story.Start.{Start}
-use Rattle.nv_halves.specs.Passes.{world_of_run}
+use Rattle.nv_core.specs.declared.start.Start.{Start}
+use Rattle.nv_core.specs.Starts.{world_of_run}
 use Rattle.nv_halves.proofs.Staying.{of_each}
 
 first_stays : (b : Bool) (at entry : ℕ) (o : Option ℕ) → o ≡ Some entry → first_end b at o ≡ Some entry

@@ -18,11 +18,11 @@ use Rattle.nv_history.specs.Sessions.{Session}
 use Rattle.nv_history.specs.Worlds.{World, session_of}
 use Rattle.nv_history.specs.Asking.{opened_in, asked, calls_of}
 use Rattle.nv_history.specs.Laws.{HistoriesCount}
-use Rattle.nv_world.specs.Contents.{plain_entries}
-use Rattle.nv_world.specs.Worlds.{WorldRecord, model_of}
-use Rattle.nv_world.specs.declared.entry.Entry.{Entry as WorldEntry}
-use Rattle.nv_world.specs.declared.story.Start.{Start}
-use Rattle.nv_halves.specs.Passes.{world_of_run, IsClosedBy}
+use Rattle.nv_core.specs.Contents.{plain_entries}
+use Rattle.nv_core.specs.declared.entry.Entry.{Entry as WorldEntry}
+use Rattle.nv_core.specs.declared.start.Start.{Start}
+use Rattle.nv_core.specs.Starts.{world_of_run}
+use Rattle.nv_halves.specs.Passes.{IsClosedBy}
 use Rattle.nv_halves.specs.Laws.{own_close, SessionsAskInOrder, QuitsAreEnds}
 use Rattle.nv_halves.proofs.Plains.{own_plain, plain_begins}
 use Rattle.nv_session.specs.Openings.{opening_entry, IsWhyUnopened}
@@ -35,7 +35,8 @@ use Rattle.nv_serve.specs.declared.job.LaneEnd.{LaneEnd}
 use Rattle.nv_serve.specs.declared.job.LaneEnd.TheVariants as stop
 use Rattle.nv_serve.specs.inside.Sharing.{first_number, second_number, HasLaneCaller, IsLane}
 use Rattle.nv_serve.specs.inside.Lanes.{session_of_link, one_of_link, other_of_link, IsLaneOfLinks, MetAsNone, MetAsSession, IsMet, IsLastOf, HasLast, EndsLane, ServesAll}
-use Rattle.nv_serve.specs.inside.Jobs.{caller_of, PassesOf, AreReady, IsDealt, AreDealt, ServesJob, ServesJobs, HavePasses, StartsAsLane, IsJoined, AreJoined, is_failed, saw_spent, HasNoneEnded, HasOneEnded}
+use Rattle.nv_core.specs.Gains.{caller_of}
+use Rattle.nv_serve.specs.inside.Jobs.{PassesOf, AreReady, IsDealt, AreDealt, ServesJob, ServesJobs, HavePasses, StartsAsLane, IsJoined, AreJoined, is_failed, saw_spent, HasNoneEnded, HasOneEnded}
 use Rattle.nv_serve.proofs.Members.{In, place, at_place}
 use Rattle.nv_serve.proofs.Sharing.{in_own, opened_within, opened_at, apart, owner, takes_are, calls_are}
 use Rattle.nv_serve.proofs.Chaining.{own_seen, lane_on}
@@ -60,21 +61,21 @@ number_of (suc n) c =
 
 -- ---- what a job came to
 
-module _ {L I S : Type 0} (t : LanesWords L I S) where
-  before_is : (turn : TurnId) (start : Option Start) (i : ℕ) (old dealt run : Job L) → IsDealt turn start i old dealt → (r : ServesJob t dealt run)
+module _ {C L I S : Type 0} (t : LanesWords L I S) where
+  before_is : (turn : TurnId) (start : Option Start) (i : ℕ) (old dealt run : Job C L) → IsDealt turn start i old dealt → (r : ServesJob t dealt run)
       → r.before ≡ (first_pass turn start (first_number i), first_pass turn start (second_number i))
   before_is turn start i old dealt run d r = same_Some r.before (first_pass turn start (first_number i), first_pass turn start (second_number i)) (sym r.had ∙ d.passes_are)
 
-  has_first : (turn : TurnId) (start : Option Start) (i : ℕ) (old dealt run : Job L) → IsDealt turn start i old dealt → (r : ServesJob t dealt run) → Has (first_number i) r.after.0.numbers
+  has_first : (turn : TurnId) (start : Option Start) (i : ℕ) (old dealt run : Job C L) → IsDealt turn start i old dealt → (r : ServesJob t dealt run) → Has (first_number i) r.after.0.numbers
   has_first turn start i old dealt run d r =
       subst (λ (l : List ℕ). Has (first_number i) l) (sym (r.first.numbers ∙ ap (λ (b : PassesOf). b.0.numbers) (before_is turn start i old dealt run d r))) (has_one (first_number i))
 
-  has_second : (turn : TurnId) (start : Option Start) (i : ℕ) (old dealt run : Job L) → IsDealt turn start i old dealt → (r : ServesJob t dealt run) → Has (second_number i) r.after.1.numbers
+  has_second : (turn : TurnId) (start : Option Start) (i : ℕ) (old dealt run : Job C L) → IsDealt turn start i old dealt → (r : ServesJob t dealt run) → Has (second_number i) r.after.1.numbers
   has_second turn start i old dealt run d r =
       subst (λ (l : List ℕ). Has (second_number i) l) (sym (r.second.numbers ∙ ap (λ (b : PassesOf). b.1.numbers) (before_is turn start i old dealt run d r))) (has_one (second_number i))
 
   -- the lane in what the last pass has seen
-  lane_shown : (turn : TurnId) (start : Option Start) (i : ℕ) (old dealt run gone : Job L) (last : PassState WorldEntry Start) → IsDealt turn start i old dealt → ServesJob t dealt run → IsJoined run gone last
+  lane_shown : (turn : TurnId) (start : Option Start) (i : ℕ) (old dealt run gone : Job C L) (last : PassState WorldEntry Start) → IsDealt turn start i old dealt → ServesJob t dealt run → IsJoined caller_of run gone last
       → (end : LaneEnd) × (run.end ≡ Some end) × ServesAll t start (first_number i) (second_number i) end old.lane gone.lane (plain_entries last.seen) (plain_entries last.seen)
   lane_shown turn start i old dealt run gone last d r j =
       let covers = j.covers r.after r.has in
@@ -92,10 +93,10 @@ module _ {L I S : Type 0} (t : LanesWords L I S) where
 
   -- ---- all jobs
 
-  pub all_ready : (turn : TurnId) (start : Option Start) (olds dealt : List (Job L)) → length dealt ≡ length olds → AreDealt turn start olds dealt → AreReady turn dealt
+  pub all_ready : (turn : TurnId) (start : Option Start) (olds dealt : List (Job C L)) → length dealt ≡ length olds → AreDealt turn start olds dealt → AreReady turn dealt
   all_ready turn start olds dealt len d i e lt = record { start = start; passes_are = (d i e (omega (arith, lt, len))).passes_are }
 
-  pub have_passes : (turn : TurnId) (start : Option Start) (olds dealt run : List (Job L)) → length dealt ≡ length olds → length run ≡ length dealt → AreDealt turn start olds dealt → ServesJobs t dealt run → HavePasses turn run
+  pub have_passes : (turn : TurnId) (start : Option Start) (olds dealt run : List (Job C L)) → length dealt ≡ length olds → length run ≡ length dealt → AreDealt turn start olds dealt → ServesJobs t dealt run → HavePasses turn run
   have_passes turn start olds dealt run len run_len d r i e lt =
       let lt_old : i < length olds = omega (arith, lt, len, run_len) in
       let lt_dealt : i < length dealt = omega (arith, lt, run_len) in
@@ -108,8 +109,8 @@ module _ {L I S : Type 0} (t : LanesWords L I S) where
         second = served.second.turn ∙ ap (λ (b : PassesOf). b.1.turn) before;
       }
 
-  has_each : (turn : TurnId) (start : Option Start) (olds dealt run lasts : List (Job L)) (d : Job L) (last : PassState WorldEntry Start) → length dealt ≡ length olds → length run ≡ length dealt → AreDealt turn start olds dealt
-      → ServesJobs t dealt run → AreJoined run lasts last → HasEachUpTo (2 * length olds) last.numbers
+  has_each : (turn : TurnId) (start : Option Start) (olds dealt run lasts : List (Job C L)) (d : Job C L) (last : PassState WorldEntry Start) → length dealt ≡ length olds → length run ≡ length dealt → AreDealt turn start olds dealt
+      → ServesJobs t dealt run → AreJoined caller_of run lasts last → HasEachUpTo (2 * length olds) last.numbers
   has_each turn start olds dealt run lasts d last len run_len deals serves joined c pos most =
       ⊎_elim (λ out. absurd (⊎_elim (λ e. omega (arith, e, pos)) (λ past. omega (arith, past, most)) out))
       (λ k. let lt = k.below in
@@ -122,8 +123,8 @@ module _ {L I S : Type 0} (t : LanesWords L I S) where
       (λ e. covers.has c (inr (subst (λ (n : ℕ). Has n served.after.1.numbers) (sym e) (has_second turn start k.lane (slice_index_or olds k.lane d) (slice_index_or dealt k.lane d) (slice_index_or run k.lane d) one served)))) k.number_is)
       (number_of (length olds) c)
 
-  pub has_all : (turn : TurnId) (start : Option Start) (olds dealt run lasts : List (Job L)) (last : PassState WorldEntry Start) → 0 < length olds → length dealt ≡ length olds → length run ≡ length dealt → AreDealt turn start olds dealt
-      → ServesJobs t dealt run → AreJoined run lasts last → HasEachUpTo (2 * length olds) last.numbers
+  pub has_all : (turn : TurnId) (start : Option Start) (olds dealt run lasts : List (Job C L)) (last : PassState WorldEntry Start) → 0 < length olds → length dealt ≡ length olds → length run ≡ length dealt → AreDealt turn start olds dealt
+      → ServesJobs t dealt run → AreJoined caller_of run lasts last → HasEachUpTo (2 * length olds) last.numbers
   has_all turn start [] dealt run lasts last some len run_len deals serves joined = absurd (omega arith)
   has_all turn start (d ∷ olds) dealt run lasts last some len run_len deals serves joined = has_each turn start (d ∷ olds) dealt run lasts d last len run_len deals serves joined
 
@@ -151,17 +152,17 @@ item_at P [] behind x h = h.0
 item_at P (y ∷ front) behind x h = item_at P front behind x h.1
 
 -- the lane of a job at a place
-lane_at : {L : Type 0} (jobs : List (Job L)) (i : ℕ) (d : Job L) (lane : L) → slice_get (lanes_of jobs) i ≡ Some lane → (i < length jobs) × ((slice_index_or jobs i d).lane ≡ lane)
+lane_at : {C L : Type 0} (jobs : List (Job C L)) (i : ℕ) (d : Job C L) (lane : L) → slice_get (lanes_of jobs) i ≡ Some lane → (i < length jobs) × ((slice_index_or jobs i d).lane ≡ lane)
 lane_at [] i d lane h = absurd (none-some lane h)
 lane_at (j ∷ jobs) zero d lane h = (omega arith, same_Some j.lane lane h)
 lane_at (j ∷ jobs) (suc i) d lane h = let k = lane_at jobs i d lane h in let lt = k.0 in (omega (arith, lt), k.1)
 
-lane_there : {L : Type 0} (jobs : List (Job L)) (i : ℕ) (d : Job L) → i < length jobs → slice_get (lanes_of jobs) i ≡ Some (slice_index_or jobs i d).lane
+lane_there : {C L : Type 0} (jobs : List (Job C L)) (i : ℕ) (d : Job C L) → i < length jobs → slice_get (lanes_of jobs) i ≡ Some (slice_index_or jobs i d).lane
 lane_there [] i d lt = absurd (omega arith)
 lane_there (j ∷ jobs) zero d lt = refl
 lane_there (j ∷ jobs) (suc i) d lt = lane_there jobs i d (omega arith)
 
-lanes_length : {L : Type 0} (jobs : List (Job L)) → length (lanes_of jobs) ≡ length jobs
+lanes_length : {C L : Type 0} (jobs : List (Job C L)) → length (lanes_of jobs) ≡ length jobs
 lanes_length [] = refl
 lanes_length (j ∷ jobs) = ap suc (lanes_length jobs)
 
@@ -217,7 +218,7 @@ at_end_of t end old new links h = by_end end h
 
 -- ---- the headline
 
-module _ {L I S : Type 0} (t : LanesWords L I S) (start : Start) (kept : List Entry) (olds ran lasts : List (Job L)) (d : Job L) (len : length lasts ≡ length olds) (ran_len : length ran ≡ length olds)
+module _ {C L I S : Type 0} (t : LanesWords L I S) (start : Start) (kept : List Entry) (olds ran lasts : List (Job C L)) (d : Job C L) (len : length lasts ≡ length olds) (ran_len : length ran ≡ length olds)
     (each : (i : ℕ) → i < length olds → (end : LaneEnd) × ((slice_index_or ran i d).end ≡ Some end)
     × ServesAll t (Some start) (first_number i) (second_number i) end (slice_index_or olds i d).lane (slice_index_or lasts i d).lane kept kept)
     (called : (e : Entry) → In e kept → HasLaneCaller (length olds) e) (world : World) (runs : world_of_run (Some start) kept ≡ Some world)
@@ -391,40 +392,42 @@ module _ {L I S : Type 0} (t : LanesWords L I S) (start : Start) (kept : List En
 
 -- ---- and all together
 
-runs_as : (k : WorldRecord) (start : Start) (seen : List WorldEntry) → IsSome (model_of k) → k.history ≡ seen → record { outbox = k.capacity; limits = k.limits } ≡ start
-    → (w : World) × (world_of_run (Some start) (plain_entries seen) ≡ Some w)
-runs_as k start seen some history is =
-    let w = some_of (model_of k) some in
-    (w.0, ap (λ (s : Start). world_of_run (Some s) (plain_entries seen)) (sym is) ∙ ap (λ (l : List WorldEntry). world_of_run (Some (record { outbox = k.capacity; limits = k.limits })) (plain_entries l)) (sym history) ∙ w.1)
+runs_as : (begun start : Start) (seen : List WorldEntry) → IsSome (world_of_run (Some begun) (plain_entries seen)) → begun ≡ start → (w : World) × (world_of_run (Some start) (plain_entries seen) ≡ Some w)
+runs_as begun start seen some is =
+    let w = some_of (world_of_run (Some begun) (plain_entries seen)) some in
+    (w.0, ap (λ (s : Start). world_of_run (Some s) (plain_entries seen)) (sym is) ∙ w.1)
 
-module _ {L I S : Type 0} (t : LanesWords L I S) where
-  shows_with : (turn : TurnId) (start : Start) (olds dealt run lasts : List (Job L)) (d : Job L) (last : PassState WorldEntry Start) (k : WorldRecord) (spent failed : Bool) → 0 < length olds → length dealt ≡ length olds
-      → length run ≡ length dealt → length lasts ≡ length run → AreDealt turn (Some start) olds dealt → ServesJobs t dealt run → AreJoined run lasts last → ((e : Job L) → StartsAsLane (slice_index_or run 0 e) last)
-      → ((c : ℕ) → (c ≡ 0) ⊎ (2 * length olds < c) → entries_by caller_of c last.seen ≡ []) → k.history ≡ last.seen → last.start ≡ Some (record { outbox = k.capacity; limits = k.limits }) → IsSome (model_of k)
+module _ {C L I S : Type 0} (t : LanesWords L I S) where
+  shows_with : (turn : TurnId) (start : Start) (olds dealt run lasts : List (Job C L)) (d : Job C L) (last : PassState WorldEntry Start) (begun : Start) (spent failed : Bool) → 0 < length olds → length dealt ≡ length olds
+      → length run ≡ length dealt → length lasts ≡ length run → AreDealt turn (Some start) olds dealt → ServesJobs t dealt run → AreJoined caller_of run lasts last → ((e : Job C L) → StartsAsLane (slice_index_or run 0 e) last)
+      → ((c : ℕ) → (c ≡ 0) ⊎ (2 * length olds < c) → entries_by caller_of c last.seen ≡ []) → last.start ≡ Some begun → IsSome (world_of_run (Some begun) (plain_entries last.seen))
       → SessionsAskInOrder → QuitsAreEnds → HistoriesCount → (spent ≡ false → HasNoneEnded saw_spent run) → (failed ≡ false → HasNoneEnded is_failed run) → (failed ≡ true → HasOneEnded is_failed run)
-      → ServerLeaves t start (plain_entries last.seen) spent failed (lanes_of olds) (lanes_of lasts)
-  shows_with turn start olds dealt run lasts d last k spent failed some len run_len last_len deals serves joined begins callers history begun model asks quits counts no_spent no_failed has_failed =
+      → (begun ≡ start) × ServerLeaves t start (plain_entries last.seen) spent failed (lanes_of olds) (lanes_of lasts)
+  shows_with turn start olds dealt run lasts d last begun spent failed some len run_len last_len deals serves joined begins callers starts model asks quits counts no_spent no_failed has_failed =
       let first_dealt = deals 0 d some in
       let first_served = serves 0 d (omega (arith, some, len)) in
       let first_start = begins d first_served.after first_served.has ∙ first_served.first.start
       ∙ ap (λ (b : PassesOf). b.0.start) (before_is t turn (Some start) 0 (slice_index_or olds 0 d) (slice_index_or dealt 0 d) (slice_index_or run 0 d) first_dealt first_served) in
-      let start_is : record { outbox = k.capacity; limits = k.limits } ≡ start = same_Some (record { outbox = k.capacity; limits = k.limits }) start (sym begun ∙ first_start) in
-      let w = runs_as k start last.seen model history start_is in
+      let start_is : begun ≡ start = same_Some begun start (sym starts ∙ first_start) in
+      let w = runs_as begun start last.seen model start_is in
       let all = last_len ∙ run_len ∙ len in
       let ran = run_len ∙ len in
       let each = λ (i : ℕ) (lt : i < length olds). lane_shown t turn (Some start) i (slice_index_or olds i d) (slice_index_or dealt i d) (slice_index_or run i d) (slice_index_or lasts i d) last
       (deals i d lt) (serves i d (omega (arith, lt, len))) (joined i d (omega (arith, lt, len, run_len))) in
-      let called = called_by (length olds) last callers in record {
-        served = headline t start (plain_entries last.seen) olds run lasts d all ran each called w.0 w.1 asks quits counts;
-        over = λ e. are_over t start (plain_entries last.seen) olds run lasts d all ran each called w.0 w.1 asks quits counts (no_spent e);
-        well = λ e f. are_served t start (plain_entries last.seen) olds run lasts d all ran each called w.0 w.1 asks quits counts (no_spent e) (no_failed f);
-        fault = λ f. has_fault t start (plain_entries last.seen) olds run lasts d all ran each called w.0 w.1 asks quits counts (has_failed f);
-      }
+      let called = called_by (length olds) last callers in (
+        start_is,
+        record {
+          served = headline t start (plain_entries last.seen) olds run lasts d all ran each called w.0 w.1 asks quits counts;
+          over = λ e. are_over t start (plain_entries last.seen) olds run lasts d all ran each called w.0 w.1 asks quits counts (no_spent e);
+          well = λ e f. are_served t start (plain_entries last.seen) olds run lasts d all ran each called w.0 w.1 asks quits counts (no_spent e) (no_failed f);
+          fault = λ f. has_fault t start (plain_entries last.seen) olds run lasts d all ran each called w.0 w.1 asks quits counts (has_failed f);
+        },
+      )
 
-  pub shows : (turn : TurnId) (start : Start) (olds dealt run lasts : List (Job L)) (last : PassState WorldEntry Start) (k : WorldRecord) (spent failed : Bool) → 0 < length olds → length dealt ≡ length olds
-      → length run ≡ length dealt → length lasts ≡ length run → AreDealt turn (Some start) olds dealt → ServesJobs t dealt run → AreJoined run lasts last → ((e : Job L) → StartsAsLane (slice_index_or run 0 e) last)
-      → ((c : ℕ) → (c ≡ 0) ⊎ (2 * length olds < c) → entries_by caller_of c last.seen ≡ []) → k.history ≡ last.seen → last.start ≡ Some (record { outbox = k.capacity; limits = k.limits }) → IsSome (model_of k)
+  pub shows : (turn : TurnId) (start : Start) (olds dealt run lasts : List (Job C L)) (last : PassState WorldEntry Start) (begun : Start) (spent failed : Bool) → 0 < length olds → length dealt ≡ length olds
+      → length run ≡ length dealt → length lasts ≡ length run → AreDealt turn (Some start) olds dealt → ServesJobs t dealt run → AreJoined caller_of run lasts last → ((e : Job C L) → StartsAsLane (slice_index_or run 0 e) last)
+      → ((c : ℕ) → (c ≡ 0) ⊎ (2 * length olds < c) → entries_by caller_of c last.seen ≡ []) → last.start ≡ Some begun → IsSome (world_of_run (Some begun) (plain_entries last.seen))
       → SessionsAskInOrder → QuitsAreEnds → HistoriesCount → (spent ≡ false → HasNoneEnded saw_spent run) → (failed ≡ false → HasNoneEnded is_failed run) → (failed ≡ true → HasOneEnded is_failed run)
-      → ServerLeaves t start (plain_entries last.seen) spent failed (lanes_of olds) (lanes_of lasts)
-  shows turn start [] dealt run lasts last k spent failed some = absurd (omega arith)
-  shows turn start (d ∷ olds) dealt run lasts last k spent failed some = shows_with turn start (d ∷ olds) dealt run lasts d last k spent failed some
+      → (begun ≡ start) × ServerLeaves t start (plain_entries last.seen) spent failed (lanes_of olds) (lanes_of lasts)
+  shows turn start [] dealt run lasts last begun spent failed some = absurd (omega arith)
+  shows turn start (d ∷ olds) dealt run lasts last begun spent failed some = shows_with turn start (d ∷ olds) dealt run lasts d last begun spent failed some

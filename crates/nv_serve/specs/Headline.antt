@@ -10,8 +10,8 @@ use Rattle.nv_history.specs.Events.{Event, open_session, request_of, take_of, cl
 use Rattle.nv_history.specs.Sessions.{Session}
 use Rattle.nv_history.specs.Worlds.{World, session_of}
 use Rattle.nv_history.specs.Asking.{opened_in, asked, calls_of}
-use Rattle.nv_world.specs.declared.story.Start.{Start}
-use Rattle.nv_halves.specs.Passes.{world_of_run}
+use Rattle.nv_core.specs.declared.start.Start.{Start}
+use Rattle.nv_core.specs.Starts.{world_of_run}
 use Rattle.nv_halves.specs.Laws.{own_close}
 use Rattle.nv_session.specs.Openings.{IsWhyUnopened}
 use Rattle.nv_session.specs.Connections.{ConnectionEnds, traffic_of}

@@ -1,4 +1,5 @@
 pub mod Links
 pub mod Jobs
 pub mod Headline
+pub mod Leaving
 pub mod inside

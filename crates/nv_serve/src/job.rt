@@ -1,8 +1,8 @@
 // A lane, the passes by which it comes in, and how it ended.
 ghost use Rattle.std.specs.Prelude.{◌≡◌};
 
+use nv_core::Core;
 use nv_turn::Pass;
-use nv_world::World;
 
 /// How a lane ended.
 #[derive(Clone, Copy, Debug)]
@@ -19,17 +19,17 @@ pub enum LaneEnd {
 
 /// A lane that is to be served.
 #[derive(Drop)]
-pub struct Job<L> {
+pub struct Job<C: Core, L> {
     pub lane: L,
     // Its two passes, while it is served.
-    pub(crate) passes: Option<(Pass<World>, Pass<World>)>,
+    pub(crate) passes: Option<(Pass<C>, Pass<C>)>,
     // How it ended, once it was served.
     pub(crate) end: Option<LaneEnd>,
 }
 
-impl<L> Job<L> {
+impl<C: Core, L> Job<C, L> {
     /// A lane that isn't served yet.
-    pub fn new(lane: L) -> Job<L>
+    pub fn new(lane: L) -> Job<C, L>
         ensures { result.lane ≡ lane }
     {
         Job {

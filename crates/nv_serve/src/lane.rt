@@ -6,18 +6,18 @@ ghost use Rattle.nv_halves.specs.Passes.{plain_pass};
 ghost use Rattle.nv_serve.specs.inside.Lanes.{ArePassesOf, IfLast, ReturnsLink, LooksOnly, ServesAll, StepsLane};
 
 use crate::job::LaneEnd;
+use nv_core::Core;
 use nv_halves::Bell;
 use nv_io::{Accepted, Ended, Lane};
 use nv_session::serve_one;
 use nv_turn::{Pass, Turn};
-use nv_world::World;
 use std::alloc::Global;
 use std::net::{Net, TcpListener, TcpStream};
 use std::sync::Wait;
 use std::thread::Threads;
 
 // Whether memory was wanting to the world.
-fn is_spent<R: Wait>(rt: &R, turn: &Turn<World>, pass: Pass<World>) -> (Pass<World>, bool)
+fn is_spent<R: Wait, C: Core>(rt: &R, turn: &Turn<C>, pass: Pass<C>) -> (Pass<C>, bool)
     requires { pass.turn ≡ turn.now.turn }
     ensures { LooksOnly (plain_pass pass) (plain_pass result.0) }
 {
@@ -29,12 +29,12 @@ fn is_spent<R: Wait>(rt: &R, turn: &Turn<World>, pass: Pass<World>) -> (Pass<Wor
 
 // How a lane ends whose connection ended so, where it does: with the world, or where memory was
 // wanting to the world.
-fn end_after<R: Wait>(
+fn end_after<R: Wait, C: Core>(
     rt: &R,
-    turn: &Turn<World>,
-    pass: Pass<World>,
+    turn: &Turn<C>,
+    pass: Pass<C>,
     how: Ended,
-) -> (Pass<World>, Option<LaneEnd>)
+) -> (Pass<C>, Option<LaneEnd>)
     requires { pass.turn ≡ turn.now.turn }
     ensures looks { LooksOnly (plain_pass pass) (plain_pass result.0) }
     ensures last { IfLast result.1 how }
@@ -51,17 +51,21 @@ fn end_after<R: Wait>(
 
 // Serves one connection of a lane, and gives it back. Where it is the last one, another lane that
 // waits is woken, so that it ends too.
-fn serve_link<R: Net<Listener = TcpListener, Stream = TcpStream> + Threads + Wait + Sync, L: Lane>(
+fn serve_link<
+    R: Net<Listener = TcpListener, Stream = TcpStream> + Threads + Wait + Sync,
+    C: Core + Send,
+    L: Lane,
+>(
     rt: &R,
     alloc: Global,
-    turn: &Turn<World>,
+    turn: &Turn<C>,
     bells: &[Bell],
     number: usize,
     lane: &mut L,
-    passes: (Pass<World>, Pass<World>),
+    passes: (Pass<C>, Pass<C>),
     input: L::In,
     output: L::Out,
-) -> ((Pass<World>, Pass<World>), Option<LaneEnd>)
+) -> ((Pass<C>, Pass<C>), Option<LaneEnd>)
     requires turn { (passes.0.turn ≡ turn.now.turn) × (passes.1.turn ≡ turn.now.turn) }
     requires start { passes.1.start ≡ passes.0.start }
     requires number { number < length bells.now }
@@ -85,15 +89,19 @@ fn serve_link<R: Net<Listener = TcpListener, Stream = TcpStream> + Threads + Wai
 }
 
 // Waits for the next connection of a lane, and serves it.
-fn serve_next<R: Net<Listener = TcpListener, Stream = TcpStream> + Threads + Wait + Sync, L: Lane>(
+fn serve_next<
+    R: Net<Listener = TcpListener, Stream = TcpStream> + Threads + Wait + Sync,
+    C: Core + Send,
+    L: Lane,
+>(
     rt: &R,
     alloc: Global,
-    turn: &Turn<World>,
+    turn: &Turn<C>,
     bells: &[Bell],
     number: usize,
     lane: &mut L,
-    passes: (Pass<World>, Pass<World>),
-) -> ((Pass<World>, Pass<World>), Option<LaneEnd>)
+    passes: (Pass<C>, Pass<C>),
+) -> ((Pass<C>, Pass<C>), Option<LaneEnd>)
     requires turn { (passes.0.turn ≡ turn.now.turn) × (passes.1.turn ≡ turn.now.turn) }
     requires start { passes.1.start ≡ passes.0.start }
     requires number { number < length bells.now }
@@ -118,16 +126,17 @@ fn serve_next<R: Net<Listener = TcpListener, Stream = TcpStream> + Threads + Wai
 /// it ended.
 pub(crate) fn serve_lane<
     R: Net<Listener = TcpListener, Stream = TcpStream> + Threads + Wait + Sync,
+    C: Core + Send,
     L: Lane,
 >(
     rt: &R,
     alloc: Global,
-    turn: &Turn<World>,
+    turn: &Turn<C>,
     bells: &[Bell],
     number: usize,
     lane: &mut L,
-    passes: (Pass<World>, Pass<World>),
-) -> ((Pass<World>, Pass<World>), LaneEnd)
+    passes: (Pass<C>, Pass<C>),
+) -> ((Pass<C>, Pass<C>), LaneEnd)
     requires passes { ArePassesOf turn.now.turn passes.0 passes.1 }
     requires number { number < length bells.now }
     ensures first { IsSamePass passes.0 result.0.0 }

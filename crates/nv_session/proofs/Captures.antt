@@ -15,11 +15,9 @@ use Rattle.std.proofs.sync.atomic.AtomicBool.TheSendSync as flag
 use Rattle.std.specs.contracts.sync.atomic.AtomicBool as flag_row
 use Rattle.nv_turn.specs.contracts.turn.Turn as turn_row
 use Rattle.nv_turn.specs.contracts.pass.Pass as pass_row
-use Rattle.nv_world.proofs.Crossing.{crossing_passes}
-use Rattle.nv_world.specs.contracts.world.World as world_row
-use Rattle.nv_world.specs.contracts.entry.Entry as entry_row
-use Rattle.nv_world.specs.contracts.story.Start as start_row
-use Rattle.nv_world.specs.contracts.story.WorldStory.TheImpl as story
+use Rattle.nv_core.specs.contracts.entry.Entry as entry_row
+use Rattle.nv_core.specs.contracts.start.Start as start_row
+use Rattle.nv_core.proofs.Crossing.{crossing_core}
 use Rattle.nv_halves.specs.contracts.bells.Bell as bell_row
 use Rattle.nv_halves.proofs.bells.Bell.TheSendSync as bell
 use Rattle.nv_halves.specs.contracts.reader.ReaderHalf as half
@@ -28,11 +26,11 @@ use Rattle.nv_halves.proofs.ends.ReaderEnd.TheSendSync as end
 use Rattle.nv_halves.proofs.ends.WriterEnd.TheSendSync as writer_end
 
 -- what such a half gives back
-pub half_sends : (I : RattleType) → IsSend I → IsSend (half.the_row I)
-half_sends I s = search (crossing_passes, end.the_field_send) depth 20
+pub half_sends : (C I : RattleType) (g : _) → IsSend C → IsSend I → IsSend (half.the_row C I g)
+half_sends C I g c s = search (crossing_core, end.the_field_send) depth 20
 
-pub writer_sends : (S : RattleType) → IsSend S → IsSend (writer.the_row S)
-writer_sends S s = search (crossing_passes, writer_end.the_field_send) depth 20
+pub writer_sends : (C S : RattleType) (g : _) → IsSend C → IsSend S → IsSend (writer.the_row C S g)
+writer_sends C S g c s = search (crossing_core, writer_end.the_field_send) depth 20
 
 -- seven captures that may go to another thread
 pub seven_send : {ν : Sym} {A B C D E F G : RattleType} → IsSend A → IsSend B → IsSend C → IsSend D → IsSend E → IsSend F → IsSend G
@@ -69,17 +67,11 @@ own_number_sends = search sendable
 pub flag_sends : {ℓ : Lifetime} {κ : Lft} → IsSend (ShrRef ℓ κ flag_row.the_row)
 flag_sends {ℓ} {κ} = shr_send ℓ κ flag_row.the_row flag.the_sync
 
-abbrev pub the_turn : RattleType
-the_turn = turn_row.the_row world_row.the_row entry_row.the_row start_row.the_row story.ghosts
-
-pub turn_sends : {ℓ : Lifetime} {κ : Lft} → IsSend (ShrRef ℓ κ the_turn)
-turn_sends {ℓ} {κ} = search crossing_passes depth 20
+pub turn_sends : {ℓ : Lifetime} {κ : Lft} (C : RattleType) (g : _) → IsSend C → IsSend (ShrRef ℓ κ (turn_row.the_row C entry_row.the_row start_row.the_row g))
+turn_sends {ℓ} {κ} C g c = search crossing_core depth 20
 
 pub bells_send : {ℓ : Lifetime} {κ : Lft} → IsSend (ShrSlice ℓ κ bell_row.the_row)
 bells_send {ℓ} {κ} = shr_slice_send ℓ κ bell_row.the_row bell.the_sync
 
-abbrev pub the_pass : RattleType
-the_pass = pass_row.the_row world_row.the_row entry_row.the_row start_row.the_row story.ghosts
-
-pub pass_sends : IsSend the_pass
-pass_sends = search crossing_passes depth 20
+pub pass_sends : (C : RattleType) (g : _) → IsSend C → IsSend (pass_row.the_row C entry_row.the_row start_row.the_row g)
+pass_sends C g c = search crossing_core depth 20

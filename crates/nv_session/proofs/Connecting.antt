@@ -8,8 +8,9 @@ use Rattle.nv_io.specs.declared.lanes.Ended.TheVariants.{ReadFault, WriteFault, 
 use Rattle.nv_history.specs.Events.{Entry}
 use Rattle.nv_history.specs.Asking.{own}
 use Rattle.nv_history.specs.Spoken.{AreBytesOf}
-use Rattle.nv_world.specs.declared.story.Start.{Start}
-use Rattle.nv_halves.specs.Passes.{WorldPass, world_of_run, out_of}
+use Rattle.nv_core.specs.declared.start.Start.{Start}
+use Rattle.nv_halves.specs.Passes.{WorldPass}
+use Rattle.nv_core.specs.Starts.{world_of_run, out_of}
 use Rattle.nv_halves.specs.Halves.{ReadsHalf, LeavesClosed, WritesHalf, WroteBy}
 use Rattle.nv_halves.specs.declared.ends.ReaderEnd.{ReaderEnd}
 use Rattle.nv_halves.specs.declared.ends.WriterEnd.{WriterEnd}

@@ -12,7 +12,7 @@ use Rattle.nv_rpc.specs.Calls.{Call}
 use Rattle.nv_history.specs.Events.{Entry, Cause, overflowed_at, quit_at}
 use Rattle.nv_history.specs.Asking.{calls_of}
 use Rattle.nv_linegrid.specs.Told.{Told}
-use Rattle.nv_world.specs.declared.story.Start.{Start}
+use Rattle.nv_core.specs.declared.start.Start.{Start}
 use Rattle.nv_session.specs.Ends.{IsFront}
 use Rattle.nv_session.specs.Sending.{AreBytesTaken}
 use Rattle.nv_session.specs.inside.Alone.{HasNothingDue, IsAlone, IsClosing, WentOn, WentPart, WentUpTo}

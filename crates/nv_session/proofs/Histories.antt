@@ -2,7 +2,7 @@
 use Rattle.std.proofs.Common.{◌≡◌, List, [], ◌∷◌, ◌++◌, Option, Some, None, sym, ap, ◌∙◌, append_assoc}
 use Rattle.std.specs.Option.{option_and_then}
 use Rattle.std.proofs.lemmas.Grind.{flat_map-append}
-use Rattle.nv_world.specs.declared.story.Start.{Start}
+use Rattle.nv_core.specs.declared.start.Start.{Start}
 use Rattle.nv_history.specs.Events.{Entry}
 use Rattle.nv_history.specs.Worlds.{World, step, world_made, fresh_world}
 use Rattle.nv_history.specs.Runs.{TakenBatch, run_from, rest_in, given, out_from}

@@ -13,11 +13,12 @@ use Rattle.nv_history.specs.Sessions.{Session}
 use Rattle.nv_history.specs.Worlds.{World}
 use Rattle.nv_history.specs.Asking.{calls_of}
 use Rattle.nv_history.specs.Spoken.{AreBytesOf}
-use Rattle.nv_world.specs.Contents.{plain_cause}
-use Rattle.nv_world.specs.declared.effect.Cause.{Cause as WorldCause}
-use Rattle.nv_world.specs.declared.effect.Cause.TheVariants as cause
-use Rattle.nv_world.specs.declared.story.Start.{Start}
-use Rattle.nv_halves.specs.Passes.{WorldPass, out_of, OfEach, IsClosedBy, IsOver}
+use Rattle.nv_core.specs.Contents.{plain_cause}
+use Rattle.nv_core.specs.declared.effect.Cause.{Cause as WorldCause}
+use Rattle.nv_core.specs.declared.effect.Cause.TheVariants as cause
+use Rattle.nv_core.specs.declared.start.Start.{Start}
+use Rattle.nv_halves.specs.Passes.{WorldPass, OfEach, IsClosedBy, IsOver}
+use Rattle.nv_core.specs.Starts.{out_of}
 use Rattle.nv_calls.specs.Reading.{ReadsFrom, Reads, BeginWithCalls, WasRead, IsUnfinished, IfInside}
 use Rattle.nv_halves.specs.Halves.{Asks, ReadBy, LeavesClosed, WroteAll, WroteFront, WroteBy}
 use Rattle.nv_halves.specs.declared.ends.ReaderEnd.{ReaderEnd}

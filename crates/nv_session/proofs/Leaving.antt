@@ -15,10 +15,10 @@ use Rattle.nv_history.specs.Runs.{TakenBatch}
 use Rattle.nv_history.specs.Solo.{entry_alone, solo_with_close}
 use Rattle.nv_history.specs.Spoken.{AreBytesOf}
 use Rattle.nv_linegrid.specs.Told.{nothing_told}
-use Rattle.nv_world.specs.declared.entry.Entry as world
-use Rattle.nv_world.specs.Contents.{plain_entries}
-use Rattle.nv_world.specs.Worlds.{cause_of}
-use Rattle.nv_world.specs.declared.story.Start.{Start}
+use Rattle.nv_core.specs.declared.entry.Entry as world
+use Rattle.nv_core.specs.Contents.{plain_entries}
+use Rattle.nv_core.specs.Sessions.{cause_of}
+use Rattle.nv_core.specs.declared.start.Start.{Start}
 use Rattle.nv_session.specs.Sending.{world_after, batches_taken, history_of, cause_in, cause_after, HasSession}
 use Rattle.nv_calls.specs.Reading.{Calls}
 use Rattle.nv_session.specs.Ends.{AnswersAll, AnswersSome, AnswersUpTo, IsHistoryOf, IsFront, SessionEnds}

@@ -4,19 +4,18 @@ use Rattle.std.proofs.lemmas.Bool.Decides.{nat_tests}
 use Rattle.std.specs.Prelude.{nat_le, not, is_some, slice_get, slice_set, option_and_then, option_map}
 use Rattle.std.proofs.lemmas.List.{append-nil}
 use Rattle.nv_rpc.specs.Calls.{Call}
-use Rattle.nv_rpc.specs.Messages.{Sent}
+use Rattle.nv_rpc.specs.Messages.{Sent, detach_event}
 use Rattle.nv_screen.specs.declared.scene.Scene.{Scene}
 use Rattle.nv_model.specs.Editors.{ModelEditor}
 use Rattle.nv_model.specs.Answers.{Fact, attached, detached, edited, deleted, quit}
-use Rattle.nv_world.specs.declared.story.Start.{Start}
+use Rattle.nv_core.specs.declared.start.Start.{Start}
 use Rattle.nv_history.specs.Events.{open_session, request_of, take_of, close_of, Entry, Event, Cause, closed_at, overflowed_at, quit_at, Effect, opened, done, gives, nothing, over, closes}
 use Rattle.nv_history.specs.Sessions.{Session, fresh_session, session_told, session_with_message, session_told_if, session_joined, session_parted, session_parted_if, open_session_hears, unless_closed, session_hears, session_hears_all, session_replied, session_quit, session_quit_if, session_closed_by, shown_after, session_emptied, session_after_call, sessions_after_call, has_quit, reply_message, follows, with_following, without_following, first_message, splice_message}
-use Rattle.nv_rpc.specs.Messages.{detach_event}
 use Rattle.nv_history.specs.Worlds.{World, Outcome, refuses, idles, becomes, fresh_world, session_of, with_session_at, world_ended_if, world_at_end, after_entry, after_settled_entry, outcome_of_frame, world_after_call, step, world_made, request_outcome, live_request_outcome, held_outcome, is_live, is_scene_due, is_nothing_due, take_outcome, session_take_outcome, some_take_outcome, empty_take_outcome, close_outcome, live_close_outcome}
 use Rattle.nv_history.specs.Runs.{TakenBatch, run_from, rest_in, given, out_from}
 use Rattle.nv_history.specs.Asking.{calls_of}
 use Rattle.nv_history.specs.Solo.{entry_alone, entries_if, solo_rest, solo_with_take, solo_with_request, solo_with_close, solo_from}
-use Rattle.nv_world.specs.Worlds.{cause_of}
+use Rattle.nv_core.specs.Sessions.{cause_of}
 use Rattle.nv_history.proofs.Staging.{at_end_sessions, at_end_room}
 use Rattle.nv_session.specs.Sending.{world_after, batches_taken, history_of, cause_in, cause_after}
 use Rattle.nv_session.specs.Ends.{IsFront}

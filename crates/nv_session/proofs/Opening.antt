@@ -11,14 +11,16 @@ use Rattle.nv_history.specs.Worlds.{World, opening_outcome}
 use Rattle.nv_history.specs.Asking.{own, opened_in}
 use Rattle.nv_history.specs.Laws.{HistoriesCount}
 use Rattle.nv_history.proofs.Counting.{histories_count}
-use Rattle.nv_world.specs.Contents.{IsEffect}
-use Rattle.nv_world.specs.declared.calls.Unopened.{Unopened}
-use Rattle.nv_world.specs.declared.calls.Unopened.TheVariants as unopened
-use Rattle.nv_world.specs.declared.effect.Effect.{Effect}
-use Rattle.nv_world.specs.declared.effect.Effect.TheVariants as effect
-use Rattle.nv_world.specs.declared.story.Start.{Start}
-use Rattle.nv_halves.specs.Passes.{WorldPass, world_of_run}
-use Rattle.nv_halves.specs.Applying.{Visit, visit, AddsEvent, HasEffect, OpensWith, AppliesOnce}
+use Rattle.nv_core.specs.Contents.{IsEffect}
+use Rattle.nv_core.specs.declared.calls.Unopened.{Unopened}
+use Rattle.nv_core.specs.declared.calls.Unopened.TheVariants as unopened
+use Rattle.nv_core.specs.declared.effect.Effect.{Effect}
+use Rattle.nv_core.specs.declared.effect.Effect.TheVariants as effect
+use Rattle.nv_core.specs.declared.start.Start.{Start}
+use Rattle.nv_halves.specs.Passes.{WorldPass}
+use Rattle.nv_core.specs.Starts.{world_of_run}
+use Rattle.nv_core.specs.Visits.{Visit, AddsEvent, HasEffect}
+use Rattle.nv_halves.specs.Applying.{visit, OpensWith, AppliesOnce}
 use Rattle.nv_halves.specs.inside.Insisting.{Stays}
 use Rattle.nv_halves.proofs.Onces.{stays_once}
 use Rattle.nv_session.specs.Openings.{opening_entry, OpensSession, OpensNone, IsWhyUnopened, Opens}

@@ -8,7 +8,7 @@ use Rattle.nv_linegrid.specs.Told.{Told, nothing_told}
 use Rattle.nv_history.specs.Events.{Entry}
 use Rattle.nv_history.specs.Runs.{TakenBatch}
 use Rattle.nv_history.specs.Spoken.{events_of, told_with, ShowsIfGiven, AreSpoken, AreBytesOf}
-use Rattle.nv_world.specs.declared.story.Start.{Start}
+use Rattle.nv_core.specs.declared.start.Start.{Start}
 use Rattle.nv_session.specs.Sending.{batches_taken, AreBytesTaken}
 use Rattle.nv_speech.specs.Flows.{bytes_said}
 use Rattle.nv_session.specs.inside.Alone.{IsSent}

@@ -13,12 +13,11 @@ use Rattle.nv_history.specs.Events.{Entry, Cause, overflowed_at, quit_at}
 use Rattle.nv_history.specs.Runs.{TakenBatch}
 use Rattle.nv_history.specs.Spoken.{AreBytesOf}
 use Rattle.nv_history.specs.Asking.{calls_of}
-use Rattle.nv_world.specs.Worlds.{WorldRecord}
+use Rattle.nv_world.specs.Worlds.{WorldRecord, start_of}
 use Rattle.nv_linegrid.specs.Told.{Told, nothing_told}
 use Rattle.nv_painter.specs.Painters.{Painting}
-use Rattle.nv_halves.specs.Passes.{start_of}
 use Rattle.nv_session.specs.Sending.{AreBytesTaken, history_of}
-use Rattle.nv_world.specs.declared.story.Start.{Start}
+use Rattle.nv_core.specs.declared.start.Start.{Start}
 use Rattle.nv_calls.specs.Reading.{Calls, EndsAt, ReadsFrom, WasRead, IsUnfinished}
 use Rattle.nv_calls.specs.Intakes.{IntakeState, with_more, came}
 use Rattle.nv_calls.proofs.Giving.{calls_then, inside_by, gave_none, gave_fed, gave_then, gave_on, reads_behind, reads_on, parts_behind, came_more, came_all}

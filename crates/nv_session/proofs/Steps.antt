@@ -12,13 +12,13 @@ use Rattle.nv_rpc.specs.Messages.{Sent}
 use Rattle.nv_history.specs.Events.{open_session, Entry, Cause, overflowed_at, quit_at}
 use Rattle.nv_history.specs.Asking.{calls_of}
 use Rattle.nv_history.specs.Solo.{entry_alone}
-use Rattle.nv_world.specs.Worlds.{WorldRecord, IsLightCall}
+use Rattle.nv_world.specs.Worlds.{WorldRecord, start_of}
+use Rattle.nv_core.specs.Bounds.{IsLightCall}
 use Rattle.nv_screen.specs.declared.scene.Scene.{Scene}
 use Rattle.nv_linegrid.specs.Told.{Told, nothing_told}
 use Rattle.nv_history.specs.Spoken.{told_with}
-use Rattle.nv_halves.specs.Passes.{start_of}
 use Rattle.nv_session.specs.Sending.{AreBytesTaken, history_of, cause_after, HasSession}
-use Rattle.nv_world.specs.declared.story.Start.{Start}
+use Rattle.nv_core.specs.declared.start.Start.{Start}
 use Rattle.nv_calls.specs.Reading.{EndsAt, IsUnfinished, IfInside}
 use Rattle.nv_calls.specs.Intakes.{IntakeState, IsShortCall, GivesCall, fresh_intake}
 use Rattle.nv_calls.proofs.Giving.{gave_fresh, gave_one}

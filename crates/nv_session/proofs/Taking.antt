@@ -8,13 +8,12 @@ use Rattle.nv_history.specs.Events.{take_of, Entry, Cause, Effect, gives}
 use Rattle.nv_history.specs.Sessions.{Session}
 use Rattle.nv_history.specs.Worlds.{World, Outcome, refuses, idles, becomes, session_of, is_scene_due, is_nothing_due, take_outcome, some_take_outcome, empty_take_outcome, step}
 use Rattle.nv_history.specs.Solo.{entry_alone}
-use Rattle.nv_world.specs.Contents.{sent_of_shared, plain_entry, IsEffect}
-use Rattle.nv_world.specs.Worlds.{WorldRecord, outcome_of_event, AppliesOk}
-use Rattle.nv_world.specs.declared.entry.Entry as world
-use Rattle.nv_world.specs.declared.effect.Batch.{Batch}
-use Rattle.nv_world.specs.declared.effect.Effect.{Effect as Given}
-use Rattle.nv_world.specs.declared.effect.Effect.TheVariants.{Items}
-use Rattle.nv_halves.specs.Passes.{start_of}
+use Rattle.nv_core.specs.Contents.{sent_of_shared, plain_entry, IsEffect}
+use Rattle.nv_world.specs.Worlds.{WorldRecord, outcome_of_event, AppliesOk, start_of}
+use Rattle.nv_core.specs.declared.entry.Entry as world
+use Rattle.nv_core.specs.declared.effect.Batch.{Batch}
+use Rattle.nv_core.specs.declared.effect.Effect.{Effect as Given}
+use Rattle.nv_core.specs.declared.effect.Effect.TheVariants.{Items}
 use Rattle.nv_session.specs.Sending.{world_after}
 use Rattle.nv_session.specs.inside.Worlds.{entries_in, GivesBatch, TakesDue}
 

@@ -13,10 +13,11 @@ use Rattle.nv_history.specs.Events.{Entry, Cause, closed_at, overflowed_at, quit
 use Rattle.nv_history.specs.Worlds.{World}
 use Rattle.nv_history.specs.Asking.{takes_by, calls_of}
 use Rattle.nv_history.specs.Spoken.{AreBytesOf}
-use Rattle.nv_world.specs.declared.story.Start.{Start}
+use Rattle.nv_core.specs.declared.start.Start.{Start}
 use Rattle.nv_calls.specs.Reading.{Reads, BeginWithCalls, WasRead, IsUnfinished, IfInside}
 use Rattle.nv_halves.specs.Halves.{WroteAll, WroteFront}
-use Rattle.nv_halves.specs.Passes.{WorldPass, out_of, OfEach, IsFromReader, IsFromWriter, EachEvent, Gained, GainedEach, IsClosedBy, IsOver}
+use Rattle.nv_halves.specs.Passes.{WorldPass, OfEach, IsFromReader, IsFromWriter, EachEvent, Gained, GainedEach, IsClosedBy, IsOver}
+use Rattle.nv_core.specs.Starts.{out_of}
 use Rattle.nv_session.specs.Openings.{opening_entry, HasOpening, IsWhyUnopened}
 
 -- What went over a connection: the bytes read, and what is left of them; and of the end where bytes

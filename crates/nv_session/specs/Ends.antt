@@ -8,7 +8,7 @@ use Rattle.nv_io.specs.declared.lanes.Ended.TheVariants.{Closed, Malformed, Over
 use Rattle.nv_rpc.specs.Calls.{Call}
 use Rattle.nv_history.specs.Events.{Entry, Cause, closed_at, overflowed_at, quit_at}
 use Rattle.nv_history.specs.Asking.{calls_of}
-use Rattle.nv_world.specs.declared.story.Start.{Start}
+use Rattle.nv_core.specs.declared.start.Start.{Start}
 use Rattle.nv_calls.specs.Reading.{Calls, Reads, WasRead, IsUnfinished, IfInside}
 use Rattle.nv_session.specs.Sending.{AreBytesTaken, history_of, cause_after}
 

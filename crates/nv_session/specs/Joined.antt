@@ -3,8 +3,8 @@
 -- ended.
 use Rattle.nv_io.specs.declared.lanes.Ended.{Ended}
 use Rattle.nv_io.specs.declared.lanes.Ended.TheVariants.{Closed, Malformed, Overflowed, ReadFault, WriteFault, Quit, NoMemory}
-use Rattle.nv_world.specs.declared.effect.Cause.{Cause}
-use Rattle.nv_world.specs.declared.effect.Cause.TheVariants as cause
+use Rattle.nv_core.specs.declared.effect.Cause.{Cause}
+use Rattle.nv_core.specs.declared.effect.Cause.TheVariants as cause
 use Rattle.nv_halves.specs.declared.ends.ReaderEnd.{ReaderEnd}
 use Rattle.nv_halves.specs.declared.ends.ReaderEnd.TheVariants as r
 use Rattle.nv_halves.specs.declared.ends.WriterEnd.{WriterEnd}

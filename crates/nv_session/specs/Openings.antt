@@ -7,8 +7,9 @@ use Rattle.nv_io.specs.declared.lanes.Ended.TheVariants.{Closed, Malformed, Over
 use Rattle.nv_history.specs.Events.{open_session, Entry}
 use Rattle.nv_history.specs.Worlds.{World}
 use Rattle.nv_history.specs.Asking.{own, opened_in}
-use Rattle.nv_world.specs.declared.story.Start.{Start}
-use Rattle.nv_halves.specs.Passes.{WorldPass, world_of_run, Gained}
+use Rattle.nv_core.specs.declared.start.Start.{Start}
+use Rattle.nv_halves.specs.Passes.{WorldPass, Gained}
+use Rattle.nv_core.specs.Starts.{world_of_run}
 
 -- the opening of a session, by this caller
 abbrev pub opening_entry : ℕ → Entry

@@ -9,8 +9,8 @@ use Rattle.nv_history.specs.Worlds.{World, session_of}
 use Rattle.nv_history.specs.Runs.{TakenBatch, run, out, all_messages}
 use Rattle.nv_history.specs.Solo.{solo}
 use Rattle.nv_history.specs.Spoken.{AreBytesOf}
-use Rattle.nv_world.specs.Worlds.{cause_of}
-use Rattle.nv_world.specs.declared.story.Start.{Start}
+use Rattle.nv_core.specs.Sessions.{cause_of}
+use Rattle.nv_core.specs.declared.start.Start.{Start}
 
 -- the world after a history, where worlds begin so
 abbrev pub world_after : Start → List Entry → Option World

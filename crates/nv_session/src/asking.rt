@@ -6,17 +6,18 @@ ghost use Rattle.nv_painter.specs.Spoken.{IsSoundIfThere};
 ghost use Rattle.nv_history.specs.Events.{open_session, request_of, take_of};
 ghost use Rattle.nv_history.specs.Solo.{entry_alone};
 ghost use Rattle.nv_history.specs.Worlds.{step};
-ghost use Rattle.nv_world.specs.Contents.{sent_of_shared};
-ghost use Rattle.nv_world.specs.Worlds.{IsLightCall};
-ghost use Rattle.nv_halves.specs.Passes.{start_of};
+ghost use Rattle.nv_core.specs.Contents.{sent_of_shared};
+ghost use Rattle.nv_core.specs.Bounds.{IsLightCall};
+ghost use Rattle.nv_world.specs.Worlds.{start_of};
 ghost use Rattle.nv_session.specs.Sending.{world_after, cause_after};
 ghost use Rattle.nv_session.specs.inside.Alone.{IsAlone, IsCalled, HasNothingDue, Answers, IsUnanswered};
 ghost use Rattle.nv_session.specs.inside.Leaving.{GainsClose};
 ghost use Rattle.nv_session.specs.inside.Worlds.{entries_in, TakesDue, IsEndedBy};
 
+use nv_core::{Batch, Cause, Taken, Unasked, Unclosed, Unopened, Untaken};
 use nv_io::Ended;
 use nv_rpc::Frame;
-use nv_world::{Batch, Cause, Taken, Unasked, Unclosed, Unopened, Untaken, World};
+use nv_world::World;
 use std::alloc::{AllocError, Global};
 
 /// The number of the one session.

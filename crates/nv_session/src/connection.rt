@@ -13,6 +13,7 @@ ghost use Rattle.nv_session.specs.Joined.{end_by_cause, end_beside, end_beside_g
 ghost use Rattle.nv_session.specs.Connections.{ServesSession, ServesNone};
 ghost use Rattle.nv_session.specs.inside.Opened.{ServesHalves, what_was_opened};
 
+use nv_core::{Cause, Core, Unopened};
 use nv_halves::{
     Bell, ReaderEnd, ReaderHalf, WriterEnd, WriterHalf, open, reader_half, unread_half, writer_half,
 };
@@ -20,7 +21,6 @@ use nv_io::{Ended, Sink, Source};
 use nv_painter::Painter;
 use nv_speech::Voice;
 use nv_turn::{Pass, Turn};
-use nv_world::{Cause, Unopened, World};
 use std::alloc::Global;
 use std::snapshot::Snapshot;
 use std::sync::Wait;
@@ -30,10 +30,10 @@ use std::thread::{self, Promise, Threads, join};
 /// A connection that was served: how it ended, the number of its session, or 0 where it had none,
 /// its passes, and its two ends.
 #[derive(Drop)]
-pub struct Served<I, S> {
+pub struct Served<C: Core, I, S> {
     pub how: Ended,
     pub session: u64,
-    pub passes: (Pass<World>, Pass<World>),
+    pub passes: (Pass<C>, Pass<C>),
     pub input: I,
     pub output: S,
 }
@@ -52,12 +52,12 @@ fn opened_by(met: Result<u64, Unopened>) -> Result<u64, Ended>
 }
 
 // Opens a session.
-fn open_session<R: Wait>(
+fn open_session<R: Wait, C: Core>(
     rt: &R,
-    turn: &Turn<World>,
+    turn: &Turn<C>,
     bells: &[Bell],
-    pass: Pass<World>,
-) -> (Pass<World>, Result<u64, Ended>)
+    pass: Pass<C>,
+) -> (Pass<C>, Result<u64, Ended>)
     requires { pass.turn ≡ turn.now.turn }
     ensures { Opens result.1 (plain_pass pass) (plain_pass result.0) }
 {
@@ -113,17 +113,22 @@ fn joined(reader: ReaderEnd, writer: WriterEnd) -> Ended
 
 // Runs the half that writes, in a thread of its own where one can be made. That ends with its
 // session, and so does what it kept of the memory that the half freed, as of screens.
-fn write_apart<R: Threads + Wait + Sync, S: Sink + Send + Drop, V: Voice + Send + Drop>(
+fn write_apart<
+    R: Threads + Wait + Sync,
+    C: Core + Send,
+    S: Sink + Send + Drop,
+    V: Voice + Send + Drop,
+>(
     rt: &R,
     alloc: Global,
-    turn: &Turn<World>,
+    turn: &Turn<C>,
     bells: &[Bell],
     lane: usize,
-    pass: Pass<World>,
+    pass: Pass<C>,
     session: u64,
     output: S,
     voice: V,
-) -> WriterHalf<S>
+) -> WriterHalf<C, S>
     requires turn { pass.turn ≡ turn.now.turn }
     requires lane { lane < length bells.now }
     requires told { V.told voice ≡ nothing_told }
@@ -136,9 +141,10 @@ fn write_apart<R: Threads + Wait + Sync, S: Sink + Send + Drop, V: Voice + Send 
 {
     join(
         rt,
-        || -> WriterHalf<S>
-            requires { IsSync R.row × IsSend S.row × IsSend V.row × (pass.turn ≡ turn.now.turn)
-                × (lane < length bells.now) × (V.told voice ≡ nothing_told) }
+        || -> WriterHalf<C, S>
+            requires { IsSync R.row × IsSend C.row × IsSend S.row × IsSend V.row
+                × (pass.turn ≡ turn.now.turn) × (lane < length bells.now)
+                × (V.told voice ≡ nothing_told) }
             ensures pass { IsSamePass (plain_pass pass) (plain_pass result.pass) }
             ensures wrote { WritesHalf result.end (plain_pass pass) (plain_pass result.pass)
                 session (S.words output).taken (S.words result.output).taken }
@@ -152,16 +158,16 @@ fn write_apart<R: Threads + Wait + Sync, S: Sink + Send + Drop, V: Voice + Send 
 }
 
 // Runs the half that reads, unless no thread could be had for it.
-fn read_if<R: Wait, I: Source>(
+fn read_if<R: Wait, C: Core, I: Source>(
     rt: &R,
     alloc: Global,
-    turn: &Turn<World>,
+    turn: &Turn<C>,
     bells: &[Bell],
-    pass: Pass<World>,
+    pass: Pass<C>,
     session: u64,
     input: I,
     has_thread: &AtomicBool,
-) -> ReaderHalf<I>
+) -> ReaderHalf<C, I>
     requires { pass.turn ≡ turn.now.turn }
     ensures pass { IsSamePass (plain_pass pass) (plain_pass result.pass) }
     ensures read { ReadsHalf result.end (plain_pass pass) (plain_pass result.pass) session
@@ -181,13 +187,13 @@ fn read_if<R: Wait, I: Source>(
 
 // What is known of a half that reads, once it ended: it began with this pass and this source.
 #[derive(Drop)]
-struct Reading<I> {
-    pass: Snapshot<Pass<World>>,
+struct Reading<C: Core, I> {
+    pass: Snapshot<Pass<C>>,
     session: u64,
     input: Snapshot<I>,
 }
 
-impl<I: Source> Promise<ReaderHalf<I>> for Reading<I> {
+impl<C: Core, I: Source> Promise<ReaderHalf<C, I>> for Reading<C, I> {
     ghost use Rattle.nv_halves.specs.declared.ends.ReaderEnd.TheVariants.{ReadFault};
 
     ghost kept_by = { λ p r. IsSamePass (plain_pass p.pass.value) (plain_pass r.pass)
@@ -203,22 +209,23 @@ impl<I: Source> Promise<ReaderHalf<I>> for Reading<I> {
 // half that reads, that reads nothing, and closes the session.
 pub(crate) fn run_halves<
     R: Threads + Wait + Sync,
+    C: Core + Send,
     I: Source + Send + Drop,
     S: Sink + Send + Drop,
     V: Voice + Send + Drop,
 >(
     rt: &R,
     alloc: Global,
-    turn: &Turn<World>,
+    turn: &Turn<C>,
     bells: &[Bell],
     lane: usize,
-    first: Pass<World>,
-    second: Pass<World>,
+    first: Pass<C>,
+    second: Pass<C>,
     session: u64,
     input: I,
     output: S,
     voice: V,
-) -> (ReaderHalf<I>, WriterHalf<S>)
+) -> (ReaderHalf<C, I>, WriterHalf<C, S>)
     requires turn { (first.turn ≡ turn.now.turn) × (second.turn ≡ turn.now.turn) }
     requires lane { lane < length bells.now }
     requires told { V.told voice ≡ nothing_told }
@@ -242,8 +249,8 @@ pub(crate) fn run_halves<
     thread::scope(
         thread::scope_env(),
         rt,
-        |scope| -> (ReaderHalf<I>, WriterHalf<S>)
-            requires { IsSync R.row × IsSend I.row × IsSend S.row × IsSend V.row
+        |scope| -> (ReaderHalf<C, I>, WriterHalf<C, S>)
+            requires { IsSync R.row × IsSend C.row × IsSend I.row × IsSend S.row × IsSend V.row
                 × (first.turn ≡ turn.now.turn) × (second.turn ≡ turn.now.turn)
                 × (lane < length bells.now) × (V.told voice ≡ nothing_told) }
             ensures first { IsSamePass (plain_pass first) (plain_pass result.0.pass) }
@@ -267,8 +274,9 @@ pub(crate) fn run_halves<
                 session,
                 input: Snapshot::of(&input),
             };
-            let reader = move || -> ReaderHalf<I>
-                requires { IsSync R.row × IsSend I.row × (first.turn ≡ turn.now.turn) }
+            let reader = move || -> ReaderHalf<C, I>
+                requires { IsSync R.row × IsSend C.row × IsSend I.row
+                    × (first.turn ≡ turn.now.turn) }
                 ensures pass { IsSamePass (plain_pass first) (plain_pass result.pass) }
                 ensures read { ReadsHalf result.end (plain_pass first) (plain_pass result.pass)
                     session (I.words input).taken (I.words result.input).taken (I.words input).left
@@ -299,19 +307,24 @@ pub(crate) fn run_halves<
 }
 
 // Serves a connection that was opened as a session.
-fn serve_session<R: Threads + Wait + Sync, I: Source + Send + Drop, S: Sink + Send + Drop>(
+fn serve_session<
+    R: Threads + Wait + Sync,
+    C: Core + Send,
+    I: Source + Send + Drop,
+    S: Sink + Send + Drop,
+>(
     rt: &R,
     alloc: Global,
-    turn: &Turn<World>,
+    turn: &Turn<C>,
     bells: &[Bell],
     lane: usize,
-    first: Pass<World>,
-    second: Pass<World>,
+    first: Pass<C>,
+    second: Pass<C>,
     session: u64,
     input: I,
     output: S,
     painter: Painter,
-) -> Served<I, S>
+) -> Served<C, I, S>
     requires turn { (first.turn ≡ turn.now.turn) × (second.turn ≡ turn.now.turn) }
     requires start { second.start ≡ first.start }
     requires lane { lane < length bells.now }
@@ -347,13 +360,13 @@ fn serve_session<R: Threads + Wait + Sync, I: Source + Send + Drop, S: Sink + Se
 }
 
 // Gives a connection back that had no session.
-fn serve_none<R, I: Source + Drop, S: Sink + Drop>(
+fn serve_none<R, C: Core, I: Source + Drop, S: Sink + Drop>(
     rt: &R,
-    passes: (Pass<World>, Pass<World>),
+    passes: (Pass<C>, Pass<C>),
     input: I,
     mut output: S,
     how: Ended,
-) -> Served<I, S>
+) -> Served<C, I, S>
     ensures how { (result.how ≡ how) × (result.session ≡ 0) × (result.passes ≡ passes) }
     ensures input { result.input ≡ input }
     ensures sent { (S.words result.output).taken ≡ (S.words output).taken }
@@ -375,16 +388,21 @@ fn serve_none<R, I: Source + Drop, S: Sink + Drop>(
 /// Where the world had ended, or memory was wanting to begin, it has no session, and nothing is
 /// read or written; where no thread can be had to read it, its session is closed at once, and it
 /// ends out of memory.
-pub fn serve_one<R: Threads + Wait + Sync, I: Source + Send + Drop, S: Sink + Send + Drop>(
+pub fn serve_one<
+    R: Threads + Wait + Sync,
+    C: Core + Send,
+    I: Source + Send + Drop,
+    S: Sink + Send + Drop,
+>(
     rt: &R,
     alloc: Global,
-    turn: &Turn<World>,
+    turn: &Turn<C>,
     bells: &[Bell],
     lane: usize,
-    passes: (Pass<World>, Pass<World>),
+    passes: (Pass<C>, Pass<C>),
     input: I,
     output: S,
-) -> Served<I, S>
+) -> Served<C, I, S>
     requires turn { (passes.0.turn ≡ turn.now.turn) × (passes.1.turn ≡ turn.now.turn) }
     requires start { passes.1.start ≡ passes.0.start }
     requires lane { lane < length bells.now }

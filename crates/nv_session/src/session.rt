@@ -9,13 +9,13 @@ ghost use Rattle.nv_rpc.specs.Frames.{call_of_frame};
 ghost use Rattle.nv_rpc.specs.Messages.{IsSendable};
 ghost use Rattle.nv_painter.specs.Spoken.{IsSoundIfThere};
 ghost use Rattle.nv_history.specs.Spoken.{told_with};
-ghost use Rattle.nv_world.specs.Contents.{plain_entries};
+ghost use Rattle.nv_core.specs.Contents.{plain_entries};
 ghost use Rattle.nv_speech.specs.Flows.{FlowsOut, IsFrontOut, bytes_said, sent_in};
-ghost use Rattle.nv_world.specs.Worlds.{IsLightCall, WorldRecord};
+ghost use Rattle.nv_core.specs.Bounds.{IsLightCall};
+ghost use Rattle.nv_world.specs.Worlds.{WorldRecord, start_of};
 ghost use Rattle.nv_calls.specs.Reading.{EndsAt, IsUnfinished};
 ghost use Rattle.nv_calls.specs.Intakes.{WantsMore, came};
 ghost use Rattle.nv_session.specs.Ends.{SessionEnds};
-ghost use Rattle.nv_halves.specs.Passes.{start_of};
 ghost use Rattle.nv_session.specs.Sending.{HasSession};
 ghost use Rattle.nv_session.specs.inside.Alone.{IsAlone};
 ghost use Rattle.nv_session.specs.inside.Leaving.{LeavesWith, IsClosedSo, leaves_open};
@@ -24,11 +24,12 @@ ghost use Rattle.nv_session.specs.inside.Worlds.{entries_in};
 
 use crate::asking::{answer, close, ended, open};
 use nv_calls::{Intake, NextCall, Unfed};
+use nv_core::Batch;
 use nv_io::{Ended, Sink, Source, put_all};
 use nv_painter::Painter;
 use nv_rpc::Frame;
 use nv_speech::{Unsaid, say};
-use nv_world::{Batch, World};
+use nv_world::World;
 use std::alloc::{AllocError, Global};
 
 // The bytes that may wait before their memory grows: so many that no batch is measured for room.

@@ -16,7 +16,7 @@ use Rattle.nv_rpc.specs.Calls.{Call, call_in}
 use Rattle.nv_history.specs.Events.{Entry, Cause, closed_at, overflowed_at, quit_at}
 use Rattle.nv_history.specs.Worlds.{World}
 use Rattle.nv_history.specs.Asking.{calls_of}
-use Rattle.nv_world.specs.declared.story.Start.{Start}
+use Rattle.nv_core.specs.declared.start.Start.{Start}
 use Rattle.nv_halves.specs.Passes.{IsClosedBy}
 use Rattle.nv_calls.specs.Reading.{BeginWithCalls, Calls, EndsAt, IfInside, Reads, ReadsFrom, SpellsCall, WasRead, most_bytes, most_depth}
 use Rattle.nv_calls.proofs.ReadsOnce.{reads_once}

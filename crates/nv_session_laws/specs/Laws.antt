@@ -9,7 +9,7 @@ use Rattle.nv_rpc.specs.Calls.{Call}
 use Rattle.nv_history.specs.Events.{Entry, Cause, closed_at, overflowed_at, quit_at}
 use Rattle.nv_history.specs.Worlds.{World}
 use Rattle.nv_history.specs.Asking.{calls_of}
-use Rattle.nv_world.specs.declared.story.Start.{Start}
+use Rattle.nv_core.specs.declared.start.Start.{Start}
 use Rattle.nv_halves.specs.Passes.{IsClosedBy}
 use Rattle.nv_calls.specs.Reading.{Reads}
 use Rattle.nv_session.specs.Connections.{ConnectionEnds, Traffic}

@@ -5,8 +5,8 @@ use Rattle.nv_rpc.specs.Messages.{Sent}
 use Rattle.nv_screen.specs.declared.scene.Scene.{Scene}
 use Rattle.nv_linegrid.specs.Told.{Told}
 use Rattle.nv_history.specs.Spoken.{bytes_of_messages, bytes_of_scene}
-use Rattle.nv_world.specs.Contents.{sent_of_shared}
-use Rattle.nv_world.specs.declared.effect.Batch.{Batch}
+use Rattle.nv_core.specs.Contents.{sent_of_shared}
+use Rattle.nv_core.specs.declared.effect.Batch.{Batch}
 
 -- bytes were added to those that waited; of all these a front was written, and the rest waits
 pub record FlowsOut (before after : Option (List ℕ)) (waited added waits : List ℕ) : Type 0 where

@@ -7,15 +7,15 @@ ghost use Rattle.nv_rpc.specs.Messages.{IsSendable, message_tree};
 ghost use Rattle.nv_rpc.specs.Outcomes.{AreSpellable, bytes_left, call_result_content};
 ghost use Rattle.nv_painter.specs.Spoken.{IsSoundIfThere};
 ghost use Rattle.nv_history.specs.Spoken.{bytes_of_messages, bytes_of_scene, told_with};
-ghost use Rattle.nv_world.specs.Contents.{sent_of_shared};
+ghost use Rattle.nv_core.specs.Contents.{sent_of_shared};
 ghost use Rattle.nv_speech.specs.Flows.{FlowsOut, IsFrontOut, bytes_said, sent_in};
 
 use crate::voice::Voice;
+use nv_core::{Batch, SharedMessage, put_shared_front, size_of_messages};
 use nv_io::{Sink, put_all};
 use nv_msgpack::encode;
 use nv_rpc::{AtomicResults, CallResult};
 use nv_screen::HeldScene;
-use nv_world::{Batch, SharedMessage, put_shared_front, size_of_messages};
 use std::alloc::{AllocError, Global};
 
 /// Why a batch didn't go out whole. A front of it may have.

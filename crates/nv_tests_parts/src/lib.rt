@@ -28,3 +28,5 @@ mod text_lines;
 mod texts;
 #[cfg(test)]
 mod values;
+#[cfg(test)]
+mod virt;

@@ -2,10 +2,10 @@
 //! that refuses it, and where no connection is made.
 
 use crate::in_memory::{lane_of, left_of_port, sink, source};
+use nv_core::History;
 use nv_io::{MemDial, MemFiles, MemPort, MemSink, MemSource};
 use nv_run::run;
 use nv_watch::Counter;
-use nv_world::History;
 use std::alloc::{AllocError, Global};
 use std::fs::File;
 use std::net::{Net, TcpListener, TcpStream};

@@ -2,10 +2,10 @@
 ghost use Rattle.std.specs.Prelude.{◌≡◌, ◌<◌, [], IfOk, Some};
 ghost use Rattle.nv_io.specs.Known.{IsUnread, IsUnused};
 
+use nv_core::{Event, History};
 use nv_io::{MemDial, MemFiles, MemLane, MemPort, MemSink, MemSource};
 use nv_run::run;
 use nv_watch::{Counter, Watcher};
-use nv_world::{Event, History};
 use std::alloc::{AllocError, Global};
 use std::fs::File;
 use std::net::{Net, TcpListener, TcpStream};

@@ -9,6 +9,7 @@ use nv_painter::Painter;
 use nv_screen::HeldScene;
 use nv_serve::Job;
 use nv_speech::Voice;
+use nv_world::World;
 use std::alloc::{AllocError, Global};
 use std::sync::atomic::{AtomicU64, Ordering};
 
@@ -267,7 +268,7 @@ impl<'a> Voice for Slow<'a> {
 pub(crate) fn job_of<'a>(
     alloc: Global,
     link: (Asker<'a>, Keeper<'a>),
-) -> Result<Job<MemLane<Asker<'a>, Keeper<'a>>>, AllocError>
+) -> Result<Job<World, MemLane<Asker<'a>, Keeper<'a>>>, AllocError>
     requires { (link.0.faults ≡ 0) × (link.1.faults ≡ 0) }
 {
     let links = vec![in alloc; link]?;

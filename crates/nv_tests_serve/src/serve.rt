@@ -4,6 +4,7 @@ ghost use Rattle.std.specs.Prelude.{◌≡◌};
 use crate::held_devices::{Asker, COUNT, Keeper, LIMITS, QUIT, ends_of, job_of};
 use nv_io::{Ended, MemLane};
 use nv_serve::{Job, serve};
+use nv_world::World;
 use std::alloc::{AllocError, Global};
 use std::net::{Net, TcpListener, TcpStream};
 use std::sync::Wait;
@@ -54,7 +55,10 @@ fn ends_of_two<'a, R: Net<Listener = TcpListener, Stream = TcpStream> + Threads 
     requires other { (other.0.faults ≡ 0) × (other.1.faults ≡ 0) }
 {
     let mut jobs = [job_of(alloc, one)?, job_of(alloc, other)?];
-    serve(rt, alloc, LIMITS, 16, &mut jobs)?;
+    let world = World::new(alloc, LIMITS, 16)?;
+    let Ok(_) = serve(rt, alloc, world, &mut jobs) else {
+        return Err(AllocError);
+    };
     let [first, _] = ends_of(&jobs[0].lane);
     let [second, _] = ends_of(&jobs[1].lane);
     Ok([first, second])
@@ -90,12 +94,15 @@ fn ends_of_lane<R: Net<Listener = TcpListener, Stream = TcpStream> + Threads + W
     let links = vec![in alloc; one, other]?;
     let lane = MemLane::new(alloc, links, fails)?;
     let mut jobs = [Job::new(lane)];
-    let kept = serve(rt, alloc, LIMITS, 16, &mut jobs)?;
+    let world = World::new(alloc, LIMITS, 16)?;
+    let Ok(left) = serve(rt, alloc, world, &mut jobs) else {
+        return Err(AllocError);
+    };
     Ok((
         ends_of(&jobs[0].lane),
-        kept.history.len(),
-        kept.spent,
-        kept.failed,
+        left.core.history().len(),
+        left.spent,
+        left.failed,
     ))
 }
 

@@ -4,12 +4,13 @@ ghost use Rattle.std.specs.declared.option.Option.{Option};
 ghost use Rattle.std.specs.Thread.{IsSend, IsSync};
 ghost use Rattle.nv_linegrid.specs.Told.{nothing_told};
 ghost use Rattle.nv_turn.specs.Passes.{IsSamePass, first_passes};
-ghost use Rattle.nv_world.specs.declared.story.Start.{Start};
+ghost use Rattle.nv_core.specs.declared.start.Start.{Start};
 ghost use Rattle.nv_halves.specs.Passes.{plain_pass};
 
 use crate::held_devices::{
     Asker, COUNT, Counter, LIMITS, Mute, QUIT, Slow, Speech, make_page, make_speech,
 };
+use nv_core::Cause;
 use nv_halves::{
     Bell, ReaderEnd, ReaderHalf, WriterEnd, WriterHalf, open, reader_half, writer_half,
 };
@@ -18,7 +19,7 @@ use nv_painter::Painter;
 use nv_session::serve_one;
 use nv_speech::Voice;
 use nv_turn::{Pass, Turn, take_pass};
-use nv_world::{Cause, World};
+use nv_world::World;
 use std::alloc::{AllocError, Global};
 use std::sync::Wait;
 use std::sync::atomic::{AtomicU64, Ordering};
@@ -178,7 +179,7 @@ fn run_halves<
     input: I,
     output: S,
     voice: V,
-) -> (ReaderHalf<I>, WriterHalf<S>)
+) -> (ReaderHalf<World, I>, WriterHalf<World, S>)
     requires turn { (first.turn ≡ turn.now.turn) × (second.turn ≡ turn.now.turn) }
     requires lane { lane < length bells.now }
     requires told { V.told voice ≡ nothing_told }
@@ -187,11 +188,11 @@ fn run_halves<
 {
     join(
         rt,
-        || -> ReaderHalf<I>
+        || -> ReaderHalf<World, I>
             requires { IsSync R.row × IsSend I.row × (first.turn ≡ turn.now.turn) }
             ensures { IsSamePass (plain_pass first) (plain_pass result.pass) }
         { reader_half(rt, alloc, turn, bells, first, session, input) },
-        || -> WriterHalf<S>
+        || -> WriterHalf<World, S>
             requires { (second.turn ≡ turn.now.turn) × (lane < length bells.now)
                 × (V.told voice ≡ nothing_told) }
             ensures { IsSamePass (plain_pass second) (plain_pass result.pass) }

@@ -4,6 +4,7 @@ ghost use Rattle.std.specs.Prelude.{◌≡◌};
 use crate::held_devices::{Asker, Keeper, LIMITS, ends_of, job_of};
 use nv_io::Ended;
 use nv_serve::serve;
+use nv_world::World;
 use std::alloc::{AllocError, Global};
 use std::net::{Net, TcpListener, TcpStream};
 use std::sync::Wait;
@@ -105,7 +106,10 @@ fn ends_beside<'a, R: Net<Listener = TcpListener, Stream = TcpStream> + Threads 
     requires other { (other.0.faults ≡ 0) × (other.1.faults ≡ 0) }
 {
     let mut jobs = [job_of(alloc, one)?, job_of(alloc, other)?];
-    serve(rt, alloc, LIMITS, 16, &mut jobs)?;
+    let world = World::new(alloc, LIMITS, 16)?;
+    let Ok(_) = serve(rt, alloc, world, &mut jobs) else {
+        return Err(AllocError);
+    };
     let told = told_of_16(alloc)?;
     let mut first = jobs[0].lane.over().iter();
     let is_told = first.next().is_some_and(|over| over.output.bytes == told);

@@ -27,6 +27,10 @@ impl Story for Tally {
 
     ghost start = { λ t. tt };
 
+    fn base(&self) -> u64 {
+        0
+    }
+
     fn told(&self) -> u64 {
         self.lines.len() as u64
     }

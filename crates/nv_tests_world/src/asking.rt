@@ -2,12 +2,12 @@
 ghost use Rattle.std.specs.Prelude.{◌<◌, ◌^◌, length, IfOk};
 ghost use Rattle.nv_value.specs.View.{contents};
 ghost use Rattle.nv_args.specs.Weight.{AreLight};
-ghost use Rattle.nv_world.specs.Contents.{plain_event};
-ghost use Rattle.nv_world.specs.Worlds.{IsLightEvent};
+ghost use Rattle.nv_core.specs.Contents.{plain_event};
+ghost use Rattle.nv_core.specs.Bounds.{IsLightEvent};
 
+use nv_core::Event;
 use nv_rpc::Frame;
 use nv_value::{Bytes, Items, Pair, Value};
-use nv_world::Event;
 use std::alloc::{AllocError, Global};
 
 // A request of a session.

@@ -1,12 +1,13 @@
 //! Worlds event by event: a session that is held, one whose outbox runs over, bytes that are due,
 //! the splices of the last entry, and settled windows, against rows written by hand.
-ghost use Rattle.nv_world.specs.Contents.{plain_event};
-ghost use Rattle.nv_world.specs.Worlds.{IsLightEvent};
+ghost use Rattle.nv_core.specs.Contents.{plain_event};
+ghost use Rattle.nv_core.specs.Bounds.{IsLightEvent};
 
 use crate::asking::{attach, put_line};
+use nv_core::{Cause, Effect, Event, Stop};
 use nv_dispatch::usual_limits;
 use nv_scene::is_settled;
-use nv_world::{Cause, Effect, Event, Moved, Stop, World};
+use nv_world::{Moved, World};
 use std::alloc::{AllocError, Global};
 use std::test::Fail;
 

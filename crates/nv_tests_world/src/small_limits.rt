@@ -1,14 +1,15 @@
 //! A world whose editor takes few of each thing.
 ghost use Rattle.std.specs.Prelude.{◌<◌, ◌≤◌, ◌^◌, length, IfOk};
-ghost use Rattle.nv_world.specs.Contents.{plain_event};
-ghost use Rattle.nv_world.specs.Worlds.{IsLightEvent};
+ghost use Rattle.nv_core.specs.Contents.{plain_event};
+ghost use Rattle.nv_core.specs.Bounds.{IsLightEvent};
 
 use crate::asking::{attach_ui, name_one, put_line, put_text, request};
+use nv_core::{Batch, Effect, Event, SharedMessage};
 use nv_dispatch::usual_limits;
 use nv_model::Limits;
 use nv_rpc::Message;
 use nv_value::Value;
-use nv_world::{Batch, Effect, Event, SharedMessage, World};
+use nv_world::World;
 use std::alloc::{AllocError, Global};
 use std::test::Fail;
 

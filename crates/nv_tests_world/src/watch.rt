@@ -1,17 +1,18 @@
 //! A watcher that is shown steps, true ones and altered ones.
 ghost use Rattle.std.specs.Prelude.{IfOk};
-ghost use Rattle.nv_world.specs.Contents.{plain_event};
-ghost use Rattle.nv_world.specs.Worlds.{IsLightEvent};
+ghost use Rattle.nv_core.specs.Contents.{plain_event};
+ghost use Rattle.nv_core.specs.Bounds.{IsLightEvent};
 
 mod folds;
 mod grids;
 mod marks;
 
 use crate::asking::request;
+use nv_core::Event;
 use nv_dispatch::usual_limits;
 use nv_value::{Bytes, Value};
 use nv_watch::{Counter, Verdict, Watcher};
-use nv_world::{Event, Moved, Step, World};
+use nv_world::{Moved, Step, World};
 use std::alloc::{AllocError, Global};
 use std::test::Fail;
 

@@ -44,6 +44,7 @@ impl<T: Story> Turn<T> {
                     table,
                     for_turn: AtomicU64::new(0),
                     for_entry: AtomicU64::new(0),
+                    busy: AtomicU64::new(0),
                 };
                 let dealt = turn.deal(seat, passes, room);
                 Ok((turn, dealt))

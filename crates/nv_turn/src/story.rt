@@ -1,5 +1,5 @@
 // What a value behind a turn has to tell.
-ghost use Rattle.std.specs.Prelude.{◌≡◌, ℕ, List, [], ◌∷◌, ◌++◌, length};
+ghost use Rattle.std.specs.Prelude.{◌≡◌, ◌≤◌, ℕ, List, [], ◌∷◌, ◌++◌, length};
 
 /// A value that stands for a list of entries, its story, each with the number of its caller, and
 /// that has a start which no call changes.
@@ -15,6 +15,10 @@ pub trait Story {
     ghost caller: { Self.Entry → ℕ };
 
     ghost start: { Self → Self.Start };
+
+    /// How many entries at the front of the story the value has no more itself.
+    fn base(&self) -> u64
+        ensures { (story : List Self.Entry) → stands self.now story → result ≤ length story };
 
     /// The number of entries of the story.
     fn told(&self) -> u64

@@ -14,10 +14,18 @@ use crate::story::Story;
 use crate::view::View;
 use atomic_table::{Seat, Table};
 use std::alloc::Global;
+use std::hint::spin_loop;
 use std::marker::Model;
 use std::sync::Wait;
 use std::sync::atomic::{AtomicU64, Ordering};
 use std::time::Duration;
+
+// How often a thread that finds the turn held looks whether it was given back, with a pause of the
+// processor at each look, before it sleeps: for about as long as an event takes.
+const LOOKS: u32 = 60;
+
+// How often it tries again before it sleeps, where others are quicker each time.
+const TRIES: u32 = 4;
 
 // For how many milliseconds `wait` sleeps at most. A value that can take no more entries wakes
 // nobody.
@@ -25,7 +33,8 @@ const LONGEST_PAUSE: u64 = 20;
 
 /// A value that one pass at a time may hold, and its story. Threads share it by reference.
 ///
-/// A thread that is about to sleep counts itself and then looks whether it has to; whoever gives
+/// A thread that finds the turn held looks for a while whether it comes free before it sleeps. A
+/// thread that is about to sleep counts itself and then looks whether it has to; whoever gives
 /// the turn back or adds an entry does so and then looks at the count. So no wake is lost, and
 /// where nobody sleeps none is made.
 pub struct Turn<T: Story> {
@@ -33,6 +42,9 @@ pub struct Turn<T: Story> {
     // Who sleeps until the turn is free, and who until there is one more entry.
     pub(crate) for_turn: AtomicU64,
     pub(crate) for_entry: AtomicU64,
+    // 1 from just after the turn was taken until just before it is given back. It says when to try,
+    // and nothing rests on it.
+    pub(crate) busy: AtomicU64,
 }
 
 impl<T: Story> Model for Turn<T> {
@@ -66,15 +78,32 @@ impl<T: Story> Turn<T> {
             count: _,
         } = pass;
         let shared = &self.table.shared;
+        let mut tries = 0;
         for _ in rt.forever() {
             if shared.compare_exchange::<Take<T>>(&mut seat, 0, 0, 1) == 0 {
                 return self.taken(seat, number);
             }
+            if tries < TRIES && self.frees_soon() {
+                tries += 1;
+                continue;
+            }
+            tries = 0;
             self.for_turn.fetch_add(1, Ordering::SeqCst);
             shared.park(rt, 0, 1);
             self.for_turn.fetch_sub(1, Ordering::SeqCst);
         }
         unreachable!()
+    }
+
+    // Whether the turn was given back while this looked.
+    fn frees_soon(&self) -> bool {
+        for _ in 0..LOOKS {
+            if self.busy.load(Ordering::SeqCst) == 0 {
+                return true;
+            }
+            spin_loop();
+        }
+        false
     }
 
     // The turn was taken. Reads how long the story is, and takes the value out of the slot.
@@ -85,6 +114,7 @@ impl<T: Story> Turn<T> {
         ensures value { seat.me.1 ≡ (0, Some result.value) ∷ [] }
         ensures pass { result.pass ≡ pass_of seat.table_id number seat.me.0 }
     {
+        self.busy.store(1, Ordering::SeqCst);
         let count = self.table.shared.load::<Look<T>>(&mut seat, 1);
         let slot = self.table.shared.exchange(&mut seat, 0, None);
         let Some(value) = slot else { unreachable!() };
@@ -136,6 +166,7 @@ impl<T: Story> Turn<T> {
             × T.stands y (first_seen seat.me.0.notes) × (seat.me.0.start ≡ Some (T.start y)) }
         ensures { result ≡ pass_of seat.table_id number seat.me.0 }
     {
+        self.busy.store(0, Ordering::SeqCst);
         self.table.shared.store::<Give>(&mut seat, 0, 0);
         if self.for_turn.load(Ordering::SeqCst) != 0 {
             self.table.shared.wake_one(0);
@@ -238,6 +269,7 @@ impl<T: Story> Turn<T> {
             table,
             for_turn: _,
             for_entry: _,
+            busy: _,
         } = self;
         let Pass {
             seat,

@@ -11,7 +11,7 @@ use Rattle.nv_scene.specs.Settling.{IsSettled}
 use Rattle.nv_history.specs.Spoken.{ShowsEditor}
 use Rattle.nv_history.specs.UiLaws.{EditorsAreSettled, PicturesAreOne, ShowsSceneWhole}
 use Rattle.nv_history.specs.Worlds.{World as ModelWorld}
-use Rattle.nv_world.specs.Contents.{plain_entries}
+use Rattle.nv_core.specs.Contents.{plain_entries}
 use Rattle.nv_world.specs.Worlds.{WorldRecord, model_of}
 use Rattle.nv_world.proofs.Entries.{some_of}
 use Rattle.nv_world.proofs.Standings.{settled_kept, shows_now}

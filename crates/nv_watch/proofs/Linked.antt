@@ -21,7 +21,7 @@ use Rattle.nv_history.specs.Runs.{run, run_from}
 use Rattle.nv_history.specs.Worlds.{World, fresh_world, step, world_made}
 use Rattle.nv_history.proofs.GoingRuns.{run-append, run_sound}
 use Rattle.nv_history.proofs.SameBuffers.{step_buffers}
-use Rattle.nv_world.specs.Contents.{plain_entries}
+use Rattle.nv_core.specs.Contents.{plain_entries}
 use Rattle.nv_world.specs.Steps.{splice_by, splice_in, splices_by}
 use Rattle.nv_world.specs.Worlds.{WorldRecord, model_of}
 use Rattle.nv_world.specs.declared.step.Moved.{Moved}

@@ -3,7 +3,7 @@ use Rattle.std.specs.Prelude.{◌≡◌, ◌⊎◌, ℕ, ◌+◌, ◌==◌, ◌<
 use Rattle.nv_rpc.specs.Calls.{request, notice}
 use Rattle.nv_rpc.specs.Messages.{Sent, reply, lines_event, tick_event, detach_event, fault_event}
 use Rattle.nv_history.specs.Events.{Event, Entry, open_session, request_of, take_of, close_of}
-use Rattle.nv_world.specs.Contents.{plain_entries}
+use Rattle.nv_core.specs.Contents.{plain_entries}
 use Rattle.nv_watch.specs.Verdicts.{Sight}
 use Rattle.nv_watch.specs.SentParts.{is_whole_sent, messages_sent}
 

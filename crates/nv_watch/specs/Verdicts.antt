@@ -2,7 +2,7 @@
 use Rattle.std.specs.Prelude.{◌≡◌, ℕ, ◌≤◌, Bool, false, List, [], ◌∷◌, ◌++◌, fold, length, if◌then◌else◌, min, Option, Some, None, IsSome}
 use Rattle.nv_history.specs.Events.{Entry}
 use Rattle.nv_history.specs.Worlds.{World as ModelWorld}
-use Rattle.nv_world.specs.Contents.{plain_entries}
+use Rattle.nv_core.specs.Contents.{plain_entries}
 use Rattle.nv_world.specs.Steps.{splices_of_event}
 use Rattle.nv_world.specs.Worlds.{WorldRecord, model_of}
 use Rattle.nv_world.specs.declared.step.Step.{Step}

@@ -1,7 +1,7 @@
 //! The watcher that counts replies.
 ghost use Rattle.std.specs.Prelude.{◌≡◌, ◌+◌, ◌||◌, ℕ, not, nat_lt, [], map, slice_get, OnOk};
 ghost use Rattle.nv_rpc.specs.MessageView.{sent_of};
-ghost use Rattle.nv_world.specs.Contents.{plain_entries};
+ghost use Rattle.nv_core.specs.Contents.{plain_entries};
 ghost use Rattle.nv_watch.specs.Counting.{HasReplyTooMany, is_reply, replies_among, requests_of_entry};
 ghost use Rattle.nv_watch.specs.inside.Counts.{HasCounted, number_kept, one_for};
 
@@ -9,8 +9,9 @@ use crate::counts::{add, number};
 use crate::reading::parts_of;
 use crate::verdict::Verdict;
 use crate::watcher::Watcher;
+use nv_core::{Entry, Event};
 use nv_rpc::{Frame, Message};
-use nv_world::{Entry, Event, Step, World};
+use nv_world::{Step, World};
 use std::alloc::{AllocError, Global};
 
 /// Says no where a session has taken more replies than it made requests, or was sent what isn't

@@ -11,9 +11,9 @@ use Rattle.nv_history.proofs.LooksOn.{settled_stays}
 use Rattle.nv_history.proofs.SafeRows.{standing_of}
 use Rattle.nv_history.proofs.SameScenes.{run_placed}
 use Rattle.nv_history.proofs.SettledRuns.{run_kept}
-use Rattle.nv_world.specs.Contents.{plain_entries}
+use Rattle.nv_core.specs.Contents.{plain_entries}
 use Rattle.nv_world.specs.Worlds.{WorldRecord, as_spent, model_of, outcome_of_event, with_entry}
-use Rattle.nv_world.specs.declared.entry.Entry.{Entry}
+use Rattle.nv_core.specs.declared.entry.Entry.{Entry}
 use Rattle.nv_world.specs.declared.state.State.{State}
 use Rattle.nv_world.specs.declared.state.Numbers.{Numbers}
 use Rattle.nv_world.specs.inside.States.{IsAt, StandsNumbered, StaysSettledUnseen}

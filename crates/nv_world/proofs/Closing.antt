@@ -2,8 +2,8 @@
 use Rattle.std.proofs.Common.{◌≡◌, ℕ, Bool, true, false, refl, sym, subst, Option, Some, None, option_map, is_some}
 use Rattle.nv_history.specs.Events.{Cause, quit_at}
 use Rattle.nv_history.specs.Sessions.{Session, session_closed_by, session_quit, unless_closed}
-use Rattle.nv_world.specs.Contents.{plain_cause}
-use Rattle.nv_world.specs.declared.effect.Cause.{Cause as KeptCause}
+use Rattle.nv_core.specs.Contents.{plain_cause}
+use Rattle.nv_core.specs.declared.effect.Cause.{Cause as KeptCause}
 
 -- the end of the world closes a session that isn't closed
 pub quits_open : (at : ℕ) (y : Session) (closed : Option KeptCause) → is_some closed ≡ false

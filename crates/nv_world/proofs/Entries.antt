@@ -11,12 +11,12 @@ use Rattle.nv_history.specs.Sessions.{Session}
 use Rattle.nv_history.specs.Worlds.{World, Outcome, refuses, idles, becomes, fresh_world, session_of, step, world_made, is_nothing_due, is_scene_due, opening_outcome, request_outcome, live_request_outcome, held_outcome, take_outcome, some_take_outcome, empty_take_outcome, close_outcome, live_close_outcome}
 use Rattle.nv_history.specs.Runs.{run, run_from}
 use Rattle.nv_history.proofs.GoingRuns.{run-append}
-use Rattle.nv_world.specs.Contents.{IsEffect, plain_effect, plain_entry, plain_entries, plain_stop}
+use Rattle.nv_core.specs.Contents.{IsEffect, plain_effect, plain_entry, plain_entries, plain_stop}
 use Rattle.nv_world.specs.Worlds.{WorldRecord, AppliesOk, AppliesErr, with_entry, as_spent}
-use Rattle.nv_world.specs.declared.entry.Entry.{Entry}
-use Rattle.nv_world.specs.declared.effect.Effect.{Effect}
-use Rattle.nv_world.specs.declared.effect.Stop.{Stop}
-use Rattle.nv_world.specs.declared.effect.Stop.TheVariants.{NoMemory, Stranger, Gone, Held}
+use Rattle.nv_core.specs.declared.entry.Entry.{Entry}
+use Rattle.nv_core.specs.declared.effect.Effect.{Effect}
+use Rattle.nv_core.specs.declared.effect.Stop.{Stop}
+use Rattle.nv_core.specs.declared.effect.Stop.TheVariants.{NoMemory, Stranger, Gone, Held}
 use Rattle.nv_world.specs.declared.state.State.{State}
 use Rattle.nv_world.specs.declared.state.Numbers.{Numbers}
 use Rattle.nv_world.specs.inside.Entering.{is_entry}

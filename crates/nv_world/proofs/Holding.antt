@@ -9,12 +9,14 @@ use Rattle.nv_history.specs.Events.{Event, close_of, Effect as PlainEffect}
 use Rattle.nv_history.specs.Worlds.{World, Outcome, becomes, fresh_world, step}
 use Rattle.nv_history.specs.Asking.{count_opened}
 use Rattle.nv_history.specs.Runs.{run}
-use Rattle.nv_world.specs.Contents.{plain_effect, plain_entries, plain_event, plain_stop}
+use Rattle.nv_core.specs.Contents.{plain_effect, plain_entries, plain_event, plain_stop}
 use Rattle.nv_world.specs.Steps.{splices_of_event}
 use Rattle.nv_world.specs.Worlds.{WorldRecord, AppliesErr, AppliesOk, as_spent, model_of, outcome_of_event}
-use Rattle.nv_world.specs.declared.effect.Effect.{Effect}
-use Rattle.nv_world.specs.declared.effect.Stop.{Stop}
-use Rattle.nv_world.specs.declared.entry.Entry.{Entry}
+use Rattle.nv_core.specs.declared.effect.Effect.{Effect}
+use Rattle.nv_core.specs.declared.effect.Stop.{Stop}
+use Rattle.nv_core.specs.declared.effect.Stop.TheVariants.{NoMemory, Stranger, Gone, Held}
+use Rattle.nv_core.specs.Gains.{is_want}
+use Rattle.nv_core.specs.declared.entry.Entry.{Entry}
 use Rattle.nv_world.specs.declared.state.State.{State}
 use Rattle.nv_world.specs.declared.state.Numbers.{Numbers}
 use Rattle.nv_world.specs.declared.step.Moved.{Moved}
@@ -95,17 +97,18 @@ pub record Refused (capacity : ℕ) (limits : Limits) (mid : List Entry) (left :
   pub holds : Holds capacity limits mid left new splices now
   pub applies : AppliesErr k (world_record capacity limits mid now) stop (outcome_of_event k event)
 
-pub refused : (capacity : ℕ) (limits : Limits) (entries mid : List Entry) (room left : ℕ) (old new : State) (splices : List Moved) (spent now : Bool) (n : Numbers)
+pub refused : (capacity : ℕ) (limits : Limits) (entries mid : List Entry) (room left : ℕ) (old new : State) (was splices : List Moved) (spent now : Bool) (n : Numbers)
     (k : WorldRecord) (event : Event) (stop : Stop)
-    → Holds capacity limits entries room old splices spent → world_record capacity limits entries spent ≡ k → spent ≡ false
+    → Holds capacity limits entries room old was spent → world_record capacity limits entries spent ≡ k → spent ≡ false
     → n ≡ numbers_behind capacity limits entries → n.at < 2 ^ 63 → mid ≡ entries → room ≤ left
     → now ≡ is_none (plain_stop stop) → ((w : World) → IsAt old n w → Changes old new n (Err stop) (step w event))
-    → Refused capacity limits mid left new splices now k event stop
-refused capacity limits entries mid room left old new splices spent now n k event stop h view live e few same wide is changes =
-    let at = now_at capacity limits entries room old splices spent n h live e few in
+    → splices ≡ was → Refused capacity limits mid left new splices now k event stop
+refused capacity limits entries mid room left old new was splices spent now n k event stop h view live e few same wide is changes kept =
+    let at = now_at capacity limits entries room old was spent n h live e few in
     let changed = changes at.w at.at in record {
-      holds = holds_same capacity limits entries mid room left old new splices spent now h same
-          (λ stays. (live, kept_state old new n stop (step at.w event) now is stays changed, wide));
+      holds = subst (λ (l : List Moved). Holds capacity limits mid left new l now) (sym kept)
+          (holds_same capacity limits entries mid room left old new was spent now h same
+          (λ stays. (live, kept_state old new n stop (step at.w event) now is stays changed, wide)));
       applies = refusal_applies old new n stop (step at.w event) now capacity limits entries mid spent k (outcome_of_event k event) is live changed
           (named_outcome k at.w event (sym (ap model_of view) ∙ at.runs)) view same;
     }
@@ -116,17 +119,18 @@ pub record Idled (capacity : ℕ) (limits : Limits) (mid : List Entry) (left : �
   pub holds : Holds capacity limits mid left new splices now
   pub applies : (k.spent ≡ false) × AppliesOk k (world_record capacity limits mid now) entry effect (outcome_of_event k (plain_event entry.event))
 
-pub idled : (capacity : ℕ) (limits : Limits) (entries mid : List Entry) (room left : ℕ) (old new : State) (splices : List Moved) (spent now : Bool) (n : Numbers)
+pub idled : (capacity : ℕ) (limits : Limits) (entries mid : List Entry) (room left : ℕ) (old new : State) (was splices : List Moved) (spent now : Bool) (n : Numbers)
     (k : WorldRecord) (entry : Entry) (effect : Effect)
-    → Holds capacity limits entries room old splices spent → world_record capacity limits entries spent ≡ k → spent ≡ false → now ≡ false
+    → Holds capacity limits entries room old was spent → world_record capacity limits entries spent ≡ k → spent ≡ false → now ≡ false
     → n ≡ numbers_behind capacity limits entries → n.at < 2 ^ 63 → mid ≡ entries → room ≤ left
     → ((editor : Option ModelEditor) → is_entry (plain_effect editor effect) ≡ false)
     → ((w : World) → IsAt old n w → Changes old new n (Ok effect) (step w (plain_event entry.event)))
-    → Idled capacity limits mid left new splices now k entry effect
-idled capacity limits entries mid room left old new splices spent now n k entry effect h view live goes e few same wide none changes =
-    let at = now_at capacity limits entries room old splices spent n h live e few in
+    → splices ≡ was → Idled capacity limits mid left new splices now k entry effect
+idled capacity limits entries mid room left old new was splices spent now n k entry effect h view live goes e few same wide none changes kept =
+    let at = now_at capacity limits entries room old was spent n h live e few in
     let idle = it_idles old new n effect (step at.w (plain_event entry.event)) (step_fits at.w (plain_event entry.event)) none (changes at.w at.at) in record {
-      holds = holds_same capacity limits entries mid room left old new splices spent now h same (λ stays. (live, idle.same, wide));
+      holds = subst (λ (l : List Moved). Holds capacity limits mid left new l now) (sym kept)
+          (holds_same capacity limits entries mid room left old new was spent now h same (λ stays. (live, idle.same, wide)));
       applies = (
         unspent capacity limits entries spent k view live,
         applies_idle k _ entry effect idle.wanted (outcome_of_event k (plain_event entry.event))
@@ -184,6 +188,26 @@ entered capacity limits entries mid later room left old new was splices spent no
             (record_entered capacity limits entries mid later spent now entry k view same (goes ∙ sym live) more),
       );
     }
+
+-- ---- numbers
+
+-- one entry more can be counted where nothing was taken out
+pub few_told : (base : ℕ) (capacity : ℕ) (limits : Limits) (entries mid : List Entry) (n : Numbers)
+    → base ≡ 0 → mid ≡ entries → n ≡ numbers_behind capacity limits entries → n.at < 2 ^ 63 → base + length mid < 2 ^ 63
+few_told base capacity limits entries mid n none same e few =
+    let at : n.at ≡ length entries = ap (λ (m : Numbers). m.at) e in
+    let long : length mid ≡ length entries = ap (λ (l : List Entry). length l) same in
+    omega (arith, none, at, long, few)
+
+pub true_false : {A : Type 0} → true ≡ false → A
+true_false e = absurd (cc)
+
+-- want of memory, as a stop and as what came of an event
+pub want_of : (stop : Stop) → is_want (Err stop) ≡ is_none (plain_stop stop)
+want_of NoMemory = refl
+want_of (Stranger s) = refl
+want_of (Gone entry) = refl
+want_of (Held waiting) = refl
 
 -- ---- room for the entries of closes
 

@@ -1,7 +1,5 @@
 pub mod Places
 pub mod Members
-pub mod Strings
-pub mod Sizing
 pub mod Putting
 pub mod Closing
 pub mod Draining
@@ -25,4 +23,5 @@ pub mod RowsSplice
 pub mod CallsSplice
 pub mod Splicings
 pub mod Holding
+pub mod Gaining
 pub mod Crossing

@@ -7,14 +7,14 @@ use Rattle.circular_buffer.specs.Buffer.{Buffer}
 use Rattle.nv_rpc.specs.Messages.{Sent, IsSendable}
 use Rattle.nv_history.specs.Events.{Cause}
 use Rattle.nv_history.specs.Sessions.{Session, session_told, session_with_message, unless_closed}
-use Rattle.nv_world.specs.Contents.{plain_cause, sent_of_shared}
-use Rattle.nv_world.specs.Sizes.{plus, memory_of_sent}
-use Rattle.nv_world.specs.declared.effect.Cause.{Cause as KeptCause}
+use Rattle.nv_core.specs.Contents.{plain_cause, sent_of_shared}
+use Rattle.nv_core.specs.Sizes.{plus, memory_of_sent}
+use Rattle.nv_core.specs.declared.effect.Cause.{Cause as KeptCause}
 use Rattle.nv_world.specs.declared.session.Session.{Session as Kept}
-use Rattle.nv_world.specs.declared.shared.SharedMessage.{SharedMessage}
+use Rattle.nv_core.specs.declared.shared.SharedMessage.{SharedMessage}
 use Rattle.nv_world.specs.inside.Sessions.{IsOutbox, IsSession, messages_waiting}
 use Rattle.nv_world.specs.inside.Tellings.{session_put}
-use Rattle.nv_world.proofs.Sizing.{counted_push}
+use Rattle.nv_core.proofs.Sizing.{counted_push}
 
 -- a session that isn't closed and has room is told a message
 abbrev with_more : Sent → (Session → List ℤ) → Session → Session

@@ -2,11 +2,11 @@
 use Rattle.std.proofs.Common.{◌≡◌, ℕ, Bool, true, false, List, refl, sym, ap, ◌∙◌, Option, Some, None, is_none, Err}
 use Rattle.nv_model.specs.declared.parts.Limits.{Limits}
 use Rattle.nv_history.specs.Worlds.{Outcome}
-use Rattle.nv_world.specs.Contents.{plain_stop}
+use Rattle.nv_core.specs.Contents.{plain_stop}
 use Rattle.nv_world.specs.Worlds.{WorldRecord, AppliesErr}
-use Rattle.nv_world.specs.declared.entry.Entry.{Entry}
-use Rattle.nv_world.specs.declared.effect.Stop.{Stop}
-use Rattle.nv_world.specs.declared.effect.Stop.TheVariants.{NoMemory, Stranger, Gone, Held}
+use Rattle.nv_core.specs.declared.entry.Entry.{Entry}
+use Rattle.nv_core.specs.declared.effect.Stop.{Stop}
+use Rattle.nv_core.specs.declared.effect.Stop.TheVariants.{NoMemory, Stranger, Gone, Held}
 use Rattle.nv_world.specs.declared.state.State.{State}
 use Rattle.nv_world.specs.declared.state.Numbers.{Numbers}
 use Rattle.nv_world.specs.inside.States.{Changes}

@@ -7,7 +7,7 @@ use Rattle.std.proofs.lemmas.Bool.Decides.{nat_tests}
 use Rattle.nv_subs.specs.Attachments.{Attachments, AreRising, sessions_of, is_session_of, without_session, without_sessions}
 use Rattle.nv_history.specs.Events.{Cause}
 use Rattle.nv_history.specs.Sessions.{Session, follows}
-use Rattle.nv_world.specs.Contents.{plain_cause}
+use Rattle.nv_core.specs.Contents.{plain_cause}
 use Rattle.nv_world.specs.declared.session.Session.{Session as Kept}
 use Rattle.nv_world.specs.inside.Sessions.{IsSession, AreSessions, follows_at}
 use Rattle.nv_world.specs.inside.Tellings.{map_by_number, session_updated, sessions_updated, is_closed_at}

@@ -10,9 +10,9 @@ use Rattle.nv_editor.specs.declared.happened.Fact.{Fact}
 use Rattle.nv_rpc.specs.Calls.{Call}
 use Rattle.nv_history.specs.Worlds.{World, outcome_of_frame}
 use Rattle.nv_history.specs.Runs.{run}
-use Rattle.nv_world.specs.Contents.{plain_entries, plain_event}
+use Rattle.nv_core.specs.Contents.{plain_entries, plain_event}
 use Rattle.nv_world.specs.Steps.{splices_by, splices_of_event, AreLastSplices}
-use Rattle.nv_world.specs.declared.entry.Entry.{Entry}
+use Rattle.nv_core.specs.declared.entry.Entry.{Entry}
 use Rattle.nv_world.specs.declared.step.Moved.{Moved}
 use Rattle.nv_world.specs.inside.Splicing.{splice_told, splices_told}
 use Rattle.nv_world.proofs.CallsSplice.{frame_told}

@@ -32,9 +32,9 @@ use Rattle.nv_history.specs.Sessions.{Session}
 use Rattle.nv_history.specs.Spoken.{ShowsEditor}
 use Rattle.nv_history.specs.Worlds.{World, fresh_world, is_live, is_scene_due, session_of, with_session_at, sessions_losing_uis, settled_editor, world_counted, world_ended_if, world_settled, world_without_uis, world_with_uis_of_live, world_at_end, after_entry, after_settled_entry}
 use Rattle.nv_history.specs.Runs.{run}
-use Rattle.nv_world.specs.Contents.{plain_cause, plain_entries}
-use Rattle.nv_world.specs.declared.effect.Cause.{Cause as KeptCause}
-use Rattle.nv_world.specs.declared.entry.Entry.{Entry}
+use Rattle.nv_core.specs.Contents.{plain_cause, plain_entries}
+use Rattle.nv_core.specs.declared.effect.Cause.{Cause as KeptCause}
+use Rattle.nv_core.specs.declared.entry.Entry.{Entry}
 use Rattle.nv_world.specs.declared.session.Session.{Session as Kept}
 use Rattle.nv_world.specs.declared.state.State.{State}
 use Rattle.nv_world.specs.declared.state.Numbers.{Numbers}

@@ -14,10 +14,10 @@ use Rattle.nv_history.specs.Events.{Effect as PlainEffect, stranger, gone_by}
 use Rattle.nv_history.specs.Sessions.{Session, has_quit, reply_message}
 use Rattle.nv_history.specs.Spoken.{ShowsIfGiven}
 use Rattle.nv_history.specs.Worlds.{World, Outcome, refuses, idles, becomes, world_after_call, world_ended_if}
-use Rattle.nv_world.specs.declared.effect.Effect.{Effect}
-use Rattle.nv_world.specs.declared.effect.Stop.{Stop}
-use Rattle.nv_world.specs.declared.effect.Stop.TheVariants.{NoMemory, Stranger, Gone, Held}
-use Rattle.nv_world.specs.Contents.{IsEffect, plain_effect, scene_given}
+use Rattle.nv_core.specs.declared.effect.Effect.{Effect}
+use Rattle.nv_core.specs.declared.effect.Stop.{Stop}
+use Rattle.nv_core.specs.declared.effect.Stop.TheVariants.{NoMemory, Stranger, Gone, Held}
+use Rattle.nv_core.specs.Contents.{IsEffect, plain_effect, scene_given}
 use Rattle.nv_world.specs.declared.session.Session.{Session as Kept}
 use Rattle.nv_world.specs.declared.state.State.{State}
 use Rattle.nv_world.specs.declared.state.Numbers.{Numbers}

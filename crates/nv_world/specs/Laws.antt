@@ -8,9 +8,9 @@ use Rattle.nv_history.specs.Worlds.{World as ModelWorld, session_of, step, world
 use Rattle.nv_history.specs.Runs.{due, run}
 use Rattle.nv_history.specs.Laws.{FoldsToMoment}
 use Rattle.nv_history.specs.MarkPlaces.{MarksStand, operations_of}
-use Rattle.nv_world.specs.Contents.{plain_entries, plain_event}
+use Rattle.nv_core.specs.Contents.{plain_entries, plain_event}
 use Rattle.nv_world.specs.Worlds.{WorldRecord, model_of}
-use Rattle.nv_world.specs.declared.entry.Entry.{Entry}
+use Rattle.nv_core.specs.declared.entry.Entry.{Entry}
 
 -- each front of what is due to a session of a world, what its takes gave and what waits, folds to a
 -- moment of each buffer

@@ -7,8 +7,8 @@ use Rattle.nv_history.specs.Events.{Event}
 use Rattle.nv_history.specs.Worlds.{World as ModelWorld}
 use Rattle.nv_history.specs.Runs.{run}
 use Rattle.nv_history.specs.MarkPlaces.{operations_of}
-use Rattle.nv_world.specs.Contents.{plain_entries, plain_event}
-use Rattle.nv_world.specs.declared.entry.Entry.{Entry}
+use Rattle.nv_core.specs.Contents.{plain_entries, plain_event}
+use Rattle.nv_core.specs.declared.entry.Entry.{Entry}
 use Rattle.nv_world.specs.declared.step.Moved.{Moved}
 
 -- a splice in the buffer of a handle: where it begins in the flat text, how many bytes it takes out

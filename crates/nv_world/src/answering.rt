@@ -1,6 +1,6 @@
 //! The call of a request: what it does to the editor, what it tells, and what answers it.
 ghost use Rattle.std.specs.Prelude.{◌≡◌, IfOk, IfSome, OnOk, option_map};
-ghost use Rattle.nv_value.specs.View.{content, contents};
+ghost use Rattle.nv_value.specs.View.{contents};
 ghost use Rattle.nv_rpc.specs.Frames.{call_of_frame};
 ghost use Rattle.nv_rpc.specs.Messages.{IsSendable};
 ghost use Rattle.nv_rpc.specs.MessageView.{sent_of};
@@ -8,7 +8,7 @@ ghost use Rattle.nv_args.specs.Weight.{AreLight};
 ghost use Rattle.nv_editor.specs.Facts.{facts_of};
 ghost use Rattle.nv_editor.specs.Sound.{AllSealed};
 ghost use Rattle.nv_history.specs.Sessions.{reply_message};
-ghost use Rattle.nv_world.specs.Worlds.{IsLightCall};
+ghost use Rattle.nv_core.specs.Bounds.{IsLightCall};
 ghost use Rattle.nv_world.specs.inside.Answers.{AnswersFrame, CallsMethod, CanBeReplied, result_content};
 
 use nv_args::Fail;

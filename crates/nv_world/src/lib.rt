@@ -2,15 +2,11 @@
 #![tactic(auto)]
 
 mod answering;
-mod calls;
-mod effect;
-mod entry;
 mod finishing;
-mod history;
 mod laws;
-mod measuring;
+mod machine;
+mod notices;
 mod session;
-mod shared;
 mod showing;
 mod splicing;
 mod state;
@@ -19,13 +15,8 @@ mod story;
 mod telling;
 mod world;
 
-pub use calls::{Taken, Unasked, Unclosed, Unopened, Untaken};
-pub use effect::{Batch, Cause, Effect, Stop};
-pub use entry::{Entry, Event};
-pub use history::History;
 pub use laws::world_laws;
-pub use measuring::{SizedLines, size_of_messages};
-pub use shared::{LinesEvent, SharedMessage, put_messages, put_shared_front};
+pub use machine::Machine;
+pub use state::Numbers;
 pub use step::{Moved, Step};
-pub use story::Start;
 pub use world::{LEAST_OUTBOX, MOST_OUTBOX, World};

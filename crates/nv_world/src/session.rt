@@ -1,17 +1,15 @@
 //! One session of a world: what waits for it, and why it is closed.
 ghost use Rattle.std.specs.Prelude.{◌≡◌, ◌<◌, ◌≤◌, ◌==◌, ◌^◌, ◌++◌, ◌∷◌, [], ℕ, ℤ, List, Option, length, map, not, false, IsTrue, IfOk, OnOk};
-ghost use Rattle.nv_world.specs.declared.effect.Cause.{Cause};
+ghost use Rattle.nv_core.specs.declared.effect.Cause.{Cause};
 ghost use Rattle.nv_rpc.specs.Messages.{IsSendable};
 ghost use Rattle.nv_history.specs.Sessions.{Session as ModelSession, fresh_session, session_closed_by, session_emptied, session_quit};
-ghost use Rattle.nv_world.specs.Contents.{plain_cause, sent_of_shared};
-ghost use Rattle.nv_world.specs.Sizes.{bytes_unless_closed};
+ghost use Rattle.nv_core.specs.Contents.{plain_cause, sent_of_shared};
+ghost use Rattle.nv_core.specs.Sizes.{bytes_unless_closed};
 ghost use Rattle.nv_world.specs.inside.Sessions.{IsOutbox, IsSession, messages_waiting};
 ghost use Rattle.nv_world.specs.inside.Tellings.{session_put};
 
-use crate::effect::Cause;
-use crate::measuring::size_of_message;
-use crate::shared::SharedMessage;
 use circular_buffer::HeapCircularBuffer;
+use nv_core::{Cause, SharedMessage, size_of_message};
 use std::alloc::{AllocError, Global};
 
 /// A session. A closed one for which nothing waits has given its outbox up.

@@ -7,16 +7,18 @@ ghost use Rattle.nv_model.specs.Answers.{attached, detached, edited, deleted};
 ghost use Rattle.nv_editor.specs.Facts.{fact_of, facts_of};
 ghost use Rattle.nv_subs.specs.Attachments.{AreRising, sessions_of, without_session, without_sessions};
 ghost use Rattle.nv_history.specs.Sessions.{Session as ModelSession};
-ghost use Rattle.nv_world.specs.Contents.{sent_of_shared};
+ghost use Rattle.nv_core.specs.Contents.{sent_of_shared};
 ghost use Rattle.nv_world.specs.inside.Notices.{sent_of_notice};
 ghost use Rattle.nv_world.specs.inside.Sessions.{AreSessions, IsSession};
 ghost use Rattle.nv_world.specs.inside.Tellings.{is_closed_at, session_put, session_updated, sessions_hear, sessions_hear_all, sessions_replied, sessions_updated};
 
 use crate::answering::Answered;
+use crate::notices::{Notice, first_shared, splice_notice};
 use crate::session::{Session, put};
-use crate::shared::{Notice, SharedMessage, first_shared, splice_notice};
-use nv_buffer::{LineList, Spliced};
+use nv_buffer::Spliced;
+use nv_core::SharedMessage;
 use nv_editor::Fact;
+use nv_lines::Excerpt;
 use nv_rpc::Message;
 use nv_subs::Subs;
 use std::alloc::{AllocError, Global};
@@ -194,7 +196,7 @@ fn tell_attached(
     at: u64,
     buffer: i64,
     tick: i64,
-    whole: Option<LineList>,
+    whole: Option<Excerpt>,
 ) -> Result<(), AllocError>
     requires caller { (0 < caller) × (caller ≤ length sessions.old) }
     ensures { OnOk result ((capacity : ℕ) (ys : List ModelSession)

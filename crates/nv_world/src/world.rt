@@ -1,24 +1,23 @@
 //! The world: one editor, its sessions, and the history of all that happened to it.
-ghost use Rattle.std.specs.Prelude.{◌≡◌, ◌≢◌, ◌≤◌, ◌<◌, ◌-◌, ◌^◌, [], length, false, true, Err, IfErr, IfOk, IsSome, IsTrue, OnOk, is_none, option_map};
+ghost use Rattle.std.specs.Prelude.{◌≡◌, ◌≢◌, ◌≤◌, ◌<◌, ◌-◌, ◌^◌, [], length, false, true, Err, IfErr, IfOk, IsSome, IsTrue, OnOk, option_map};
 ghost use Rattle.nv_rpc.specs.Frames.{call_of_frame};
 ghost use Rattle.nv_model.specs.Standing.{Stands};
 ghost use Rattle.nv_history.specs.Events.{close_of, open_session, request_of, take_of};
 ghost use Rattle.nv_history.specs.Worlds.{World as ModelWorld, session_of};
-ghost use Rattle.nv_world.specs.Contents.{plain_cause, plain_event, plain_stop};
-ghost use Rattle.nv_world.specs.Outcomes.{IsUnaskedBy, IsUnclosedBy, effect_of_taken, stop_of_unasked, stop_of_unclosed, stop_of_unopened, stop_of_untaken};
-ghost use Rattle.nv_world.specs.Sizes.{bytes_due};
+ghost use Rattle.nv_core.specs.Contents.{plain_cause, plain_event};
+ghost use Rattle.nv_core.specs.Outcomes.{IsUnaskedBy, IsUnclosedBy, effect_of_taken, stop_of_unasked, stop_of_unclosed, stop_of_unopened, stop_of_untaken};
+ghost use Rattle.nv_core.specs.Sizes.{bytes_due};
 ghost use Rattle.nv_world.specs.Steps.{AreLastSplices};
-ghost use Rattle.nv_world.specs.Worlds.{AppliesErr, AppliesOk, ClosesNoUi, GivesFewCells, GivesSendable, IsLightCall, IsLightEvent, IsOutboxSize, cause_of, is_any_due, model_of, outcome_of_event};
+ghost use Rattle.nv_world.specs.Worlds.{AppliesErr, AppliesOk, ClosesNoUi, IsOutboxSize, model_of, outcome_of_event};
+ghost use Rattle.nv_core.specs.Bounds.{GivesFewCells, GivesSendable, IsLightCall, IsLightEvent};
+ghost use Rattle.nv_core.specs.Sessions.{cause_of, is_any_due};
 
-use crate::calls::{Taken, Unasked, Unclosed, Unopened, Untaken};
-use crate::effect::{Cause, Effect, Stop};
-use crate::entry::{Entry, Event};
-use crate::history::History;
-use crate::session::bytes_due;
-use crate::showing::{is_any_due, is_scene_due};
-use crate::state::{Numbers, State, close_session, open_session, request, take};
+use crate::machine::Machine;
+use crate::state::Numbers;
 use crate::step::Moved;
-use crate::telling::place_of;
+use nv_core::{
+    Cause, Effect, Entry, Event, History, Stop, Taken, Unasked, Unclosed, Unopened, Untaken,
+};
 use nv_editor::Editor;
 use nv_model::Limits;
 use nv_rpc::Frame;
@@ -35,16 +34,11 @@ pub const MOST_OUTBOX: u64 = 1_048_576;
 /// editor and the sessions are what the history makes them.
 #[derive(Drop)]
 pub struct World {
-    alloc: Global,
     capacity: u32,
     limits: Limits,
-    state: State,
+    machine: Machine,
     // With room for the close of each session that isn't closed.
     history: History,
-    // The splices of the last entry.
-    last: Vec<Moved>,
-    // Whether memory was wanting.
-    spent: bool,
 }
 
 impl Model for World {
@@ -60,17 +54,10 @@ impl Model for World {
       capacity = w.capacity;
       limits = w.limits;
       history = w.history.entries;
-      spent = w.spent;
+      spent = w.machine.spent;
     } };
 
     ghost invariant = { IsWorld };
-}
-
-// Whether an event is refused for want of memory.
-fn is_want(stop: Stop) -> bool
-    ensures { result ≡ is_none (plain_stop stop) }
-{
-    matches!(stop, Stop::NoMemory)
 }
 
 // The numbers of the next entry.
@@ -93,6 +80,7 @@ fn numbers_of(capacity: u32, entries: u64, history: &History) -> Numbers
 // Whether a world isn't spent and has memory for so many entries more. One without it is spent by
 // that.
 fn has_room(history: &mut History, spent: &mut bool, more: usize) -> bool
+    ensures base { history.new.base ≡ history.old.base }
     ensures entries { history.new.entries ≡ history.old.entries }
     ensures live { IsTrue result → (spent.old ≡ false) × (spent.new ≡ false) }
     ensures room { IsTrue result → more ≤ history.new.room }
@@ -119,15 +107,12 @@ impl World {
           spent = false;
         }) }
     {
-        let state = State::new(alloc, limits)?;
+        let machine = Machine::new(alloc, limits)?;
         Ok(World {
-            alloc,
             capacity: outbox,
             limits,
-            state,
+            machine,
             history: History::new(alloc),
-            last: Vec::new(alloc),
-            spent: false,
         })
     }
 
@@ -145,22 +130,18 @@ impl World {
         let numbers = numbers_of(self.capacity, self.limits.entries, &self.history);
         if !has_room(
             &mut self.history,
-            &mut self.spent,
-            self.state.sessions.len() + 2,
+            &mut self.machine.spent,
+            self.machine.state.sessions.len() + 2,
         ) {
             return Err(Unopened::NoMemory);
         }
-        match open_session(self.alloc, &mut self.state, numbers) {
+        match self.machine.open(numbers) {
             Ok(session) => {
                 let event = Event::Open;
                 self.history.push_reserved(Entry { caller, event });
-                self.last = Vec::new(self.alloc);
                 Ok(session)
             }
-            Err(why) => {
-                self.spent = is_want(why.stop());
-                Err(why)
-            }
+            Err(why) => Err(why),
         }
     }
 
@@ -186,30 +167,18 @@ impl World {
         let numbers = numbers_of(self.capacity, self.limits.entries, &self.history);
         if !has_room(
             &mut self.history,
-            &mut self.spent,
-            self.state.sessions.len() + 1,
+            &mut self.machine.spent,
+            self.machine.state.sessions.len() + 1,
         ) {
             return Err((frame, Unasked::NoMemory));
         }
-        let mut splices = Vec::new(self.alloc);
-        match request(
-            self.alloc,
-            &mut self.state,
-            numbers,
-            session,
-            &frame,
-            &mut splices,
-        ) {
+        match self.machine.request(numbers, session, &frame) {
             Ok(()) => {
                 let event = Event::Request { session, frame };
                 self.history.push_reserved(Entry { caller, event });
-                self.last = splices;
                 Ok(())
             }
-            Err(why) => {
-                self.spent = is_want(why.stop(session));
-                Err((frame, why))
-            }
+            Err(why) => Err((frame, why)),
         }
     }
 
@@ -228,24 +197,20 @@ impl World {
         let numbers = numbers_of(self.capacity, self.limits.entries, &self.history);
         if !has_room(
             &mut self.history,
-            &mut self.spent,
-            self.state.sessions.len() + 1,
+            &mut self.machine.spent,
+            self.machine.state.sessions.len() + 1,
         ) {
             return Err(Untaken::NoMemory);
         }
-        match take(self.alloc, &mut self.state, numbers, session) {
+        match self.machine.take(numbers, session) {
             Ok(Taken::Items(batch)) => {
                 let event = Event::Take { session };
                 self.history.push_reserved(Entry { caller, event });
-                self.last = Vec::new(self.alloc);
                 Ok(Taken::Items(batch))
             }
             Ok(Taken::Nothing) => Ok(Taken::Nothing),
             Ok(Taken::Over(cause)) => Ok(Taken::Over(cause)),
-            Err(why) => {
-                self.spent = is_want(why.stop(session));
-                Err(why)
-            }
+            Err(why) => Err(why),
         }
     }
 
@@ -265,21 +230,17 @@ impl World {
         ensures spent { self.old.spent ≡ true
             → (result ≡ Err Unclosed.NoMemory) × (self.new ≡ self.old) }
     {
-        if self.spent {
+        if self.machine.spent {
             return Err(Unclosed::NoMemory);
         }
         let numbers = numbers_of(self.capacity, self.limits.entries, &self.history);
-        match close_session(self.alloc, &mut self.state, numbers, session) {
+        match self.machine.close(numbers, session) {
             Ok(()) => {
                 let event = Event::Close { session };
                 self.history.push_reserved(Entry { caller, event });
-                self.last = Vec::new(self.alloc);
                 Ok(())
             }
-            Err(why) => {
-                self.spent = is_want(why.stop(session));
-                Err(why)
-            }
+            Err(why) => Err(why),
         }
     }
 
@@ -327,11 +288,12 @@ impl World {
     pub fn spent(&self) -> bool
         ensures { result ≡ self.now.spent }
     {
-        self.spent
+        self.machine.spent
     }
 
     /// The history, lent.
     pub fn history(&self) -> &History
+        ensures base { result.now.base ≡ 0 }
         ensures history { result.now.entries ≡ self.now.history }
         ensures runs { IsSome (model_of self.now) }
     {
@@ -340,6 +302,7 @@ impl World {
 
     /// The history, taken out.
     pub fn into_history(self) -> History
+        ensures base { result.base ≡ 0 }
         ensures history { result.entries ≡ self.history }
         ensures runs { IsSome (model_of self) }
     {
@@ -351,8 +314,7 @@ impl World {
         ensures { IfOk result (λ splices. AreLastSplices self.now.capacity self.now.limits
             self.now.history splices.items) }
     {
-        let mut splices = Vec::with_capacity(self.alloc, self.last.len())?;
-        splices.extend_from_slice(self.last.as_slice())?;
+        let splices = self.machine.last_splices()?;
         Ok(splices)
     }
 
@@ -361,7 +323,7 @@ impl World {
         ensures { (w : ModelWorld) → self.now.spent ≡ false → model_of self.now ≡ Some w
             → Stands result.now w.editor }
     {
-        &self.state.editor
+        &self.machine.state.editor
     }
 
     /// What closed a session; `None` exactly where it isn't closed, or isn't there. Of a spent
@@ -370,10 +332,7 @@ impl World {
         ensures { (w : ModelWorld) → self.now.spent ≡ false → model_of self.now ≡ Some w
             → option_map plain_cause result ≡ cause_of (session_of w session) }
     {
-        match place_of(session, self.state.sessions.len()) {
-            Some(place) => self.state.sessions[place].closed,
-            None => None,
-        }
+        self.machine.closed_by(session)
     }
 
     /// Whether anything is due to a session: messages, or to its UI what is seen. Of a spent world
@@ -382,15 +341,7 @@ impl World {
         ensures { (w : ModelWorld) → self.now.spent ≡ false → model_of self.now ≡ Some w
             → result ≡ is_any_due w session (session_of w session) }
     {
-        match place_of(session, self.state.sessions.len()) {
-            Some(place) => {
-                let found = &self.state.sessions[place];
-                let uis = self.state.editor.uis();
-                let is_due = is_scene_due(uis, self.state.stamp, session, found.shown);
-                is_any_due(found, is_due)
-            }
-            None => false,
-        }
+        self.machine.has_due(session)
     }
 
     /// How many bytes what waits for a session takes, 0 where nothing does: 32 for each message,
@@ -400,12 +351,6 @@ impl World {
         ensures { (w : ModelWorld) → self.now.spent ≡ false → model_of self.now ≡ Some w
             → result ≡ bytes_due (session_of w session) }
     {
-        match place_of(session, self.state.sessions.len()) {
-            Some(place) => {
-                let found = &self.state.sessions[place];
-                bytes_due(found)
-            }
-            None => 0,
-        }
+        self.machine.bytes_due(session)
     }
 }

@@ -1,9 +1,9 @@
 //! A headless Neovim: an editor that programs use through Neovim's API over MessagePack-RPC.
 #![tactic(auto)]
 
+use nv_core::History;
 use nv_io::{DiskFiles, Ended, SockDial, SockPort, StdErr, StdIn, StdOut};
 use nv_run::{all_watchers, run, status_of, tell_end};
-use nv_world::History;
 use std::alloc::{AllocError, Global};
 use std::process::ExitCode;
 use std::{env, io};

@@ -32,8 +32,8 @@ abbrev pub is_in_rows : Rows → Mark → Bool
 is_in_rows rows m = is_meant rows.meant m.ns && lies_in rows.first rows.last m
 
 -- what is answered by the marks that are meant and the places that values name
-abbrev pub spanned_answer : Seen → SeenBuffer → List (Tree × Tree) → Span → Answer
-spanned_answer s b pairs span = listing_answer s b span.meant span.start span.stop pairs
+abbrev pub spanned_answer : Seen → ℤ → SeenBuffer → List (Tree × Tree) → Span → Answer
+spanned_answer s n b pairs span = listing_answer s n b span.meant span.start span.stop pairs
 
 abbrev pub span_answer : Seen → SeenBuffer → List Arg → (Span → Answer) → Answer
 span_answer s b args next =
@@ -42,9 +42,9 @@ span_answer s b args next =
     or_refused (place_of_value b meant (object_at args 3)) out_of_bounds (λ stop.
     next (record { meant = meant; start = start; stop = stop }))))
 
-abbrev pub marks_answer : Seen → SeenBuffer → List Arg → List (Tree × Tree) → Answer
-marks_answer s b args pairs =
-    fault_or (map_fault listing_keys pairs) (span_answer s b args (spanned_answer s b pairs))
+abbrev pub marks_answer : Seen → ℤ → SeenBuffer → List Arg → List (Tree × Tree) → Answer
+marks_answer s n b args pairs =
+    fault_or (map_fault listing_keys pairs) (span_answer s b args (spanned_answer s n b pairs))
 
 -- an answer by the rows that are cleared
 abbrev pub clearing_answer : Seen → List Arg → (Rows → Answer) → Answer

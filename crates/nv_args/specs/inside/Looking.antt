@@ -6,7 +6,7 @@ use Rattle.nv_value.specs.declared.fault.ApiFault.{ApiFault}
 use Rattle.nv_args.specs.Faults.{invalid_key, invalid_value}
 use Rattle.nv_args.specs.Arguments.{string_in, is_same}
 use Rattle.nv_args.specs.Maps.{Key, known_key, takes_value}
-use Rattle.nv_args.specs.Naming.{bad_name_fault, is_one_of, names_group}
+use Rattle.nv_args.specs.Naming.{bad_name_fault, is_one_of, names_groups}
 
 -- the name of a pair's key, empty where it is no string
 abbrev pub key_name : Tree × Tree → List ℕ
@@ -38,7 +38,7 @@ fault_after is_new is_known name first =
 -- whether a pair names a group, where its key does, by a name that is none
 abbrev pub misnames : List (List ℕ) → Tree × Tree → Bool
 misnames naming pair =
-    is_one_of naming (string_in pair.0) && not (names_group (string_in pair.1))
+    is_one_of naming (string_in pair.0) && not (names_groups pair.1)
 
 -- the fault of a pair's value
 abbrev pub pair_fault : List (List ℕ) → List Key → Tree × Tree → Option ApiFault

@@ -2,12 +2,12 @@
 use Rattle.std.specs.Prelude.{◌≡◌, ℕ, Bool, true, false, ⊤, List, [], ◌∷◌, ◌++◌, Option, Some, None, Result, Ok, Err}
 use Rattle.nv_value.specs.Content.{Tree}
 use Rattle.nv_history.specs.Worlds.{World, step, world_made}
-use Rattle.nv_world.specs.Contents.{plain_entry, plain_event}
+use Rattle.nv_core.specs.Contents.{plain_entry, plain_event}
 use Rattle.nv_world.specs.Steps.{AreLastSplices}
 use Rattle.nv_world.specs.Worlds.{WorldRecord, model_of, with_entry}
-use Rattle.nv_world.specs.declared.entry.Entry.{Entry}
+use Rattle.nv_core.specs.declared.entry.Entry.{Entry}
 use Rattle.nv_world.specs.declared.step.Step.{Step}
-use Rattle.nv_world.specs.declared.story.Start.{Start}
+use Rattle.nv_core.specs.declared.start.Start.{Start}
 use Rattle.nv_book.specs.Books.{Recorded, front_values, AreFair}
 use Rattle.nv_book.specs.Headings.{heading_in}
 use Rattle.nv_book.specs.Outputs.{IsSessionOf}

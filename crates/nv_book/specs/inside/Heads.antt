@@ -1,5 +1,5 @@
 -- inside: what a heading holds.
-use Rattle.nv_world.specs.Contents.{plain_entry}
+use Rattle.nv_core.specs.Contents.{plain_entry}
 use Rattle.nv_book.specs.Headings.{Heading as PlainHeading}
 use Rattle.nv_book.specs.declared.headings.Heading.{Heading}
 

@@ -1,8 +1,8 @@
 -- inside: the parts of a book, as they are read.
 use Rattle.std.specs.Prelude.{◌≡◌, ◌⊎◌, ℕ, ◌<◌, ⊤, All, List, [], ◌∷◌, ◌++◌, length, Option, Some, None, Result, Ok, Err}
 use Rattle.nv_value.specs.Content.{Tree}
-use Rattle.nv_world.specs.Contents.{plain_event}
-use Rattle.nv_world.specs.Worlds.{IsLightEvent}
+use Rattle.nv_core.specs.Contents.{plain_event}
+use Rattle.nv_core.specs.Bounds.{IsLightEvent}
 use Rattle.nv_book.specs.Headings.{heading_in, entry_count_in, outbox_in}
 use Rattle.nv_book.specs.Reading.{IsReadOut, HasValues, HasGiven}
 use Rattle.nv_book.specs.inside.Heads.{plain_heading}

@@ -7,10 +7,10 @@ use Rattle.nv_painter.specs.Painters.{Painting}
 use Rattle.nv_history.specs.Events.{Event}
 use Rattle.nv_history.specs.Worlds.{World, step}
 use Rattle.nv_history.specs.Spoken.{bytes_of_messages, bytes_of_scene, told_with}
-use Rattle.nv_world.specs.Contents.{sent_of_shared}
+use Rattle.nv_core.specs.Contents.{sent_of_shared}
 use Rattle.nv_world.specs.Worlds.{WorldRecord, model_of}
-use Rattle.nv_world.specs.declared.effect.Effect.{Effect}
-use Rattle.nv_world.specs.declared.effect.Effect.TheVariants.{Opened, Done, Items, Nothing, Over, Closed}
+use Rattle.nv_core.specs.declared.effect.Effect.{Effect}
+use Rattle.nv_core.specs.declared.effect.Effect.TheVariants.{Opened, Done, Items, Nothing, Over, Closed}
 use Rattle.nv_book.specs.Outputs.{ToldBy, told_once_more, session_named, Enters}
 
 -- the bytes of messages, and of the redraw notification of a scene, where there is one

@@ -6,7 +6,7 @@ use Rattle.nv_painter.specs.Painters.{Painting}
 use Rattle.nv_history.specs.Events.{Event, Entry}
 use Rattle.nv_history.specs.Worlds.{fresh_world}
 use Rattle.nv_world.specs.Worlds.{WorldRecord}
-use Rattle.nv_world.specs.declared.story.Start.{Start}
+use Rattle.nv_core.specs.declared.start.Start.{Start}
 use Rattle.nv_book.specs.Books.{Recorded, entries_of_records, output_pieces, entry_head, shortest_of_all, IsFitEntry}
 use Rattle.nv_book.specs.Outputs.{AreOutputs, nobody_told, session_named, Plays, numbered_piece}
 use Rattle.nv_book.specs.declared.form.Form.{Form}

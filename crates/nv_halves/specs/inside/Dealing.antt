@@ -1,8 +1,8 @@
 -- inside: the passes of a turn to the world, as they were made.
 use Rattle.std.specs.Prelude.{◌≡◌, ℕ, List, Option}
 use Rattle.nv_turn.specs.Passes.{TurnId, PassState, first_passes}
-use Rattle.nv_world.specs.declared.entry.Entry.{Entry as WorldEntry}
-use Rattle.nv_world.specs.declared.story.Start.{Start}
+use Rattle.nv_core.specs.declared.entry.Entry.{Entry as WorldEntry}
+use Rattle.nv_core.specs.declared.start.Start.{Start}
 
 -- these are so many passes, with the numbers from 1 on, that have seen nothing
 pub record ArePasses (turn : TurnId) (count : ℕ) (passes : List (PassState WorldEntry Start))

@@ -8,14 +8,15 @@ use Rattle.nv_rpc.specs.Frames.{call_of_frame}
 use Rattle.nv_rpc.specs.declared.frame.Frame.{Frame}
 use Rattle.nv_history.specs.Events.{request_of, close_of, Cause, closed_at}
 use Rattle.nv_history.specs.Asking.{own}
-use Rattle.nv_world.specs.Contents.{plain_cause}
-use Rattle.nv_world.specs.declared.calls.Unasked.{Unasked}
-use Rattle.nv_world.specs.declared.calls.Unasked.TheVariants as unasked
-use Rattle.nv_world.specs.declared.calls.Unclosed.{Unclosed}
-use Rattle.nv_world.specs.declared.calls.Unclosed.TheVariants as unclosed
-use Rattle.nv_world.specs.declared.effect.Effect.TheVariants as effect
+use Rattle.nv_core.specs.Contents.{plain_cause}
+use Rattle.nv_core.specs.declared.calls.Unasked.{Unasked}
+use Rattle.nv_core.specs.declared.calls.Unasked.TheVariants as unasked
+use Rattle.nv_core.specs.declared.calls.Unclosed.{Unclosed}
+use Rattle.nv_core.specs.declared.calls.Unclosed.TheVariants as unclosed
+use Rattle.nv_core.specs.declared.effect.Effect.TheVariants as effect
 use Rattle.nv_halves.specs.Passes.{WorldPass, IsClosedBy}
-use Rattle.nv_halves.specs.Applying.{Visit, AddsEvent, AddsNothing, InFound, DoesEvent, AppliesOnce}
+use Rattle.nv_core.specs.Visits.{Visit, AddsEvent, AddsNothing, InFound, DoesEvent}
+use Rattle.nv_halves.specs.Applying.{AppliesOnce}
 use Rattle.nv_halves.specs.Halves.{Asks, Goes}
 use Rattle.nv_halves.specs.declared.insisting.Asked.{Asked}
 use Rattle.nv_halves.specs.declared.insisting.Asked.TheVariants as asked

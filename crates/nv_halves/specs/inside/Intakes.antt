@@ -2,11 +2,12 @@
 use Rattle.std.specs.Prelude.{◌≡◌, ℕ, ◌<◌, List, ◌++◌, length, Option, Some, None, Result, Ok, Err}
 use Rattle.nv_io.specs.declared.lanes.Flaw.{Flaw}
 use Rattle.nv_rpc.specs.Calls.{Call}
-use Rattle.nv_world.specs.Contents.{plain_cause}
+use Rattle.nv_core.specs.Contents.{plain_cause}
 use Rattle.nv_calls.specs.Reading.{ReadsFrom, IsUnfinished, IfInside}
 use Rattle.nv_calls.specs.Intakes.{IntakeState, IsLive, WantsMore, GaveCalls, with_more}
 use Rattle.nv_halves.specs.Passes.{WorldPass}
 use Rattle.nv_halves.specs.Halves.{Asks, AsksSome, Goes, ReadBy, LeavesClosed}
+use Rattle.nv_halves.specs.inside.Insisting.{Stays}
 use Rattle.nv_halves.specs.declared.ends.ReaderEnd.{ReaderEnd}
 use Rattle.nv_halves.specs.declared.ends.ReaderEnd.TheVariants as r
 use Rattle.nv_halves.specs.declared.insisting.Asked.{Asked}
@@ -58,7 +59,7 @@ step_of_asked asked.NoMemory = stepped.Ends r.NoMemory
 abbrev pub Steps : Stepped → IntakeState → IntakeState → WorldPass → WorldPass → ℕ → Type 0
 Steps stepped.On old new p q s =
     MakesCalls old.held old new p q s × IsLive new × (length new.held < length old.held)
-Steps stepped.Waits old new p q s = (new ≡ old) × WantsMore old × (q ≡ p)
+Steps stepped.Waits old new p q s = (new ≡ old) × WantsMore old × Stays p q
 Steps (stepped.Ends end) old new p q s = StopsIn ⊥ end old.held old p q s
 
 -- what a reader did with these bytes: it made the calls and needs more bytes, or it ended

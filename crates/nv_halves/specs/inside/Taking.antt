@@ -13,20 +13,22 @@ use Rattle.nv_history.specs.Worlds.{World, becomes, step}
 use Rattle.nv_history.specs.Runs.{TakenBatch}
 use Rattle.nv_history.specs.Asking.{takes_by}
 use Rattle.nv_history.specs.Spoken.{ShowsIfGiven, AreSpoken, AreBytesOf}
-use Rattle.nv_world.specs.Contents.{plain_cause}
+use Rattle.nv_core.specs.Contents.{plain_cause}
 use Rattle.nv_speech.specs.Flows.{sent_in}
 use Rattle.nv_speech.specs.declared.saying.Unsaid.{Unsaid}
 use Rattle.nv_speech.specs.declared.saying.Unsaid.TheVariants as unsaid
-use Rattle.nv_world.specs.Outcomes.{effect_of_taken}
-use Rattle.nv_world.specs.Worlds.{GivesSendable}
-use Rattle.nv_world.specs.declared.effect.Batch.{Batch}
-use Rattle.nv_world.specs.declared.effect.Cause.{Cause as WorldCause}
-use Rattle.nv_world.specs.declared.calls.Taken.{Taken}
-use Rattle.nv_world.specs.declared.calls.Taken.TheVariants as taken
-use Rattle.nv_world.specs.declared.calls.Untaken.{Untaken}
-use Rattle.nv_world.specs.declared.story.Start.{Start}
-use Rattle.nv_halves.specs.Passes.{WorldPass, world_of_run, out_of, IsFromWriter, GainedEach, IsOver}
-use Rattle.nv_halves.specs.Applying.{Visit, AddsEvent, AddsNothing, DoesEvent, AppliesOnce}
+use Rattle.nv_core.specs.Outcomes.{effect_of_taken}
+use Rattle.nv_core.specs.Bounds.{GivesSendable}
+use Rattle.nv_core.specs.declared.effect.Batch.{Batch}
+use Rattle.nv_core.specs.declared.effect.Cause.{Cause as WorldCause}
+use Rattle.nv_core.specs.declared.calls.Taken.{Taken}
+use Rattle.nv_core.specs.declared.calls.Taken.TheVariants as taken
+use Rattle.nv_core.specs.declared.calls.Untaken.{Untaken}
+use Rattle.nv_core.specs.declared.start.Start.{Start}
+use Rattle.nv_halves.specs.Passes.{WorldPass, IsFromWriter, GainedEach, IsOver}
+use Rattle.nv_core.specs.Starts.{world_of_run, out_of}
+use Rattle.nv_core.specs.Visits.{Visit, AddsEvent, AddsNothing, DoesEvent}
+use Rattle.nv_halves.specs.Applying.{AppliesOnce}
 use Rattle.nv_halves.specs.Halves.{WritesHalf}
 use Rattle.nv_halves.specs.inside.Insisting.{Stays}
 use Rattle.nv_halves.specs.declared.ends.WriterEnd.{WriterEnd}

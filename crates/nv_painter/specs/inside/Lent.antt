@@ -1,10 +1,15 @@
 -- inside: keys and rows that are lent.
-use Rattle.std.specs.Prelude.{◌≡◌, ◌<◌, ◌≤◌, ◌+◌, ◌-◌, ◌*◌, ◌/◌, ℕ, true, IfSome, List, [], ◌∷◌, drop, get_or, length, map, take, Option, None, Some}
+use Rattle.std.specs.Prelude.{◌≡◌, ◌<◌, ◌≤◌, ◌+◌, ◌-◌, ◌*◌, ◌/◌, ℕ, true, IfSome, List, [], ◌∷◌, ◌++◌, drop, get_or, length, map, replicate, take, Option, None, Some}
 use Rattle.std.specs.Int.{is_in_range}
 use Rattle.std.specs.List.{list_all}
 use Rattle.std.specs.Hash.{u32}
 use Rattle.nv_hl.specs.declared.cell.Cell.{Cell}
+use Rattle.nv_hl.specs.Attributes.{empty_attr}
+use Rattle.nv_hl.specs.Cells.{space}
+use Rattle.nv_linedraw.specs.inside.Plain.{byte_cell}
 use Rattle.nv_painter.specs.declared.key.LentKey.{LentKey}
+use Rattle.nv_painter.specs.declared.lent.LentCells.{LentCells}
+use Rattle.nv_painter.specs.declared.lent.LentCells.TheVariants.{Drawn, Plain}
 use Rattle.nv_painter.specs.declared.lent.LentRow.{LentRow}
 use Rattle.nv_painter.specs.Keys.{LineKey, cells_of_key}
 
@@ -31,7 +36,7 @@ abbrev pub cells_placed : Option LentKey → ℕ → List Cell
 cells_placed None n = []
 cells_placed (Some k) n = row_of_key (lent_content k) n
 
--- inside: the cells of the row of a line that a row is, looked up or not
+-- inside: the cells of the row of a line that a row is, known or not
 abbrev pub placed_cells : LentRow → List Cell
 placed_cells r = cells_placed r.line r.number
 
@@ -39,20 +44,30 @@ placed_cells r = cells_placed r.line r.number
 abbrev pub placed_rows : List LentRow → List (List Cell)
 placed_rows rows = map placed_cells rows
 
--- inside: the cells that were looked up of a row
+-- inside: bytes as cells, with spaces behind them where they are fewer than so many
+abbrev pub plain_cells : ℕ → List ℕ → List Cell
+plain_cells width bytes =
+    map byte_cell bytes ++ replicate (width - length bytes) (space empty_attr)
+
+-- inside: cells that are lent
+abbrev pub cells_lent : LentCells → List Cell
+cells_lent (Drawn cells) = cells.now
+cells_lent (Plain bytes width) = plain_cells width bytes.now
+
+-- inside: the cells that are known of a row
 abbrev pub lent_cells : LentRow → List Cell
-lent_cells r = r.cells.now
+lent_cells r = cells_lent r.cells
 
 -- inside: the same of rows
 abbrev pub lent_rows : List LentRow → List (List Cell)
 lent_rows rows = map lent_cells rows
 
--- inside: a row that is of a line has cells, and those looked up are these
+-- inside: a row that is of a line has cells, and those known are these
 pub record IsOfLine (r : LentRow) : Type 0 where
   pub some : IfSome r.line (λ k. 0 < length (placed_cells r))
   pub cells : 0 < length (lent_cells r) → lent_cells r ≡ placed_cells r
 
--- inside: a line has so many rows, and those of its cells that were looked up are all of them
+-- inside: a line has so many rows, and those of its cells that are known are all of them
 pub record IsFound (k : LineKey) (cells : List Cell) (count : ℕ) : Type 0 where
   pub rows : count ≡ length (cells_of_key k) / k.width
   pub same : 0 < length cells → cells ≡ cells_of_key k

@@ -3,8 +3,8 @@ use Rattle.std.specs.Prelude.{◌≡◌, ℕ, List, Option, Some, None, Result, 
 use Rattle.std.specs.Io.KnownBytes.{append_known}
 use Rattle.nv_model.specs.declared.parts.Limits.{Limits}
 use Rattle.nv_history.specs.Events.{Entry}
-use Rattle.nv_world.specs.Contents.{plain_entries}
-use Rattle.nv_world.specs.declared.story.Start.{Start}
+use Rattle.nv_core.specs.Contents.{plain_entries}
+use Rattle.nv_core.specs.declared.start.Start.{Start}
 use Rattle.nv_book.specs.Writing.{WroteReplay, WroteReplayFront}
 use Rattle.nv_book.specs.Books.{Recorded}
 use Rattle.nv_book.specs.Reading.{IsWhyUnread}

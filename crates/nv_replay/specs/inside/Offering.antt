@@ -2,7 +2,7 @@
 use Rattle.std.specs.Prelude.{◌≡◌, ◌++◌, ◌∷◌, List, Some}
 use Rattle.nv_history.specs.Events.{Entry}
 use Rattle.nv_history.specs.Worlds.{World}
-use Rattle.nv_world.specs.Contents.{plain_entries}
+use Rattle.nv_core.specs.Contents.{plain_entries}
 use Rattle.nv_world.specs.Worlds.{WorldRecord, model_of}
 use Rattle.nv_replay.specs.Entering.{entered}
 

@@ -1,8 +1,6 @@
 -- inside: how a window's rows are laid one after another.
 use Rattle.std.specs.Prelude.{ℕ, zero, suc, ◌+◌, ◌-◌, List, drop}
 use Rattle.nv_hl.specs.declared.cell.Cell.{Cell}
-use Rattle.nv_hl.specs.declared.attribute.Attr.{Attr}
-use Rattle.nv_hl.specs.Cells.{cell_of}
 use Rattle.nv_linedraw.specs.LineCells.{cells_of_line}
 use Rattle.nv_screen.specs.declared.scene.SceneLine.{SceneLine}
 use Rattle.nv_screen.specs.declared.text.Frame.{Frame}
@@ -28,7 +26,3 @@ frame_line_rows f room line more = line_rows f.width f.looks.now room (frame_cel
 -- inside: the rows of a window's text where there is room for so many
 abbrev pub frame_rows : Frame → ℕ → List SceneLine → List (List Cell)
 frame_rows f room lines = text_rows f.width f.tabstop f.looks.now room lines
-
--- inside: a cell with another attribute
-abbrev pub recoloured : Attr → Cell → Cell
-recoloured attr c = cell_of c.text attr

@@ -2,8 +2,8 @@
 use Rattle.std.specs.Prelude.{◌≡◌, ◌⊎◌, ℕ, ◌*◌, ◌<◌, Bool, true, false, List, length, slice_index_or, Option, Some, None}
 use Rattle.nv_turn.specs.Story.{Has}
 use Rattle.nv_turn.specs.Passes.{IsSamePass, SeesMore, PassState, TurnId, first_pass, first_passes}
-use Rattle.nv_world.specs.declared.entry.Entry.{Entry as WorldEntry}
-use Rattle.nv_world.specs.declared.story.Start.{Start}
+use Rattle.nv_core.specs.declared.entry.Entry.{Entry as WorldEntry}
+use Rattle.nv_core.specs.declared.start.Start.{Start}
 use Rattle.nv_halves.specs.Passes.{plain_pass}
 use Rattle.nv_serve.specs.Links.{LanesWords}
 use Rattle.nv_serve.specs.declared.job.Job.{Job}
@@ -11,9 +11,6 @@ use Rattle.nv_serve.specs.declared.job.LaneEnd.{LaneEnd}
 use Rattle.nv_serve.specs.declared.job.LaneEnd.TheVariants.{Done, Failed, Quit, Spent}
 use Rattle.nv_serve.specs.inside.Sharing.{first_number, second_number}
 use Rattle.nv_serve.specs.inside.Lanes.{ServesAll}
-
-abbrev pub caller_of : WorldEntry → ℕ
-caller_of e = e.caller
 
 -- whether a lane failed, and whether it saw that memory was wanting to the world
 abbrev pub is_failed : Option LaneEnd → Bool
@@ -34,42 +31,42 @@ saw_spent (Some Spent) = true
 abbrev pub PassesOf : Type 0
 PassesOf = PassState WorldEntry Start × PassState WorldEntry Start
 
-module _ {L : Type 0} where
+module _ {C L : Type 0} where
   -- a lane has its two passes, as they were made
-  abbrev pub HasFirstPasses : TurnId → Option Start → ℕ → Job L → Type 0
+  abbrev pub HasFirstPasses : TurnId → Option Start → ℕ → Job C L → Type 0
   HasFirstPasses turn start i job =
       job.passes
       ≡ Some (first_pass turn start (first_number i), first_pass turn start (second_number i))
 
   -- it has two passes that have seen nothing
-  pub record IsReadyJob (turn : TurnId) (i : ℕ) (job : Job L) : Type 0 where
+  pub record IsReadyJob (turn : TurnId) (i : ℕ) (job : Job C L) : Type 0 where
     pub start : Option Start
     pub passes_are : HasFirstPasses turn start i job
 
   -- passes were dealt to the lanes before and after
-  pub record IsDealt (turn : TurnId) (start : Option Start) (i : ℕ) (old new : Job L) : Type 0
+  pub record IsDealt (turn : TurnId) (start : Option Start) (i : ℕ) (old new : Job C L) : Type 0
     where
       pub lane_is : new.lane ≡ old.lane
       pub passes_are : HasFirstPasses turn start i new
 
-  abbrev pub AreDealt : TurnId → Option Start → List (Job L) → List (Job L) → Type 0
+  abbrev pub AreDealt : TurnId → Option Start → List (Job C L) → List (Job C L) → Type 0
   AreDealt turn start olds news =
-      (i : ℕ) (d : Job L) → i < length olds
+      (i : ℕ) (d : Job C L) → i < length olds
       → IsDealt turn start i (slice_index_or olds i d) (slice_index_or news i d)
 
   -- the passes that a turn was made with are dealt to as many lanes as there are pairs of them
-  abbrev pub DealsAll : TurnId → List (PassState WorldEntry Start) → List (Job L) → List (Job L)
+  abbrev pub DealsAll : TurnId → List (PassState WorldEntry Start) → List (Job C L) → List (Job C L)
       → Type 0
   DealsAll turn passes olds news =
       (start : Option Start) → passes ≡ first_passes turn start (2 * length olds)
       → AreDealt turn start olds news
 
-  abbrev pub AreReady : TurnId → List (Job L) → Type 0
+  abbrev pub AreReady : TurnId → List (Job C L) → Type 0
   AreReady turn jobs =
-      (i : ℕ) (d : Job L) → i < length jobs → IsReadyJob turn i (slice_index_or jobs i d)
+      (i : ℕ) (d : Job C L) → i < length jobs → IsReadyJob turn i (slice_index_or jobs i d)
 
 -- a lane was served, by passes that it still has, and ended
-pub record ServesJob {L I S : Type 0} (t : LanesWords L I S) (old new : Job L) : Type 0 where
+pub record ServesJob {C L I S : Type 0} (t : LanesWords L I S) (old new : Job C L) : Type 0 where
   pub before : PassesOf
   pub after : PassesOf
   pub had : old.passes ≡ Some before
@@ -82,49 +79,53 @@ pub record ServesJob {L I S : Type 0} (t : LanesWords L I S) (old new : Job L) :
       (plain_pass after.0).seen (plain_pass after.1).seen
 
 -- each of them
-abbrev pub ServesJobs : {L I S : Type 0} → LanesWords L I S → List (Job L) → List (Job L) → Type 0
+abbrev pub ServesJobs : {C L I S : Type 0} → LanesWords L I S → List (Job C L) → List (Job C L)
+    → Type 0
 ServesJobs t olds news =
     (i : ℕ) (d : _) → i < length olds
     → ServesJob t (slice_index_or olds i d) (slice_index_or news i d)
 
 -- a pass has seen all that two others have, and has all their numbers
-pub record Covers (p q r : PassState WorldEntry Start) : Type 0 where
-  pub one : SeesMore caller_of p r
-  pub other : SeesMore caller_of q r
+pub record Covers (caller : WorldEntry → ℕ) (p q r : PassState WorldEntry Start) : Type 0 where
+  pub one : SeesMore caller p r
+  pub other : SeesMore caller q r
   pub has : (c : ℕ) → Has c p.numbers ⊎ Has c q.numbers → Has c r.numbers
 
-module _ {L : Type 0} where
+module _ {C L : Type 0} where
   -- a lane has two passes of this turn
-  pub record HasPasses (turn : TurnId) (job : Job L) : Type 0 where
+  pub record HasPasses (turn : TurnId) (job : Job C L) : Type 0 where
     pub passes : PassesOf
     pub passes_are : job.passes ≡ Some passes
     pub first : passes.0.turn ≡ turn
     pub second : passes.1.turn ≡ turn
 
-  abbrev pub HavePasses : TurnId → List (Job L) → Type 0
+  abbrev pub HavePasses : TurnId → List (Job C L) → Type 0
   HavePasses turn jobs =
-      (i : ℕ) (d : Job L) → i < length jobs → HasPasses turn (slice_index_or jobs i d)
+      (i : ℕ) (d : Job C L) → i < length jobs → HasPasses turn (slice_index_or jobs i d)
 
   -- a pass tells the start that the first pass of a lane does
-  abbrev pub StartsAsLane : Job L → PassState WorldEntry Start → Type 0
+  abbrev pub StartsAsLane : Job C L → PassState WorldEntry Start → Type 0
   StartsAsLane job r =
       (passes : PassesOf) → job.passes ≡ Some passes → r.start ≡ passes.0.start
 
   -- the passes of a lane were joined into one that covers them
-  pub record IsJoined (old new : Job L) (r : PassState WorldEntry Start) : Type 0 where
+  pub record IsJoined (caller : WorldEntry → ℕ) (old new : Job C L)
+      (r : PassState WorldEntry Start) : Type 0 where
     pub lane_is : new.lane ≡ old.lane
-    pub covers : (passes : PassesOf) → old.passes ≡ Some passes → Covers passes.0 passes.1 r
+    pub covers : (passes : PassesOf) → old.passes ≡ Some passes
+        → Covers caller passes.0 passes.1 r
 
-  abbrev pub AreJoined : List (Job L) → List (Job L) → PassState WorldEntry Start → Type 0
-  AreJoined olds news r =
-      (i : ℕ) (d : Job L) → i < length olds
-      → IsJoined (slice_index_or olds i d) (slice_index_or news i d) r
+  abbrev pub AreJoined : (WorldEntry → ℕ) → List (Job C L) → List (Job C L)
+      → PassState WorldEntry Start → Type 0
+  AreJoined caller olds news r =
+      (i : ℕ) (d : Job C L) → i < length olds
+      → IsJoined caller (slice_index_or olds i d) (slice_index_or news i d) r
 
   -- a lane of these ended so, and none of them did
-  abbrev pub HasOneEnded : (Option LaneEnd → Bool) → List (Job L) → Type 0
+  abbrev pub HasOneEnded : (Option LaneEnd → Bool) → List (Job C L) → Type 0
   HasOneEnded so jobs =
-      (i : ℕ) × (i < length jobs) × ((d : Job L) → so (slice_index_or jobs i d).end ≡ true)
+      (i : ℕ) × (i < length jobs) × ((d : Job C L) → so (slice_index_or jobs i d).end ≡ true)
 
-  abbrev pub HasNoneEnded : (Option LaneEnd → Bool) → List (Job L) → Type 0
+  abbrev pub HasNoneEnded : (Option LaneEnd → Bool) → List (Job C L) → Type 0
   HasNoneEnded so jobs =
-      (i : ℕ) (d : Job L) → i < length jobs → so (slice_index_or jobs i d).end ≡ false
+      (i : ℕ) (d : Job C L) → i < length jobs → so (slice_index_or jobs i d).end ≡ false

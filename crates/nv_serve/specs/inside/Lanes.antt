@@ -10,8 +10,8 @@ use Rattle.nv_io.specs.declared.lanes.Ended.{Ended}
 use Rattle.nv_io.specs.declared.lanes.Ended.TheVariants.{ReadFault, WriteFault, Quit, NoMemory}
 use Rattle.nv_history.specs.Events.{Entry}
 use Rattle.nv_history.specs.Asking.{own, takes_by, calls_of}
-use Rattle.nv_world.specs.declared.entry.Entry.{Entry as WorldEntry}
-use Rattle.nv_world.specs.declared.story.Start.{Start}
+use Rattle.nv_core.specs.declared.entry.Entry.{Entry as WorldEntry}
+use Rattle.nv_core.specs.declared.start.Start.{Start}
 use Rattle.nv_halves.specs.Passes.{WorldPass, OfEach}
 use Rattle.nv_session.specs.Openings.{IsWhyUnopened}
 use Rattle.nv_session.specs.Connections.{ConnectionEnds, traffic_of}

@@ -13,7 +13,7 @@ use Rattle.nv_history.specs.Asking.{calls_of}
 use Rattle.nv_history.specs.Solo.{solo_from, solo_rest, solo_with_take, solo_with_close}
 use Rattle.nv_history.specs.Spoken.{told_with, AreSpoken}
 use Rattle.nv_speech.specs.Flows.{bytes_said}
-use Rattle.nv_world.specs.declared.story.Start.{Start}
+use Rattle.nv_core.specs.declared.start.Start.{Start}
 use Rattle.nv_session.specs.Sending.{world_after, batches_taken, AreBytesTaken, history_of, cause_after, HasSession}
 use Rattle.nv_session.specs.Ends.{IsFront}
 

@@ -10,7 +10,7 @@ use Rattle.nv_history.specs.Events.{close_of, Entry, overflowed_at, quit_at}
 use Rattle.nv_history.specs.Worlds.{World, step}
 use Rattle.nv_history.specs.Asking.{calls_of}
 use Rattle.nv_history.specs.Solo.{solo_with_close}
-use Rattle.nv_world.specs.declared.story.Start.{Start}
+use Rattle.nv_core.specs.declared.start.Start.{Start}
 use Rattle.nv_session.specs.Sending.{world_after, AreBytesTaken}
 use Rattle.nv_calls.specs.Reading.{Reads, WasRead, IsUnfinished, IfInside}
 use Rattle.nv_session.specs.Ends.{HasEarlier, AnswersSome, AnswersUpTo, IsFront}

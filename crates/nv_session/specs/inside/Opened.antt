@@ -7,8 +7,8 @@ use Rattle.nv_io.specs.declared.lanes.Ended.{Ended}
 use Rattle.nv_io.specs.declared.lanes.Ended.TheVariants.{Quit, NoMemory}
 use Rattle.nv_history.specs.Events.{Entry}
 use Rattle.nv_history.specs.Asking.{takes_by, calls_of}
-use Rattle.nv_world.specs.declared.calls.Unopened.{Unopened}
-use Rattle.nv_world.specs.declared.calls.Unopened.TheVariants as unopened
+use Rattle.nv_core.specs.declared.calls.Unopened.{Unopened}
+use Rattle.nv_core.specs.declared.calls.Unopened.TheVariants as unopened
 use Rattle.nv_halves.specs.Passes.{WorldPass, OfEach, IsFromReader, IsFromWriter, GainedEach}
 use Rattle.nv_io.specs.Words.{HalvesWords}
 use Rattle.nv_session.specs.Connections.{ConnectionEnds, traffic_of}

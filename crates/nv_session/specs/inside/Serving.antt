@@ -8,11 +8,10 @@ use Rattle.nv_history.specs.Events.{open_session, Entry, Cause, overflowed_at, q
 use Rattle.nv_history.specs.Solo.{entry_alone}
 use Rattle.nv_linegrid.specs.Told.{Told, nothing_told}
 use Rattle.nv_painter.specs.Painters.{Painting}
-use Rattle.nv_world.specs.Worlds.{WorldRecord}
+use Rattle.nv_world.specs.Worlds.{WorldRecord, start_of}
 use Rattle.nv_calls.specs.Reading.{Calls, ReadsFrom, IfInside, IsUnfinished}
 use Rattle.nv_calls.specs.Intakes.{IntakeState, IsLive, WantsMore, GaveCalls, fresh_intake, with_more}
-use Rattle.nv_world.specs.declared.story.Start.{Start}
-use Rattle.nv_halves.specs.Passes.{start_of}
+use Rattle.nv_core.specs.declared.start.Start.{Start}
 use Rattle.nv_speech.specs.Flows.{FlowsOut, IsFrontOut}
 use Rattle.nv_speech.specs.declared.saying.Unsaid.{Unsaid}
 use Rattle.nv_speech.specs.declared.saying.Unsaid.TheVariants as unsaid

@@ -8,7 +8,7 @@ use Rattle.nv_history.specs.Events.{take_of, Entry, Cause, overflowed_at, quit_a
 use Rattle.nv_history.specs.Worlds.{Outcome, refuses, idles, becomes}
 use Rattle.nv_history.specs.Solo.{entry_alone}
 use Rattle.nv_history.specs.Spoken.{ShowsIfGiven}
-use Rattle.nv_world.specs.Contents.{plain_entries}
+use Rattle.nv_core.specs.Contents.{plain_entries}
 use Rattle.nv_world.specs.Worlds.{WorldRecord}
 
 -- the history of a world

@@ -1,9 +1,10 @@
 //! What the watcher of buffers says of steps, true ones and altered ones.
 use crate::asking::{attach, put_line};
 use crate::watch::{show, show_sent};
+use nv_core::Event;
 use nv_dispatch::usual_limits;
 use nv_watch::{BufferFold, Verdict, Watcher};
-use nv_world::{Event, World};
+use nv_world::World;
 use std::alloc::{AllocError, Global};
 use std::test::Fail;
 

@@ -2,9 +2,10 @@
 
 use crate::asking::attach_ui;
 use crate::watch::show_sent;
+use nv_core::Event;
 use nv_dispatch::usual_limits;
 use nv_watch::{GridFold, Verdict, Watcher};
-use nv_world::{Event, World};
+use nv_world::World;
 use std::alloc::{AllocError, Global};
 use std::test::Fail;
 

@@ -1,14 +1,15 @@
 //! What the watcher of marks says of steps, true ones and altered ones.
 ghost use Rattle.std.specs.Prelude.{IfOk};
-ghost use Rattle.nv_world.specs.Contents.{plain_event};
-ghost use Rattle.nv_world.specs.Worlds.{IsLightEvent};
+ghost use Rattle.nv_core.specs.Contents.{plain_event};
+ghost use Rattle.nv_core.specs.Bounds.{IsLightEvent};
 
 use crate::asking::{name_one, put_line, put_text, request};
 use crate::watch::show;
+use nv_core::Event;
 use nv_dispatch::usual_limits;
 use nv_value::{Bytes, Pair, Value};
 use nv_watch::{MarkCheck, Verdict, Watcher};
-use nv_world::{Event, World};
+use nv_world::World;
 use std::alloc::{AllocError, Global};
 use std::test::Fail;
 

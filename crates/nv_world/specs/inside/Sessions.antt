@@ -7,10 +7,10 @@ use Rattle.nv_rpc.specs.Messages.{Sent, IsSendable}
 use Rattle.nv_subs.specs.Attachments.{Attachments, sessions_of, is_session_of}
 use Rattle.nv_history.specs.Sessions.{follows}
 use Rattle.nv_history.specs.Sessions as model
-use Rattle.nv_world.specs.Contents.{plain_cause, sent_of_shared}
-use Rattle.nv_world.specs.Sizes.{memory_of_waiting}
-use Rattle.nv_world.specs.declared.effect.Cause.{Cause}
-use Rattle.nv_world.specs.declared.shared.SharedMessage.{SharedMessage}
+use Rattle.nv_core.specs.Contents.{plain_cause, sent_of_shared}
+use Rattle.nv_core.specs.Sizes.{memory_of_waiting}
+use Rattle.nv_core.specs.declared.effect.Cause.{Cause}
+use Rattle.nv_core.specs.declared.shared.SharedMessage.{SharedMessage}
 use Rattle.nv_world.specs.declared.session.Session.{Session}
 
 -- what waits in an outbox; nothing waits where it was given up

@@ -11,17 +11,13 @@ use Rattle.nv_dispatch.specs.Calls.{editor_after}
 use Rattle.nv_history.specs.Events.{Cause, Stop as PlainStop}
 use Rattle.nv_history.specs.Sessions.{Session}
 use Rattle.nv_history.specs.Worlds.{World, Outcome, refuses, idles, becomes, is_live, session_of, outcome_of_frame, outcome_after_call}
-use Rattle.nv_world.specs.Contents.{IsEffect, plain_stop}
-use Rattle.nv_world.specs.Outcomes.{effect_of_taken, stop_of_unasked, stop_of_unclosed, stop_of_unopened, stop_of_untaken}
-use Rattle.nv_world.specs.declared.calls.Taken.{Taken}
-use Rattle.nv_world.specs.declared.calls.Unopened.{Unopened}
-use Rattle.nv_world.specs.declared.calls.Unasked.{Unasked}
-use Rattle.nv_world.specs.declared.calls.Untaken.{Untaken}
-use Rattle.nv_world.specs.declared.calls.Unclosed.{Unclosed}
-use Rattle.nv_world.specs.declared.effect.Effect.{Effect}
-use Rattle.nv_world.specs.declared.effect.Effect.TheVariants as effect
-use Rattle.nv_world.specs.declared.effect.Stop.{Stop}
-use Rattle.nv_world.specs.declared.effect.Stop.TheVariants.{NoMemory, Stranger, Gone, Held}
+use Rattle.nv_core.specs.Contents.{IsEffect, plain_stop}
+use Rattle.nv_core.specs.Outcomes.{stop_of_unasked}
+use Rattle.nv_core.specs.declared.calls.Unasked.{Unasked}
+use Rattle.nv_core.specs.declared.effect.Effect.{Effect}
+use Rattle.nv_core.specs.declared.effect.Effect.TheVariants as effect
+use Rattle.nv_core.specs.declared.effect.Stop.{Stop}
+use Rattle.nv_core.specs.declared.effect.Stop.TheVariants.{NoMemory}
 use Rattle.nv_world.specs.declared.state.State.{State}
 use Rattle.nv_world.specs.declared.state.Numbers.{Numbers}
 use Rattle.nv_world.specs.inside.Sessions.{AreSessions}
@@ -96,22 +92,10 @@ IsStopOf None wanted outcome = outcome ≡ wanted
 IsStopOf (Some stop) wanted outcome =
     (told : PlainStop) × (plain_stop stop ≡ Some told) × (outcome ≡ refuses told)
 
--- what the answers of the four calls stand for
-abbrev pub opened_as : Result ℕ Unopened → Result Effect Stop
-opened_as (Ok s) = Ok (effect.Opened s)
-opened_as (Err why) = Err (stop_of_unopened why)
-
+-- what the answer of a call stands for
 abbrev pub called_as : {A : Type 0} → ℕ → Result A Unasked → Result Effect Stop
 called_as s (Ok made) = Ok effect.Done
 called_as s (Err why) = Err (stop_of_unasked s why)
-
-abbrev pub taken_as : ℕ → Result Taken Untaken → Result Effect Stop
-taken_as s (Ok taken) = Ok (effect_of_taken taken)
-taken_as s (Err why) = Err (stop_of_untaken s why)
-
-abbrev pub closed_as : {A : Type 0} → ℕ → Result A Unclosed → Result Effect Stop
-closed_as s (Ok made) = Ok effect.Closed
-closed_as s (Err why) = Err (stop_of_unclosed s why)
 
 -- how many of these sessions aren't closed
 abbrev pub one_if_live : Option Cause → ℕ

@@ -3,9 +3,9 @@ use Rattle.std.specs.Prelude.{◌≡◌, ℕ, ◌-◌, ◌≤◌, Bool, false, L
 use Rattle.nv_model.specs.declared.parts.Limits.{Limits}
 use Rattle.nv_history.specs.Worlds.{World}
 use Rattle.nv_history.specs.Runs.{run}
-use Rattle.nv_world.specs.Contents.{plain_entries}
+use Rattle.nv_core.specs.Contents.{plain_entries}
 use Rattle.nv_world.specs.Steps.{AreLastSplices}
-use Rattle.nv_world.specs.declared.entry.Entry.{Entry}
+use Rattle.nv_core.specs.declared.entry.Entry.{Entry}
 use Rattle.nv_world.specs.declared.state.State.{State}
 use Rattle.nv_world.specs.declared.state.Numbers.{Numbers}
 use Rattle.nv_world.specs.declared.step.Moved.{Moved}
@@ -34,6 +34,8 @@ pub record Holds (capacity : ℕ) (limits : Limits) (history : List Entry) (room
       → run capacity limits (plain_entries history) ≡ Some w → count_live w.sessions ≤ room
   pub last : AreLastSplices capacity limits history splices
 
-abbrev pub IsWorld : Inside → Type 0
-IsWorld i =
-    Holds i.capacity i.limits i.history.entries i.history.room i.state i.last.items i.spent
+-- nothing was taken out of the history of a world
+pub record IsWorld (i : Inside) : Type 0 where
+  pub base : i.history.base ≡ 0
+  pub holds : Holds i.capacity i.limits i.history.entries i.history.room i.machine.state
+      i.machine.last.items i.machine.spent

@@ -16,7 +16,7 @@ loop-mark-preserved c =
     let more : map content c.push.new.self.items ≡ before ++ one ∷ [] =
     ap (map content) c.in_ok-push.ensures.items ∙ map-append content c.loop-mark.items.items (c.in_ok-detailed_value.field-0 ∷ []) in
     record {
-      all = made-more (listed_mark c.args.groups.now true) before (map content c.push.new.self.items) one c.args.marks.now c.loop-mark.mark-index _ c.loop-mark-test.true
+      all = made-more (listed_mark c.args.editor.now.stage c.args.live.handle true) before (map content c.push.new.self.items) one c.args.marks.now c.loop-mark.mark-index _ c.loop-mark-test.true
           c.loop-mark.invariant.all more c.in_ok-detailed_value.ensures.told;
       spelled = subst (λ (ts : List Tree). HaveSpellings (trees_of ts)) (sym more) (spelled-more before one c.loop-mark.invariant.spelled c.in_ok-detailed_value.ensures.spelled);
     }
@@ -24,11 +24,11 @@ loop-mark-preserved c =
 pub returns-clause-told : goal.returns-clause-told
 returns-clause-told c =
     content-List c.loop-mark.items
-    ∙ ap array_of (made-all (listed_mark c.args.groups.now true) (map content c.loop-mark.items.items) c.args.marks.now c.loop-mark.mark-index c.loop-mark-test.false c.loop-mark.invariant.all)
+    ∙ ap array_of (made-all (listed_mark c.args.editor.now.stage c.args.live.handle true) (map content c.loop-mark.items.items) c.args.marks.now c.loop-mark.mark-index c.loop-mark-test.false c.loop-mark.invariant.all)
 
 pub returns-clause-spelled : goal.returns-clause-spelled
 returns-clause-spelled c =
-    let f = listed_mark c.args.groups.now true in
+    let f = listed_mark c.args.editor.now.stage c.args.live.handle true in
     let made : List Tree = map content c.loop-mark.items.items in
     subst HasSpelling (sym (content-List c.loop-mark.items))
     (list-spelled f made c.args.marks.now (made-all f made c.args.marks.now c.loop-mark.mark-index c.loop-mark-test.false c.loop-mark.invariant.all)

@@ -9,11 +9,12 @@ use Rattle.nv_api_mark.proofs.listing.listed_marks.Goals as goal
 
 pub returns-clause-told : goal.returns-clause-told
 returns-clause-told c =
-    let groups = c.args.groups.now in
+    let stage = c.args.editor.now.stage in
+    let n = c.args.live.handle in
     let marks = c.args.marks.now in
     ap (λ (ts : List Triple). array_of (map triple_content ts)) c.in_ok-triples.ensures
-    ∙ ap array_of (plain_told groups marks)
-    ∙ ap (λ (b : Bool). array_of (map (listed_mark groups b) marks)) (sym c.if-details.false)
+    ∙ ap array_of (plain_told stage n marks)
+    ∙ ap (λ (b : Bool). array_of (map (listed_mark stage n b) marks)) (sym c.if-details.false)
 
 pub returns-clause-spelled : goal.returns-clause-spelled
 returns-clause-spelled c =

@@ -18,6 +18,6 @@ returns-in_err-span-clause-row c =
     let args = typed_arguments c.args.args.now in
     let pairs = last_pairs (map pair_content c.args.pairs.now) in
     let none : map_fault listing_keys pairs ≡ None = c.in_ok-listing_fault.ensures in
-    outcome_stop _ _ (spanned_answer s b pairs) c.in_err-span.field-0.0 c.from_residual-in_err-span.result
-    (ap (λ (w : Option ApiFault). fault_or w (span_answer s b args (spanned_answer s b pairs))) none)
-    (c.in_err-span.ensures.row (spanned_answer s b pairs)) c.from_residual-in_err-span.ensures.1
+    outcome_stop _ _ (spanned_answer s c.args.live.handle b pairs) c.in_err-span.field-0.0 c.from_residual-in_err-span.result
+    (ap (λ (w : Option ApiFault). fault_or w (span_answer s b args (spanned_answer s c.args.live.handle b pairs))) none)
+    (c.in_err-span.ensures.row (spanned_answer s c.args.live.handle b pairs)) c.from_residual-in_err-span.ensures.1

@@ -1,4 +1,4 @@
-use Rattle.std.proofs.Common.{◌≡◌, ◌∙◌, ℤ, List, Some, All, map, rules, ap, sym}
+use Rattle.std.proofs.Common.{◌≡◌, ◌∙◌, ℤ, List, Some, All, map, of_z, rules, sym, to_z, w64}
 use Rattle.nv_value.specs.Content.{Tree}
 use Rattle.nv_value.specs.View.{pair_content}
 use Rattle.nv_args.specs.Args.{typed_arguments}
@@ -33,8 +33,9 @@ returns-in-Some-clause-row c = λ session.
     let args = typed_arguments c.args.args.now in
     let h = or_current (current_buffer e.stage.workspace) (number_at args 0) in
     let at : at_handle e.buffers h ≡ Some b = search rules in
-    let next : ℤ → SeenBuffer → Answer = λ n b. marks_answer (seen_now e) b args (last_pairs (pairs_at args 4)) in
-    outcome_on _ (marks_answer (seen_now e) (seen_buffer_now b) args (last_pairs (map pair_content c.pairs.result.now))) c.marks_told.result
+    let next : ℤ → SeenBuffer → Answer = λ n b. marks_answer (seen_now e) n b args (last_pairs (pairs_at args 4)) in
+    let handle : h ≡ to_z w64 (of_z w64 c.named_buffer-handle.result) = search rules in
+    outcome_on _ (marks_answer (seen_now e) (to_z w64 (of_z w64 c.named_buffer-handle.result)) (seen_buffer_now b) args (last_pairs (map pair_content c.pairs.result.now))) c.marks_told.result
     (on_found e (number_at args 0) b next at
-    ∙ ap (λ (ps : List (Tree × Tree)). marks_answer (seen_now e) (seen_buffer_now b) args (last_pairs ps)) (sym c.pairs.ensures))
+    ∙ (λ i. marks_answer (seen_now e) (handle i) (seen_buffer_now b) args (last_pairs (sym c.pairs.ensures i))))
     c.marks_told.ensures.row

@@ -25,7 +25,7 @@ returns-in_err-draft-clause-row c = λ session told.
     let h = or_current (current_buffer e.stage.workspace) (number_at args 0) in
     let at : at_handle e.buffers h ≡ Some b = search rules in
     let next : ℤ → SeenBuffer → Answer = λ n b. keyed_answer (seen_now e) n b args (last_pairs (pairs_at args 4)) in
-    gives_stop _ _ (draft_answer e.stage.groups h pairs) c.in_err-draft.field-0.0 c.from_residual.result e told
+    gives_stop _ _ (draft_answer e.stage h pairs) c.in_err-draft.field-0.0 c.from_residual.result e told
     (on_found e (number_at args 0) b next at
     ∙ ap (λ (ps : List (Tree × Tree)). keyed_answer (seen_now e) h (seen_buffer_now b) args (last_pairs ps)) (sym c.pairs-pairs.ensures))
     (c.in_err-draft.ensures.row h) c.from_residual.ensures.1
@@ -40,8 +40,8 @@ returns-clause-row c = λ session told.
     let at : at_handle e.buffers h ≡ Some b = search rules in
     let handle : to_z w64 (of_z w64 c.named_buffer-handle.result) ≡ h = search rules in
     let next : ℤ → SeenBuffer → Answer = λ n b. keyed_answer (seen_now e) n b args (last_pairs (pairs_at args 4)) in
-    gives_on _ (draft_answer e.stage.groups h pairs c.in_ok-draft.draft) c.put_draft.result e c.put_draft.new.editor told told
+    gives_on _ (draft_answer e.stage h pairs c.in_ok-draft.draft) c.put_draft.result e c.put_draft.new.editor told told
     (on_found e (number_at args 0) b next at
     ∙ ap (λ (ps : List (Tree × Tree)). keyed_answer (seen_now e) h (seen_buffer_now b) args (last_pairs ps)) (sym c.pairs-pairs.ensures)
     ∙ c.in_ok-draft.ensures.row h)
-    (subst (λ (n : ℤ). GivesAnswer (draft_answer e.stage.groups n pairs c.in_ok-draft.draft) c.put_draft.result e c.put_draft.new.editor told told) handle (c.put_draft.ensures.row told))
+    (subst (λ (n : ℤ). GivesAnswer (draft_answer e.stage n pairs c.in_ok-draft.draft) c.put_draft.result e c.put_draft.new.editor told told) handle (c.put_draft.ensures.row told))

@@ -19,6 +19,6 @@ returns-in_err-found-clause-row c =
     let pairs = last_pairs (pairs_at args 3) in
     let none : map_fault (flag_key (codes "details") ∷ []) pairs ≡ None =
     (λ i. map_fault (sym c.detail_rules.ensures i) (last_pairs (sym c.pairs-pairs.ensures i))) ∙ c.in_ok-map_fault.ensures in
-    reads_stop _ _ (place_told s pairs) c.in_err-found.field-0.0 c.from_residual-in_err-found.result
-    (ap (λ (w : Option ApiFault). fault_or w (numbered_answer s b args (place_told s pairs))) none)
-    (c.in_err-found.ensures.row (place_told s pairs)) c.from_residual-in_err-found.ensures.1
+    reads_stop _ _ (place_told s c.args.live.handle pairs) c.in_err-found.field-0.0 c.from_residual-in_err-found.result
+    (ap (λ (w : Option ApiFault). fault_or w (numbered_answer s b args (place_told s c.args.live.handle pairs))) none)
+    (c.in_err-found.ensures.row (place_told s c.args.live.handle pairs)) c.from_residual-in_err-found.ensures.1

@@ -23,7 +23,7 @@ returns-in_err-stop-clause-row c = λ n.
     let start = c.in-Some-place_by_numbers.start in
     let known : namespace_of_id e.stage (number_at args 1) ≡ Some ns = search rules in
     let placed : place_by_numbers (flag_or true (codes "strict") pairs) b.lines (number_at args 2) (number_at args 3) ≡ Some start = search rules in
-    decides_stop _ _ (λ stop. mark_answer (seen_now e) n b ns start stop pairs) (draft_answer e.stage.groups n pairs) c.in_err-stop.field-0.0 c.from_residual.result
+    decides_stop _ _ (λ stop. mark_answer (seen_now e) n b ns start stop pairs) (draft_answer e.stage n pairs) c.in_err-stop.field-0.0 c.from_residual.result
     (start_found (seen_now e) n b args pairs ns start c.text-text.result.now known placed (sym c.text-text.ensures.value))
     (c.in_err-stop.ensures.row (λ stop. mark_answer (seen_now e) n b ns start stop pairs)) c.from_residual.ensures.1
 
@@ -37,7 +37,7 @@ returns-clause-row c = λ n.
     let start = c.in-Some-place_by_numbers.start in
     let known : namespace_of_id e.stage (number_at args 1) ≡ Some ns = search rules in
     let placed : place_by_numbers (flag_or true (codes "strict") pairs) b.lines (number_at args 2) (number_at args 3) ≡ Some start = search rules in
-    decides_on _ _ (draft_answer e.stage.groups n pairs) c.draft_at.result
+    decides_on _ _ (draft_answer e.stage n pairs) c.draft_at.result
     (start_found (seen_now e) n b args pairs ns start c.text-text.result.now known placed (sym c.text-text.ensures.value)
     ∙ c.in_ok-stop.ensures.row (λ stop. mark_answer (seen_now e) n b ns start stop pairs))
     (c.draft_at.ensures.row n)

@@ -16,9 +16,9 @@ returns-in_err-option_fault-clause-row c = λ n.
     let e = c.args.editor.now in
     let pairs = last_pairs (map pair_content c.args.pairs.now) in
     let rest = unkeyed_answer (seen_now e) n (seen_buffer_now c.args.buffer.now) (typed_arguments c.args.args.now) pairs in
-    decides_stop _ (fault_or (naming_fault naming_keys (mark_keys pairs) pairs) rest) (draft_answer e.stage.groups n pairs) (draft_answer e.stage.groups n pairs)
+    decides_stop _ (fault_or (naming_fault naming_keys (mark_keys pairs) pairs) rest) (draft_answer e.stage n pairs) (draft_answer e.stage n pairs)
     c.in_err-option_fault.field-0.0 c.from_residual.result refl
-    (fault_stops (Unit {0}) _ rest (draft_answer e.stage.groups n pairs) c.in_err-option_fault.field-0.0 c.in_err-option_fault.ensures) c.from_residual.ensures.1
+    (fault_stops (Unit {0}) _ rest (draft_answer e.stage n pairs) c.in_err-option_fault.field-0.0 c.in_err-option_fault.ensures) c.from_residual.ensures.1
 
 pub returns-clause-row : goal.returns-clause-row
 returns-clause-row c = λ n.
@@ -26,4 +26,4 @@ returns-clause-row c = λ n.
     let pairs = last_pairs (map pair_content c.args.pairs.now) in
     let rest = unkeyed_answer (seen_now e) n (seen_buffer_now c.args.buffer.now) (typed_arguments c.args.args.now) pairs in
     let none : naming_fault naming_keys (mark_keys pairs) pairs ≡ None = c.in_ok-option_fault.ensures in
-    decides_on _ rest (draft_answer e.stage.groups n pairs) c.draft_by.result (ap (λ (w : Option ApiFault). fault_or w rest) none) (c.draft_by.ensures.row n)
+    decides_on _ rest (draft_answer e.stage n pairs) c.draft_by.result (ap (λ (w : Option ApiFault). fault_or w rest) none) (c.draft_by.ensures.row n)

@@ -14,4 +14,6 @@ returns c = λ i.
     ∷ c.flag-3.ensures i
     ∷ c.flag-4.ensures i
     ∷ c.flag-5.ensures i
+    ∷ c.optional-6.ensures i
+    ∷ c.text_place_rule.ensures i
     ∷ []

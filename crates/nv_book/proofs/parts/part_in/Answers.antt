@@ -3,7 +3,7 @@ use Rattle.std.specs.Prelude.{option_map}
 use Rattle.nv_value.specs.Content.{Tree}
 use Rattle.nv_value.specs.View.{content}
 use Rattle.nv_args.specs.Weight.{weight}
-use Rattle.nv_world.specs.Contents.{plain_event}
+use Rattle.nv_core.specs.Contents.{plain_event}
 use Rattle.nv_book.specs.Books.{most_value}
 use Rattle.nv_book.specs.declared.headings.Heading.{Heading}
 use Rattle.nv_book.specs.inside.Heads.{plain_heading}

@@ -1,6 +1,6 @@
 use Rattle.std.proofs.Common.{◌++◌, ◌∙◌, ap, length, List, ℕ}
 use Rattle.std.proofs.lemmas.Result.{err_from_is_err_and}
-use Rattle.nv_world.specs.declared.entry.Entry as world
+use Rattle.nv_core.specs.declared.entry.Entry as world
 use Rattle.nv_book.proofs.Standing.{gave_then}
 use Rattle.nv_book.proofs.Entering.{play_stopped, output_at, entered_at}
 use Rattle.nv_book.proofs.replay.enter.Goals as goal

@@ -2,7 +2,7 @@ use Rattle.std.proofs.Common.{Bool, ◌++◌, ◌≡◌, ◌∙◌, ap, subst, a
 use Rattle.std.specs.Prelude.{Ok}
 use Rattle.std.proofs.lemmas.Result.{err_from_is_err_and}
 use Rattle.nv_model.specs.declared.parts.Limits.{Limits}
-use Rattle.nv_world.specs.declared.story.Start.{Start}
+use Rattle.nv_core.specs.declared.start.Start.{Start}
 use Rattle.nv_book.specs.Reading.{IsWhyUnread}
 use Rattle.nv_book.specs.inside.Entering.{Advances}
 use Rattle.nv_book.proofs.Standing.{gave_then}

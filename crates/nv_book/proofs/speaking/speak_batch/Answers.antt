@@ -1,7 +1,7 @@
 use Rattle.std.proofs.Common.{◌≡◌, ℕ, List, [], ◌++◌, map, rules, sym, ap, ◌∙◌, subst}
 use Rattle.nv_rpc.specs.declared.message.Message.{Message}
 use Rattle.nv_painter.specs.Spoken.{AreSendable, spoken_messages, spoken_scene}
-use Rattle.nv_world.specs.Contents.{sent_of_shared}
+use Rattle.nv_core.specs.Contents.{sent_of_shared}
 use Rattle.nv_book.proofs.Voices.{scene_after}
 use Rattle.nv_book.proofs.Results.{on_ok}
 use Rattle.nv_book.proofs.speaking.speak_batch.Goals as goal

@@ -1,6 +1,6 @@
 use Rattle.std.proofs.Common.{◌≡◌, ℕ, List, [], ◌++◌, map, slice_set, ap, ◌∙◌, refl}
 use Rattle.nv_painter.specs.Painters.{Painting}
-use Rattle.nv_world.specs.Contents.{sent_of_shared}
+use Rattle.nv_core.specs.Contents.{sent_of_shared}
 use Rattle.nv_book.specs.inside.Playing.{bytes_of_given}
 use Rattle.nv_book.proofs.Results.{on_ok_both}
 use Rattle.nv_book.proofs.Voices.{spoke, told_get}

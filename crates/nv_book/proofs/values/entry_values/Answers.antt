@@ -1,7 +1,7 @@
 use Rattle.std.proofs.Common.{◌≡◌, sym, ap, ◌∙◌}
 use Rattle.nv_value.specs.Content.{trees_of}
-use Rattle.nv_world.specs.Contents.{plain_event}
-use Rattle.nv_world.specs.declared.entry.Event.{Event}
+use Rattle.nv_core.specs.Contents.{plain_event}
+use Rattle.nv_core.specs.declared.entry.Event.{Event}
 use Rattle.nv_book.specs.Books.{event_values}
 use Rattle.nv_book.proofs.Results.{if_ok}
 use Rattle.nv_book.proofs.values.entry_values.Goals as goal

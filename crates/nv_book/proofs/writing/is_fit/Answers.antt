@@ -1,7 +1,7 @@
 use Rattle.std.proofs.Common.{ℕ, ◌≤◌, subst}
 use Rattle.nv_value.specs.Content.{Tree}
 use Rattle.nv_args.specs.Weight.{weight}
-use Rattle.nv_world.specs.Contents.{plain_event}
+use Rattle.nv_core.specs.Contents.{plain_event}
 use Rattle.nv_book.specs.Books.{most_value}
 use Rattle.nv_book.proofs.Spelling.{light_event}
 use Rattle.nv_book.proofs.writing.is_fit.Goals as goal

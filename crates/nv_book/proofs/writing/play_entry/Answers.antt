@@ -1,7 +1,7 @@
 use Rattle.std.proofs.Common.{◌≡◌, None, sym, ap, ◌∙◌}
 use Rattle.nv_history.specs.Events.{Event}
 use Rattle.nv_history.specs.Worlds.{step, world_made}
-use Rattle.nv_world.specs.Contents.{plain_event}
+use Rattle.nv_core.specs.Contents.{plain_event}
 use Rattle.nv_world.specs.Worlds.{model_of}
 use Rattle.nv_world.proofs.Entries.{some_of}
 use Rattle.nv_book.specs.declared.player.Halt.TheVariants.{Refused}

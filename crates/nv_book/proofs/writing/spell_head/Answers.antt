@@ -1,6 +1,6 @@
 use Rattle.std.proofs.Common.{length}
 use Rattle.nv_value.specs.View.{content}
-use Rattle.nv_world.specs.Contents.{plain_entry}
+use Rattle.nv_core.specs.Contents.{plain_entry}
 use Rattle.nv_book.specs.Books.{output_pieces}
 use Rattle.nv_book.proofs.Results.{on_ok}
 use Rattle.nv_book.proofs.Spelling.{head_spelled}

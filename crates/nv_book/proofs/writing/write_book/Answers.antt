@@ -2,8 +2,8 @@ use Rattle.std.proofs.Common.{◌≡◌, ℕ, List, take, length, Option, sym, a
 use Rattle.std.specs.Io.KnownBytes.{append_known}
 use Rattle.nv_value.specs.Content.{Tree}
 use Rattle.nv_msgpack.specs.Shortest.{shortest}
-use Rattle.nv_world.specs.Contents.{plain_entries}
-use Rattle.nv_world.specs.declared.entry.Entry as world
+use Rattle.nv_core.specs.Contents.{plain_entries}
+use Rattle.nv_core.specs.declared.entry.Entry as world
 use Rattle.nv_book.specs.Books.{book_head, book_end}
 use Rattle.nv_book.specs.declared.form.Form.TheVariants.{Book}
 use Rattle.nv_book.specs.inside.Steps.{WentOut, WentOutInPart}

@@ -2,8 +2,8 @@ use Rattle.std.proofs.Common.{◌≡◌, ℕ, suc, ◌+◌, ◌≤◌, List, [],
 use Rattle.std.proofs.lemmas.List.{take_all}
 use Rattle.std.proofs.lemmas.Result.{err_from_is_err_and}
 use Rattle.nv_history.specs.Events.{Entry}
-use Rattle.nv_world.specs.Contents.{plain_entry, plain_entries}
-use Rattle.nv_world.specs.declared.entry.Entry as world
+use Rattle.nv_core.specs.Contents.{plain_entry, plain_entries}
+use Rattle.nv_core.specs.declared.entry.Entry as world
 use Rattle.nv_book.specs.declared.faults.BookFault.{BookFault}
 use Rattle.nv_book.specs.declared.faults.BookFault.TheVariants.{Unfit}
 use Rattle.nv_book.specs.inside.Steps.{HasWritten, StopsOne}

@@ -1,5 +1,5 @@
 use Rattle.std.proofs.Common.{◌≡◌, ◌≤◌, take}
-use Rattle.nv_world.specs.Contents.{plain_entries}
+use Rattle.nv_core.specs.Contents.{plain_entries}
 use Rattle.nv_book.specs.inside.Steps.{HasWritten}
 use Rattle.nv_book.proofs.writing.write_entries.Given as goal
 

@@ -1,6 +1,6 @@
 use Rattle.std.proofs.Common.{List, subst}
-use Rattle.nv_world.specs.Contents.{plain_entries}
-use Rattle.nv_world.specs.declared.entry.Entry as world
+use Rattle.nv_core.specs.Contents.{plain_entries}
+use Rattle.nv_core.specs.declared.entry.Entry as world
 use Rattle.nv_book.specs.declared.form.Form.TheVariants.{Outputs}
 use Rattle.nv_book.specs.inside.Steps.{WentOut, WentOutInPart}
 use Rattle.nv_book.proofs.Results.{on_err, on_ok}

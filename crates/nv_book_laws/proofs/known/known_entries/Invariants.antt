@@ -1,7 +1,7 @@
 -- Where the entries that are left are so, all are.
 use Rattle.std.proofs.Common.{drop}
 use Rattle.std.specs.List.{AllByRecursion}
-use Rattle.nv_world.specs.Contents.{plain_entries}
+use Rattle.nv_core.specs.Contents.{plain_entries}
 use Rattle.nv_book_laws.specs.Laws.{IsTypedEntry}
 use Rattle.nv_book_laws.proofs.known.known_entries.Given as goal
 

@@ -1,6 +1,6 @@
 -- The entries so far, and those of the rounds to come, are all.
 use Rattle.std.proofs.Common.{◌≡◌, ◌++◌, ◌+◌, ◌-◌}
-use Rattle.nv_world.specs.Contents.{plain_entries}
+use Rattle.nv_core.specs.Contents.{plain_entries}
 use Rattle.nv_gen.specs.Story.{turns_from, questions_in}
 use Rattle.nv_gen.proofs.scripts.push_rounds.Given as goal
 

@@ -1,7 +1,7 @@
 use Rattle.std.proofs.Common.{ap, sym, List, subst}
 use Rattle.std.specs.List.{AllByRecursion}
 use Rattle.nv_history.specs.Events.{Entry}
-use Rattle.nv_world.specs.Contents.{plain_entries}
+use Rattle.nv_core.specs.Contents.{plain_entries}
 use Rattle.nv_gen.specs.Story.{IsLightEntry}
 use Rattle.nv_gen.proofs.Lights.{script_is_light}
 use Rattle.nv_gen.proofs.Stories.{script_told}

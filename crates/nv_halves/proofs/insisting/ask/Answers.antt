@@ -1,7 +1,7 @@
 use Rattle.std.proofs.Common.{subst, sym, ◌∙◌}
 use Rattle.nv_rpc.specs.Calls.{Call}
 use Rattle.nv_rpc.specs.Frames.{call_of_frame}
-use Rattle.nv_world.specs.Worlds.{IsLightCall}
+use Rattle.nv_core.specs.Bounds.{IsLightCall}
 use Rattle.nv_halves.specs.Passes.{plain_pass}
 use Rattle.nv_halves.specs.inside.Insisting.{AsksOnce}
 use Rattle.nv_halves.proofs.Onces.{stays_then}

@@ -24,3 +24,8 @@ pub returns-in-Flaw-clause-steps : goal.returns-in-Flaw-clause-steps
 returns-in-Flaw-clause-steps g c =
     let n = rw c.in-Flaw.is at c.in-Ok.ensures.ok in
     stepped_flaw c.in-Flaw.flaw c.args.intake.now c.next.new.self _ _ n
+
+pub returns-in-More-clause-steps : goal.returns-in-More-clause-steps
+returns-in-More-clause-steps g c =
+    let n = rw c.in-More.is at c.in-Ok.ensures.ok in
+    (n.0, n.1, c.wake_behind-pass.ensures)

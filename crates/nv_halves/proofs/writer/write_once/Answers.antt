@@ -1,6 +1,6 @@
 use Rattle.std.proofs.Common.{◌≡◌, Ok, rules, subst}
-use Rattle.nv_world.specs.declared.calls.Taken.{Taken}
-use Rattle.nv_world.specs.declared.calls.Taken.TheVariants as taken
+use Rattle.nv_core.specs.declared.calls.Taken.{Taken}
+use Rattle.nv_core.specs.declared.calls.Taken.TheVariants as taken
 use Rattle.nv_halves.specs.Passes.{plain_pass}
 use Rattle.nv_halves.specs.inside.Taking.{TakesOnce}
 use Rattle.nv_halves.proofs.WritingOn.{goes_on, idles_on, ends_cut, ends_over, ends_wanting}

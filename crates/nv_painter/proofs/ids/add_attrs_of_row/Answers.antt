@@ -1,21 +1,18 @@
-use Rattle.std.proofs.Common.{◌≡◌, ◌∙◌, ℕ, Option, min, length, rules, subst, sym}
+use Rattle.std.proofs.Common.{◌≡◌, List, Option, OnOk, ap, subst, sym}
+use Rattle.nv_hl.specs.declared.cell.Cell.{Cell}
+use Rattle.nv_linegrid.specs.Client.{Shown}
+use Rattle.nv_linegrid.specs.Told.{with_attrs_of}
 use Rattle.nv_painter.specs.inside.Due.{IsDue}
-use Rattle.nv_painter.proofs.DueLemmas.{due_attrs}
-use Rattle.nv_painter.proofs.SketchLemmas.{adds_none}
+use Rattle.nv_painter.specs.inside.Lent.{cells_lent}
+use Rattle.nv_painter.proofs.PlainLemmas.{plain_adds_none}
 use Rattle.nv_painter.proofs.ids.add_attrs_of_row.Goals as goal
 
-pub returns-in_default : goal.returns-in_default
-returns-in_default c row screen s =
-    let attrs = c.args.attrs.now.items in
-    let known = subst (λ (o : Option (ℕ × ℕ)). IsDue o attrs c.args.cells.now screen row) c.in_default.is s in
-    sym (adds_none attrs screen known.ids)
+pub returns-in-Drawn : goal.returns-in-Drawn
+returns-in-Drawn c =
+    let old = c.args.attrs.now.items in
+    subst (λ (l : List Cell). OnOk c.add_attrs_of_drawn.result ((row : List (Option Shown)) (screen : List Cell) → IsDue c.args.due old l screen row
+    → c.add_attrs_of_drawn.new.attrs.items ≡ with_attrs_of old screen)) (sym (ap cells_lent c.in-Drawn.is)) c.add_attrs_of_drawn.ensures
 
-pub returns : goal.returns
-returns c row screen s =
-    let cells = c.args.cells.now in
-    let attrs = c.args.attrs.now.items in
-    let due = c.in-Some.due in
-    let known = subst (λ (o : Option (ℕ × ℕ)). IsDue o attrs cells screen row) c.in-Some.is s in
-    let to : c.min-to.result ≡ min due.1 (length cells) = search rules in
-    let from : c.min-from.result ≡ min due.0 c.min-to.result = search rules in
-    c.in_ok-add_attrs_of.ensures ∙ due_attrs attrs due cells screen row c.min-from.result c.min-to.result known to from
+pub returns-in-Plain : goal.returns-in-Plain
+returns-in-Plain c row screen s =
+    plain_adds_none c.args.due c.args.attrs.now.items (cells_lent c.args.cells) screen row c.in-Plain.field-1 c.in-Plain.field-0.now (ap cells_lent c.in-Plain.is) s

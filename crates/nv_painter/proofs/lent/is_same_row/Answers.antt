@@ -1,24 +1,12 @@
-use Rattle.std.proofs.Common.{◌≡◌, Some, arith, rules, true}
-use Rattle.nv_painter.specs.Keys.{same_line_key}
-use Rattle.nv_painter.specs.inside.Lent.{lent_content}
-use Rattle.nv_painter.proofs.LentLemmas.{has_cells, same_rows}
+use Rattle.std.proofs.Common.{◌≡◌, ◌<◌, ◌∙◌, ap, arith, length, sym}
+use Rattle.nv_painter.specs.inside.Lent.{cells_lent, lent_cells, placed_cells, plain_cells}
 use Rattle.nv_painter.proofs.lent.is_same_row.Goals as goal
 
-pub returns-clause-same : goal.returns-clause-same
-returns-clause-same c e =
+pub returns-in-Plain-clause-same : goal.returns-in-Plain-clause-same
+returns-in-Plain-clause-same c e =
     let a = c.args.a.now in
     let b = c.args.b.now in
-    let old = c.in-Some.old in
-    let new = c.in-Some-line.new in
-    let is_a : a.line ≡ Some old = search rules in
-    let is_b : b.line ≡ Some new = search rules in
-    let numbers : a.number ≡ b.number = search (rules, arith) in
-    let same : same_line_key (lent_content old) (lent_content new) ≡ true = search rules in
-    same_rows a b old new is_a is_b numbers same
-
-pub returns-clause-some : goal.returns-clause-some
-returns-clause-some c e =
-    let b = c.args.b.now in
-    let new = c.in-Some-line.new in
-    let is_b : b.line ≡ Some new = search rules in
-    has_cells b new c.requires is_b
+    let cells : lent_cells a ≡ plain_cells c.in-Plain.width c.in-Plain.bytes.now = ap cells_lent c.in-Plain.is in
+    let same : plain_cells c.in-Plain.width c.in-Plain.bytes.now ≡ placed_cells b = c.is_plain_row.ensures.same e in
+    let some : 0 < length (placed_cells b) = c.is_plain_row.ensures.some e in
+    sym (c.requires.old.cells (omega (arith, some, ap length (cells ∙ same)))) ∙ cells ∙ same

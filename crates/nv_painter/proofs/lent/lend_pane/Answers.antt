@@ -2,7 +2,7 @@ use Rattle.std.proofs.Common.{◌≡◌, ◌≤◌, ◌+◌, ◌-◌, ◌*◌, �
 use Rattle.std.proofs.lemmas.List.{drop_more}
 use Rattle.nv_screen.specs.Drawing.{pane_rows, scene_cells}
 use Rattle.nv_painter.specs.Keys.{LineKey, cells_of_key}
-use Rattle.nv_painter.specs.inside.Lent.{IsFound, lent_content}
+use Rattle.nv_painter.specs.inside.Lent.{IsFound, cells_lent, lent_content}
 use Rattle.nv_painter.proofs.LentLemmas.{line_rows_are, rows_below_are}
 use Rattle.nv_painter.proofs.lent.lend_pane.Goals as goal
 
@@ -20,7 +20,7 @@ loop-line-preserved c =
     let n = c.in-Some.count in
     let cells = cells_of_key (lent_content key) in
     let fits : n ≤ room = omega (arith, c.if-count-room.false) in
-    let found : IsFound (lent_content key) c.in-Some.cells.now n = search rules in
+    let found : IsFound (lent_content key) (cells_lent c.in-Some.cells) n = search rules in
     let is : cells ≡ scene_cells w p.tabstop looks line = ap cells_of_key c.lent_key-key.ensures in
     let split : drop k lines ≡ line ∷ drop (k + 1) lines =
     drop_more lines k line c.loop-line-test.true ∙ ap (λ l. l ∷ drop (k + 1) lines) (sym c.line-item.is) in

@@ -31,20 +31,18 @@ returns c =
     let cleared = c.clear_moved.new.flags.items in
     let flags = c.flag_moved.new.flags.items in
     let shifts = c.in_ok-shifts.shifts.items in
-    let found = c.in_ok-drawn.drawn.items in
-    let drawn = c.look_up.new.rows.items in
-    let placed : AreLent (placed_rows found) screen = c.in_ok-drawn.ensures.lent in
-    let lent : AreLent (lent_rows drawn) screen =
-    lent_of_placed drawn screen c.look_up.ensures.lines (subst (λ rows. AreLent rows screen) (sym c.look_up.ensures.placed) placed) in
+    let drawn = c.in_ok-drawn.drawn.items in
+    let placed : AreLent (placed_rows drawn) screen = c.in_ok-drawn.ensures.lent in
+    let lent : AreLent (lent_rows drawn) screen = lent_of_placed drawn screen c.in_ok-drawn.ensures.lines placed in
     let size : is_size t.size s.width s.height ≡ true = search rules in
     let sized : AreSized s.width s.height t.rows = search rules in
     let wide : s.width < 2 ^ 32 = search (rules, arith) in
     let moved : shifts ≡ shifts_between t.views (views_of s.panes.items) =
     c.in_ok-shifts.ensures ∙ ap (shifts_between t.views) c.requires.views in
-    let count : length (placed_rows found) ≡ length screen =
-    length-map found placed_cells ∙ c.in_ok-drawn.ensures.count ∙ sym whole.high in
-    let same : length (lent_rows drawn) ≡ length (placed_rows found) =
-    length-map drawn lent_cells ∙ sym (length-map drawn placed_cells) ∙ ap length c.look_up.ensures.placed in
+    let count : length (placed_rows drawn) ≡ length screen =
+    length-map drawn placed_cells ∙ c.in_ok-drawn.ensures.count ∙ sym whole.high in
+    let same : length (lent_rows drawn) ≡ length (placed_rows drawn) =
+    length-map drawn lent_cells ∙ sym (length-map drawn placed_cells) in
     let there : (k : ℕ) → k < length drawn → get_or flags k false ≡ false → 0 < length (get_or (lent_rows drawn) k []) = search rules in
     let steady : (k : ℕ) → get_or cleared k false ≡ true → (get_or c.in_ok-flags.flags.items k false ≡ true) × StaysIn shifts k = search rules in
     let stay : StayBut shifts c.in_ok-known.known.items (drawn_rows c.args.last.now) (lent_rows drawn) = search rules in
@@ -55,7 +53,7 @@ returns c =
         high = sym (same ∙ count);
         drawn_is = all_drawn flags (lent_rows drawn) screen (same ∙ count)
             (λ k lt e. lent k (there k (omega (arith, lt, length-map drawn lent_cells)) e));
-        shown = all_are_shown t (picture_of c.args.last.now) shifts s.width s.height cleared flags (placed_rows found) screen c.requires.last.same
+        shown = all_are_shown t (picture_of c.args.last.now) shifts s.width s.height cleared flags (placed_rows drawn) screen c.requires.last.same
             sized (count ∙ whole.high) placed (search rules)
             (λ k e. (c.in_ok-flags.ensures.steady k (steady k e).0, (steady k e).1));
         wide = same_width s.width s.height (rows_after_shifts shifts t.rows) screen (shifts_keep_sized s.width s.height shifts t.rows sized)

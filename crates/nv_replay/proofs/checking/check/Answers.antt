@@ -2,7 +2,7 @@ use Rattle.std.proofs.Common.{◌≡◌, ◌∙◌, ℕ, List, [], ◌++◌, len
 use Rattle.std.proofs.lemmas.Option.{none-some}
 use Rattle.nv_model.specs.declared.parts.Limits.{Limits}
 use Rattle.nv_dispatch.specs.Runs.{usual_limits}
-use Rattle.nv_world.specs.Contents.{plain_entries}
+use Rattle.nv_core.specs.Contents.{plain_entries}
 use Rattle.nv_book.specs.Reading.{IsWhyUnread}
 use Rattle.nv_replay.specs.Ends.{CheckEnds}
 use Rattle.nv_replay.specs.declared.ending.ReplayEnd.{ReplayEnd}

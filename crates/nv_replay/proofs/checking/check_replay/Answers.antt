@@ -1,8 +1,8 @@
 use Rattle.std.proofs.Common.{◌≡◌, ◌∙◌, ℕ, List, [], ◌++◌, length, slice_get, Some, ap, refl, sym, subst}
 use Rattle.std.proofs.lemmas.Option.{none-some}
 use Rattle.nv_model.specs.declared.parts.Limits.{Limits}
-use Rattle.nv_world.specs.Contents.{plain_entries}
-use Rattle.nv_world.specs.declared.story.Start.{Start}
+use Rattle.nv_core.specs.Contents.{plain_entries}
+use Rattle.nv_core.specs.declared.start.Start.{Start}
 use Rattle.nv_book.specs.Reading.{IsWhyUnread}
 use Rattle.nv_replay.specs.Ends.{CheckEnds}
 use Rattle.nv_replay.specs.inside.Endings.{Concludes, SaysNoFirst}

@@ -2,7 +2,7 @@ use Rattle.std.proofs.Common.{◌≡◌, ◌∙◌, Bool, [], Err, ap, refl, sym
 use Rattle.std.proofs.lemmas.Result.{err_from_is_err_and}
 use Rattle.nv_book.specs.declared.faults.Unread.{Unread}
 use Rattle.nv_book.specs.declared.faults.Unread.TheVariants.{NoMemory}
-use Rattle.nv_world.specs.Contents.{plain_event}
+use Rattle.nv_core.specs.Contents.{plain_event}
 use Rattle.nv_world.specs.Worlds.{WorldRecord}
 use Rattle.nv_watch.specs.Verdicts.{sight}
 use Rattle.nv_replay.specs.inside.Quiet.{may_splice}

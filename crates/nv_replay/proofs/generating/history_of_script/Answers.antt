@@ -3,9 +3,9 @@ use Rattle.std.specs.List.{AllByRecursion}
 use Rattle.std.specs.Vec.Iter.{into_iter_items}
 use Rattle.nv_history.specs.Events.{Entry}
 use Rattle.nv_history.specs.Worlds.{fresh_world}
-use Rattle.nv_world.specs.Contents.{plain_entries}
+use Rattle.nv_core.specs.Contents.{plain_entries}
 use Rattle.nv_world.specs.Worlds.{WorldRecord, model_of}
-use Rattle.nv_world.specs.declared.entry.Entry.{Entry as HeldEntry}
+use Rattle.nv_core.specs.declared.entry.Entry.{Entry as HeldEntry}
 use Rattle.nv_gen.specs.Story.{IsLightEntry}
 use Rattle.nv_replay.specs.Entering.{entered}
 use Rattle.nv_replay.proofs.generating.history_of_script.Goals as goal

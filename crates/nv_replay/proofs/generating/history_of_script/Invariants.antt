@@ -3,7 +3,7 @@ use Rattle.std.proofs.Common.{◌≡◌, ◌++◌, Some}
 use Rattle.std.specs.List.{AllByRecursion}
 use Rattle.std.specs.Vec.Iter.{into_iter_items}
 use Rattle.nv_history.specs.Worlds.{World, fresh_world}
-use Rattle.nv_world.specs.Contents.{plain_entries}
+use Rattle.nv_core.specs.Contents.{plain_entries}
 use Rattle.nv_world.specs.Worlds.{model_of}
 use Rattle.nv_gen.specs.Story.{IsLightEntry, script_of}
 use Rattle.nv_replay.specs.Entering.{entered}

@@ -1,6 +1,6 @@
 -- The entries of the kind so far, and those among the entries that are left, are all.
 use Rattle.std.proofs.Common.{◌≡◌, ◌≤◌, ◌+◌, drop}
-use Rattle.nv_world.specs.Contents.{plain_entries}
+use Rattle.nv_core.specs.Contents.{plain_entries}
 use Rattle.nv_replay.specs.Summary.{count_of_kind, is_opening}
 use Rattle.nv_replay.proofs.summary.count_openings.Given as goal
 

@@ -1,6 +1,6 @@
 use Rattle.std.proofs.Common.{◌≡◌, ◌∙◌, Bool, true, false, sym, subst, subst₂}
 use Rattle.std.proofs.lemmas.Option.{same_Some}
-use Rattle.nv_world.specs.Contents.{plain_event}
+use Rattle.nv_core.specs.Contents.{plain_event}
 use Rattle.nv_replay.specs.inside.Quiet.{may_splice}
 use Rattle.nv_replay.specs.inside.Watching.{IsPrepared}
 use Rattle.nv_replay.proofs.Following.{prepared_by, unprepared}

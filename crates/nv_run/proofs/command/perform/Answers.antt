@@ -1,6 +1,6 @@
 use Rattle.std.proofs.Common.{◌≡◌, Option, Some, rules, refl, sym, subst, ap, ◌∙◌}
 use Rattle.std.specs.Prelude.{option_map}
-use Rattle.nv_world.specs.Contents.{plain_entries}
+use Rattle.nv_core.specs.Contents.{plain_entries}
 use Rattle.nv_dispatch.specs.Runs.{usual_limits}
 use Rattle.nv_model.specs.declared.parts.Limits.{Limits}
 use Rattle.nv_history.specs.Worlds.{fresh_world}

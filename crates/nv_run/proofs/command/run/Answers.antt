@@ -4,7 +4,7 @@ use Rattle.nv_io.specs.Streams.{Tells}
 use Rattle.nv_words.specs.Commands.{AreWords, PlainCommand, command_asked, plain_command}
 use Rattle.nv_words.specs.declared.command.Refusal.{Refusal}
 use Rattle.nv_words.specs.declared.command.Refusal.TheVariants as refusal
-use Rattle.nv_world.specs.Contents.{plain_entries}
+use Rattle.nv_core.specs.Contents.{plain_entries}
 use Rattle.nv_run.specs.Commands.{RunsAs}
 use Rattle.nv_run.specs.Statuses.{line_of_refusal}
 use Rattle.nv_run.proofs.Asked.{command_as, either_refusal, is_memory, none_done}

@@ -1,7 +1,7 @@
 use Rattle.std.proofs.Common.{◌≡◌, ◌<◌, ◌^◌, length, arith, List, ℕ, [], ◌∷◌, codes, Option, Some, sym, ◌∙◌, subst, rules}
 use Rattle.std.specs.List.{concat}
 use Rattle.std.specs.Io.KnownBytes.{prepend_known}
-use Rattle.nv_world.specs.Contents.{plain_entries}
+use Rattle.nv_core.specs.Contents.{plain_entries}
 use Rattle.nv_session.specs.Ends.{SessionEnds}
 use Rattle.nv_words.specs.Commands.{command_asked}
 use Rattle.nv_run.specs.Commands.{usual_start}

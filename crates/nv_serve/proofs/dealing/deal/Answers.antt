@@ -19,7 +19,7 @@ lanes-preserved g c =
     let within = i.within in
     let len = i.same_length in
     let now = c.index-jobs-rest.result in
-    let made = c.give.ensures ∙ ap (λ (j : Job _). record j { passes = Some (one.result, two.result) }) (sym c.index-jobs-rest.is) in
+    let made = c.give.ensures ∙ ap (λ (j : Job _ _). record j { passes = Some (one.result, two.result) }) (sym c.index-jobs-rest.is) in
     let here : rest - 1 + 1 ≡ rest = omega (arith, some) in
     let fewer : 2 * rest - 1 - 1 ≡ 2 * (rest - 1) = omega (arith, some) in
     let first_is : 2 * rest - 1 ≡ first_number (rest - 1) = omega (arith, some) in

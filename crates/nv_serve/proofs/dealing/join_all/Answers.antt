@@ -10,14 +10,14 @@ lanes-init g c =
     let now = c.index-jobs-0.result in
     let j = c.join_lane-all in
     let some = c.requires.some in
-    let begins : StartsAsLane now j.result = subst (λ (k : Job _). StartsAsLane k j.result) (sym c.index-jobs-0.is) j.ensures.start in
-    let joined : IsJoined now j.new.job j.result = subst (λ (k : Job _). IsJoined k j.new.job j.result) (sym c.index-jobs-0.is) j.ensures.joined in record {
+    let begins : StartsAsLane now j.result = subst (λ (k : Job _ _). StartsAsLane k j.result) (sym c.index-jobs-0.is) j.ensures.start in
+    let joined : IsJoined g.C.Story.caller now j.new.job j.result = subst (λ (k : Job _ _). IsJoined g.C.Story.caller k j.new.job j.result) (sym c.index-jobs-0.is) j.ensures.joined in record {
       some = omega arith;
       within = omega (arith, some);
       same_length = set_length jobs 0 j.new.job;
       turn = j.ensures.turn;
       start = begins_first jobs now j.result some c.index-jobs-0.is begins;
-      joined = joined_first jobs now j.new.job j.result some c.index-jobs-0.is joined;
+      joined = joined_first g.C.Story.caller jobs now j.new.job j.result some c.index-jobs-0.is joined;
       same = λ i d le. set_beside jobs 0 i j.new.job d (λ e. omega (arith, e, le));
     }
 
@@ -30,13 +30,13 @@ lanes-preserved g c =
     let below = c.lanes-test.true in
     let len = i.same_length in
     let within = i.within in
-    let joined : IsJoined now j.new.job j.result = subst (λ (l : Job _). IsJoined l j.new.job j.result) (sym c.index-jobs-at.is) j.ensures.joined in record {
+    let joined : IsJoined g.C.Story.caller now j.new.job j.result = subst (λ (l : Job _ _). IsJoined g.C.Story.caller l j.new.job j.result) (sym c.index-jobs-at.is) j.ensures.joined in record {
       some = omega arith;
       within = omega (arith, below, len);
       same_length = set_length c.lanes.jobs c.lanes.at j.new.job ∙ i.same_length;
       turn = k.ensures.pass.0 ∙ i.turn;
       start = λ d passes is. k.ensures.pass.2 ∙ i.start d passes is;
-      joined = joined_next c.args.jobs.now c.lanes.jobs c.lanes.at now j.new.job c.lanes.all j.result k.result (omega (arith, below, len)) len c.index-jobs-at.is i.same i.joined joined k.ensures.one k.ensures.other k.ensures.numbers;
+      joined = joined_next g.C.Story.caller c.args.jobs.now c.lanes.jobs c.lanes.at now j.new.job c.lanes.all j.result k.result (omega (arith, below, len)) len c.index-jobs-at.is i.same i.joined joined k.ensures.one k.ensures.other k.ensures.numbers;
       same = same_after c.args.jobs.now c.lanes.jobs c.lanes.at j.new.job i.same;
     }
 

@@ -9,9 +9,9 @@ invariant-lanes g l = record {
   within : l.at ≤ length l.fn.jobs;
   same_length : length l.jobs ≡ length l.fn.jobs;
   turn : l.all.turn ≡ l.turn.turn;
-  start : (d : Job _) → StartsAsLane (slice_index_or l.fn.jobs 0 d) l.all;
-  joined : (i : ℕ) (d : Job _) → i < l.at → IsJoined (slice_index_or l.fn.jobs i d) (slice_index_or l.jobs i d) l.all;
-  same : (i : ℕ) (d : Job _) → l.at ≤ i → slice_index_or l.jobs i d ≡ slice_index_or l.fn.jobs i d;
+  start : (d : Job _ _) → StartsAsLane (slice_index_or l.fn.jobs 0 d) l.all;
+  joined : (i : ℕ) (d : Job _ _) → i < l.at → IsJoined g.C.Story.caller (slice_index_or l.fn.jobs i d) (slice_index_or l.jobs i d) l.all;
+  same : (i : ℕ) (d : Job _ _) → l.at ≤ i → slice_index_or l.jobs i d ≡ slice_index_or l.fn.jobs i d;
 }
 
 abbrev pub decreases-lanes : goal.decreases-lanes

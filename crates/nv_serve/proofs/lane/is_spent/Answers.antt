@@ -1,10 +1,20 @@
-use Rattle.std.proofs.Common.{inl, refl, ap, ◌∙◌}
-use Rattle.nv_world.specs.Worlds.{WorldRecord}
+use Rattle.std.proofs.Common.{Some, inl, refl, ap, sym, ◌∙◌, subst}
 use Rattle.nv_serve.proofs.Chaining.{looks_only}
 use Rattle.nv_serve.proofs.lane.is_spent.Goals as goal
+
+pub leave-pass-requires-clause-start : goal.leave-pass-requires-clause-start
+leave-pass-requires-clause-start g c =
+    let came = c.enter-held.ensures in
+    came.pass.start ∙ came.start ∙ ap (λ v. Some (g.C.Story.start v)) (sym c.value.ensures.value)
+
+pub leave-pass-requires-clause-story : goal.leave-pass-requires-clause-story
+leave-pass-requires-clause-story g c =
+    let seen = c.enter-held.result.pass.seen in
+    (seen, inl refl, subst (λ v. g.C.Story.stands v seen) (sym c.value.ensures.value) c.enter-held.ensures.story)
 
 pub returns : goal.returns
 returns g c =
     let came = c.enter-held.ensures in
-    looks_only c.args.pass c.enter-held.result.pass c.leave-pass.result came.pass came.sees came.number c.leave-pass.ensures.pass
-    (c.leave-pass.ensures.seen c.enter-held.result.pass.seen (inl refl) (ap (λ (k : WorldRecord). k.history) c.value.ensures.value ∙ came.story))
+    let seen = c.enter-held.result.pass.seen in
+    looks_only g.C.Story.caller c.args.pass c.enter-held.result.pass c.leave-pass.result g.met.C.Core.callers came.pass came.sees came.number c.leave-pass.ensures.pass
+    (c.leave-pass.ensures.seen seen (inl refl) (subst (λ v. g.C.Story.stands v seen) (sym c.value.ensures.value) came.story))

@@ -1,5 +1,5 @@
 use Rattle.std.proofs.Common.{ap, subst, Option}
-use Rattle.nv_world.specs.Contents.{plain_entries}
+use Rattle.nv_core.specs.Contents.{plain_entries}
 use Rattle.nv_halves.specs.Passes.{plain_pass}
 use Rattle.nv_serve.specs.Links.{LanesWords}
 use Rattle.nv_serve.specs.inside.Lanes.{StepsLane}

@@ -4,9 +4,9 @@ use Rattle.std.proofs.lemmas.Result.{err_from_is_err_and}
 use Rattle.nv_rpc.specs.Frames.{call_of_frame}
 use Rattle.nv_history.specs.Events.{Entry, take_of}
 use Rattle.nv_history.specs.Worlds.{step}
-use Rattle.nv_world.specs.Contents.{sent_of_shared}
-use Rattle.nv_world.specs.declared.story.Start.{Start}
-use Rattle.nv_halves.specs.Passes.{start_of}
+use Rattle.nv_core.specs.Contents.{sent_of_shared}
+use Rattle.nv_core.specs.declared.start.Start.{Start}
+use Rattle.nv_world.specs.Worlds.{start_of}
 use Rattle.nv_session.specs.Sending.{world_after}
 use Rattle.nv_session.specs.inside.Alone.{IsCalled, IsUnanswered}
 use Rattle.nv_session.specs.inside.Worlds.{entries_in, TakesDue}

@@ -1,7 +1,7 @@
 use Rattle.std.proofs.Common.{◌≡◌, rules, refl, ap}
-use Rattle.nv_world.specs.Outcomes.{effect_of_taken}
-use Rattle.nv_world.specs.declared.calls.Taken.TheVariants.{Items}
-use Rattle.nv_world.specs.declared.entry.Event.TheVariants.{Take}
+use Rattle.nv_core.specs.Outcomes.{effect_of_taken}
+use Rattle.nv_core.specs.declared.calls.Taken.TheVariants.{Items}
+use Rattle.nv_core.specs.declared.entry.Event.TheVariants.{Take}
 use Rattle.nv_session.proofs.Taking.{takes_due}
 use Rattle.nv_session.proofs.asking.take.Goals as goal
 

@@ -1,5 +1,5 @@
 use Rattle.std.proofs.Common.{[]}
-use Rattle.nv_halves.specs.Passes.{start_of}
+use Rattle.nv_world.specs.Worlds.{start_of}
 use Rattle.nv_io.proofs.StreamLemmas.{each_none}
 use Rattle.nv_session.proofs.Leaving.{ends_before}
 use Rattle.nv_session.proofs.session.alone.Goals as goal

@@ -3,7 +3,7 @@ use Rattle.std.specs.Prelude.{Err}
 use Rattle.std.proofs.lemmas.Result.{err_from_is_err_and}
 use Rattle.nv_msgpack.specs.Shortest.{shortest}
 use Rattle.nv_rpc.specs.Messages.{message_tree}
-use Rattle.nv_world.specs.Contents.{sent_of_shared}
+use Rattle.nv_core.specs.Contents.{sent_of_shared}
 use Rattle.nv_speech.proofs.Flowing.{rose_after, goes_same, goes_flush, flush_cut, front_told, none_out, ok_goes, err_front, passed_on}
 use Rattle.nv_speech.proofs.saying.send_message.Goals as goal
 

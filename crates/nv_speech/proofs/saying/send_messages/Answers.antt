@@ -7,8 +7,8 @@ use Rattle.std.specs.Vec.Iter.{into_iter_items}
 use Rattle.nv_msgpack.specs.Shortest.{shortest}
 use Rattle.nv_rpc.specs.Messages.{IsSendable, message_tree}
 use Rattle.nv_history.specs.Spoken.{bytes_of_messages}
-use Rattle.nv_world.specs.Contents.{sent_of_shared}
-use Rattle.nv_world.specs.declared.shared.SharedMessage.{SharedMessage}
+use Rattle.nv_core.specs.Contents.{sent_of_shared}
+use Rattle.nv_core.specs.declared.shared.SharedMessage.{SharedMessage}
 use Rattle.nv_speech.proofs.Flowing.{rose_after, going_begins, going_on, going_ends, going_cut, passed_none, passed_on}
 use Rattle.nv_speech.proofs.saying.send_messages.Goals as goal
 

@@ -3,7 +3,7 @@ use Rattle.std.proofs.Common.{◌≡◌, ◌≤◌, length, map, All}
 use Rattle.std.specs.Vec.Iter.{into_iter_items, into_iter_len}
 use Rattle.nv_rpc.specs.Messages.{IsSendable}
 use Rattle.nv_history.specs.Spoken.{bytes_of_messages}
-use Rattle.nv_world.specs.Contents.{sent_of_shared}
+use Rattle.nv_core.specs.Contents.{sent_of_shared}
 use Rattle.nv_speech.proofs.Flowing.{IsGoing}
 use Rattle.nv_speech.proofs.saying.send_messages.Given as goal
 

@@ -3,7 +3,7 @@ use Rattle.nv_history.specs.Laws.{FoldsToText}
 use Rattle.nv_history.specs.MarkPlaces.{EachMarkStands}
 use Rattle.nv_history.proofs.FoldRuns.{folds_to_text_law}
 use Rattle.nv_history.proofs.MarkRuns.{each_mark_stands}
-use Rattle.nv_world.specs.Contents.{plain_entries, plain_event}
+use Rattle.nv_core.specs.Contents.{plain_entries, plain_event}
 use Rattle.nv_world.proofs.laws.world_laws.Goals as goal
 
 pub returns : goal.returns

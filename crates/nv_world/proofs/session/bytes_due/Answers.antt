@@ -1,4 +1,4 @@
-use Rattle.nv_world.proofs.Sizing.{due_open, due_closed}
+use Rattle.nv_core.proofs.Sizing.{due_open, due_closed}
 use Rattle.nv_world.proofs.session.bytes_due.Goals as goal
 
 pub returns-in-None : goal.returns-in-None

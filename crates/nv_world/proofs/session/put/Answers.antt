@@ -1,5 +1,5 @@
 use Rattle.std.proofs.Common.{rules, ◌≡◌, sym, ◌∙◌, Some}
-use Rattle.nv_world.specs.Contents.{sent_of_shared}
+use Rattle.nv_core.specs.Contents.{sent_of_shared}
 use Rattle.nv_world.proofs.Putting.{put_more}
 use Rattle.nv_world.proofs.session.put.Goals as goal
 

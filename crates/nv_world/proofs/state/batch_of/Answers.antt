@@ -1,7 +1,7 @@
 use Rattle.std.proofs.Common.{◌≡◌, ℕ, suc, ◌+◌, List, length, map, All, Option, sym, ap, ◌∙◌, subst, refl, arith}
 use Rattle.nv_rpc.specs.Messages.{Sent, IsSendable}
 use Rattle.nv_history.specs.Sessions.{Session, session_emptied, shown_after}
-use Rattle.nv_world.specs.Contents.{sent_of_shared}
+use Rattle.nv_core.specs.Contents.{sent_of_shared}
 use Rattle.nv_world.specs.declared.session.Session.{Session as Kept}
 use Rattle.nv_world.specs.inside.Sessions.{IsSession}
 use Rattle.nv_world.proofs.Finding.{found}

@@ -4,13 +4,13 @@ use Rattle.nv_scene.specs.Settling.{IsSettled}
 use Rattle.nv_history.specs.Events.{Cause, entry_of, closed_at, closes}
 use Rattle.nv_history.specs.Sessions.{Session, session_closed_by}
 use Rattle.nv_history.specs.Worlds.{close_outcome, live_close_outcome, with_session_at, after_settled_entry}
-use Rattle.nv_world.specs.Contents.{plain_cause}
-use Rattle.nv_world.specs.Worlds.{cause_of}
-use Rattle.nv_world.specs.declared.effect.Cause.{Cause as KeptCause}
+use Rattle.nv_core.specs.Contents.{plain_cause}
+use Rattle.nv_core.specs.Sessions.{cause_of}
+use Rattle.nv_core.specs.declared.effect.Cause.{Cause as KeptCause}
 use Rattle.nv_world.specs.declared.session.Session.{Session as Kept}
 use Rattle.nv_world.specs.inside.States.{StandsNumbered, with_next}
 use Rattle.nv_world.proofs.Finding.{found, session_absent}
-use Rattle.nv_world.specs.declared.effect.Effect.TheVariants.{Closed}
+use Rattle.nv_core.specs.declared.effect.Effect.TheVariants.{Closed}
 use Rattle.nv_world.proofs.Standings.{keeps_uis}
 use Rattle.nv_world.proofs.Steppings.{stranger_refused, gone_refused, ok_becomes, plain_is, nobody_has}
 use Rattle.nv_world.proofs.state.close_session.Goals as goal

@@ -1,8 +1,8 @@
 use Rattle.std.proofs.Common.{◌≡◌, Option, Some, option_map, sym, ap, ◌∙◌, refl, length}
 use Rattle.nv_history.specs.Events.{Cause, entry_of, gone_by, held_with}
 use Rattle.nv_history.specs.Worlds.{live_request_outcome}
-use Rattle.nv_world.specs.Contents.{plain_cause}
-use Rattle.nv_world.specs.declared.effect.Cause.{Cause as KeptCause}
+use Rattle.nv_core.specs.Contents.{plain_cause}
+use Rattle.nv_core.specs.declared.effect.Cause.{Cause as KeptCause}
 use Rattle.nv_world.proofs.Finding.{held_is, min_is}
 use Rattle.nv_world.proofs.state.live_stop.Goals as goal
 

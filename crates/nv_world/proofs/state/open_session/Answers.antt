@@ -7,7 +7,7 @@ use Rattle.nv_history.specs.Worlds.{becomes, after_entry, opening_outcome}
 use Rattle.nv_world.specs.declared.session.Session.{Session as Kept}
 use Rattle.nv_world.specs.inside.Sessions.{IsSession}
 use Rattle.nv_world.proofs.Stating.{AllZip-end, follows-end}
-use Rattle.nv_world.specs.declared.effect.Effect.TheVariants.{Opened}
+use Rattle.nv_core.specs.declared.effect.Effect.TheVariants.{Opened}
 use Rattle.nv_world.proofs.Endings.{opened_live}
 use Rattle.nv_world.proofs.Steppings.{ok_becomes, plain_is}
 use Rattle.nv_world.proofs.state.open_session.Goals as goal

@@ -5,8 +5,8 @@ use Rattle.nv_rpc.specs.Frames.{call_of_frame}
 use Rattle.nv_dispatch.specs.Calls.{CallOutcome, editor_after}
 use Rattle.nv_history.specs.Events.{done}
 use Rattle.nv_history.specs.Worlds.{after_settled_entry, outcome_of_frame, world_after_call}
-use Rattle.nv_world.specs.Outcomes.{stop_of_unasked}
-use Rattle.nv_world.specs.declared.effect.Effect.TheVariants.{Done}
+use Rattle.nv_core.specs.Outcomes.{stop_of_unasked}
+use Rattle.nv_core.specs.declared.effect.Effect.TheVariants.{Done}
 use Rattle.nv_world.specs.declared.session.Session.{Session as Kept}
 use Rattle.nv_world.specs.inside.Sessions.{IsSession}
 use Rattle.nv_world.specs.inside.States.{StandsNumbered, called_outcome, with_next}

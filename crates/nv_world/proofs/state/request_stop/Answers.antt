@@ -4,7 +4,7 @@ use Rattle.std.proofs.lemmas.Slice.Zip.{AllZip-long}
 use Rattle.nv_history.specs.Events.{stranger}
 use Rattle.nv_history.specs.Sessions.{Session}
 use Rattle.nv_history.specs.Worlds.{request_outcome}
-use Rattle.nv_world.specs.Outcomes.{IsUnaskedBy, stop_of_unasked}
+use Rattle.nv_core.specs.Outcomes.{IsUnaskedBy, stop_of_unasked}
 use Rattle.nv_world.specs.declared.session.Session.{Session as Kept}
 use Rattle.nv_world.specs.inside.Sessions.{IsSession}
 use Rattle.nv_world.specs.inside.States.{IsStopOf, called_outcome}

@@ -2,10 +2,11 @@ use Rattle.std.proofs.Common.{◌≡◌, ℕ, suc, Bool, true, false, List, Opti
 use Rattle.nv_history.specs.Events.{Cause}
 use Rattle.nv_history.specs.Sessions.{Session}
 use Rattle.nv_history.specs.Worlds.{is_nothing_due, is_scene_due, take_outcome, some_take_outcome, empty_take_outcome}
-use Rattle.nv_world.specs.Outcomes.{effect_of_taken}
+use Rattle.nv_core.specs.Outcomes.{effect_of_taken}
 use Rattle.nv_world.specs.declared.session.Session.{Session as Kept}
 use Rattle.nv_world.specs.inside.Sessions.{IsSession}
-use Rattle.nv_world.specs.inside.States.{Changes, taken_as}
+use Rattle.nv_world.specs.inside.States.{Changes}
+use Rattle.nv_core.specs.Outcomes.{taken_as}
 use Rattle.nv_world.proofs.Finding.{found, nothing_is, session_absent, something_is}
 use Rattle.nv_world.proofs.Standings.{due_is}
 use Rattle.nv_world.proofs.Steppings.{at_outcome, stranger_refused, ok_idles, nobody_has}

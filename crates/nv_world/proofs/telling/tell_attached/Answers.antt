@@ -4,7 +4,7 @@ use Rattle.std.specs.List.{AllZip}
 use Rattle.nv_rpc.specs.Messages.{Sent}
 use Rattle.nv_subs.specs.Attachments.{HasSessions, is_session_of, sessions_of, with_session}
 use Rattle.nv_history.specs.Sessions.{first_message}
-use Rattle.nv_world.specs.Contents.{sent_of_shared}
+use Rattle.nv_core.specs.Contents.{sent_of_shared}
 use Rattle.nv_world.specs.inside.Sessions.{IsSession}
 use Rattle.nv_world.specs.inside.Tellings.{session_put, session_updated}
 use Rattle.nv_world.proofs.Members.{other_false, other_true}

@@ -1,7 +1,7 @@
 use Rattle.std.proofs.Common.{refl, sym, ◌∙◌, subst, Result, Ok, Err, OnOk}
 use Rattle.nv_painter.specs.Spoken.{IsSoundIfThere}
 use Rattle.nv_history.specs.Worlds.{step}
-use Rattle.nv_world.specs.Contents.{plain_event}
+use Rattle.nv_core.specs.Contents.{plain_event}
 use Rattle.nv_world.specs.Worlds.{WorldRecord}
 use Rattle.nv_book.specs.inside.Playing.{PlaysOne}
 use Rattle.nv_book.proofs.Results.{if_ok_so}

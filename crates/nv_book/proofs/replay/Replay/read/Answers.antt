@@ -1,6 +1,6 @@
 use Rattle.std.proofs.Common.{◌++◌, ◌≡◌, ◌∙◌, ap, sym, subst, length, [], ◌∷◌, ℕ, Some}
 use Rattle.std.proofs.lemmas.Result.{err_from_is_err_and}
-use Rattle.nv_world.specs.declared.entry.Entry as world
+use Rattle.nv_core.specs.declared.entry.Entry as world
 use Rattle.nv_book.specs.Books.{front_values}
 use Rattle.nv_book.specs.Reading.{IsReplaying, Replaying}
 use Rattle.nv_book.specs.declared.parts.Part.{Part}

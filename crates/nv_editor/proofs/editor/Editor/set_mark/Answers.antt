@@ -53,3 +53,6 @@ returns-clause-done c =
     subst (λ (k : ℤ). Does (mark_set k c.args.mark ∷ []) c.args.self.now (editor_of c.set_mark.new.self c.self.inside.stage)) e
     (mark_done c.self.inside.buffers c.set_mark.new.self c.self.inside.stage n c.in_ok-set_mark.ensures.updated c.in_ok-set_mark.ensures.rest
     c.args.self.now c.args.mark c.self.view_is c.in_ok-set_mark.ensures.marks within c.requires.shown few)
+
+pub returns-clause-stage : goal.returns-clause-stage
+returns-clause-stage c = ap (λ (x : PresentEditor). x.stage) c.self.view_is

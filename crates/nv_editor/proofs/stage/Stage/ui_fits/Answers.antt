@@ -12,6 +12,7 @@ returns c =
       workspace = c.self.inside.windows;
       namespaces = c.self.inside.namespaces;
       groups = c.self.inside.groups;
+      notes = c.self.inside.notes;
       uis = c.self.inside.uis.items;
       next_buffer = c.self.inside.next_buffer;
       limits = c.self.inside.limits;

@@ -1,9 +1,9 @@
 use Rattle.std.proofs.Common.{◌≡◌, [], Some, None, refl, sym, subst, inl, inr}
 use Rattle.std.proofs.lemmas.Result.{err_from_is_err_and}
 use Rattle.nv_rpc.specs.Frames.{call_of_frame}
-use Rattle.nv_world.specs.declared.story.Start.{Start}
+use Rattle.nv_core.specs.declared.start.Start.{Start}
 use Rattle.nv_speech.specs.Flows.{bytes_said, sent_in}
-use Rattle.nv_halves.specs.Passes.{start_of}
+use Rattle.nv_world.specs.Worlds.{start_of}
 use Rattle.nv_session.specs.Sending.{cause_after}
 use Rattle.nv_session.specs.inside.Alone.{HasNothingDue}
 use Rattle.nv_session.specs.inside.Serving.{bytes_waiting, state_of}

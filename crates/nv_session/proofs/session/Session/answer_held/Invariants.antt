@@ -1,6 +1,6 @@
 use Rattle.std.proofs.Common.{◌≡◌, ℕ, ◌≤◌, List, [], length, Some}
 use Rattle.nv_speech.specs.Flows.{FlowsOut}
-use Rattle.nv_halves.specs.Passes.{start_of}
+use Rattle.nv_world.specs.Worlds.{start_of}
 use Rattle.nv_session.specs.inside.Serving.{IsReady, ServesCalls, bytes_waiting, state_of}
 use Rattle.nv_session.proofs.session.Session.answer_held.Given as goal
 

@@ -1,7 +1,7 @@
 use Rattle.std.proofs.Common.{List, [], Some, refl, sym, ◌∙◌, subst, inl, inr}
 use Rattle.nv_history.specs.Events.{Entry}
-use Rattle.nv_world.specs.declared.story.Start.{Start}
-use Rattle.nv_halves.specs.Passes.{start_of}
+use Rattle.nv_core.specs.declared.start.Start.{Start}
+use Rattle.nv_world.specs.Worlds.{start_of}
 use Rattle.nv_session.specs.Sending.{cause_after, HasSession}
 use Rattle.nv_session.specs.inside.Alone.{HasNothingDue}
 use Rattle.nv_session.specs.inside.Leaving.{LeavesWith, IsClosedSo, leaves_open}

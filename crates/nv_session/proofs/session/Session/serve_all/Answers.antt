@@ -2,7 +2,7 @@ use Rattle.std.proofs.Common.{[], ◌∷◌, ◌++◌, refl, ap, inl, inr, sym, 
 use Rattle.std.specs.List.{concat}
 use Rattle.std.specs.Io.KnownBytes.{IsAtEnd}
 use Rattle.nv_io.proofs.StreamLemmas.{each_none, each_then}
-use Rattle.nv_world.specs.declared.story.Start.{Start}
+use Rattle.nv_core.specs.declared.start.Start.{Start}
 use Rattle.nv_calls.specs.Reading.{WasRead}
 use Rattle.nv_session.specs.inside.Alone.{IsAlone}
 use Rattle.nv_session.specs.inside.Serving.{state_of}

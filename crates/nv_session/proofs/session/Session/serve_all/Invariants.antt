@@ -2,7 +2,7 @@ use Rattle.std.proofs.Common.{◌≡◌, ℕ, ◌-◌, ◌^◌, ◌≤◌, List,
 use Rattle.std.specs.List.{concat}
 use Rattle.nv_io.specs.Streams.{GaveEach}
 use Rattle.nv_calls.specs.Intakes.{WantsMore, came}
-use Rattle.nv_halves.specs.Passes.{start_of}
+use Rattle.nv_world.specs.Worlds.{start_of}
 use Rattle.nv_session.specs.inside.Serving.{IsReady, ServesCalls, bytes_waiting, state_of}
 use Rattle.nv_session.proofs.session.Session.serve_all.Given as goal
 

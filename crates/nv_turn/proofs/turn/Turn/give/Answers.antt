@@ -2,8 +2,8 @@ use Rattle.std.proofs.Common.{sym, ap, ◌∙◌, arith}
 use Rattle.nv_turn.proofs.Taking.{give_allowed}
 use Rattle.nv_turn.proofs.turn.Turn.give.Goals as goal
 
-pub store-requires : goal.store-requires
-store-requires g c =
+pub store-requires-2 : goal.store-requires-2
+store-requires-2 g c =
     let v = c.requires.value in (
       c.requires.turn ∙ sym (ap (λ z. z.turn) c.self.view_is),
       omega (arith, c.self.invariant.0),

@@ -1,6 +1,6 @@
 use Rattle.std.proofs.Common.{rules, ◌≡◌, ℕ, List, [], ◌∷◌, ◌++◌, slice_get, ap, sym, ◌∙◌, subst}
-use Rattle.nv_world.specs.Contents.{plain_entries}
-use Rattle.nv_world.specs.declared.entry.Entry.{Entry}
+use Rattle.nv_core.specs.Contents.{plain_entries}
+use Rattle.nv_core.specs.declared.entry.Entry.{Entry}
 use Rattle.nv_watch.specs.Verdicts.{sight}
 use Rattle.nv_watch.specs.declared.verdict.Verdict.{Verdict}
 use Rattle.nv_watch.specs.SentParts.{is_whole_sent, messages_sent}

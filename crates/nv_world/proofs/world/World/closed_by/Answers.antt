@@ -1,22 +1,8 @@
-use Rattle.std.proofs.Common.{◌≡◌, ℕ, Option, option_map, sym, ap, ◌∙◌, arith}
-use Rattle.nv_history.specs.Sessions.{Session}
-use Rattle.nv_world.specs.Contents.{plain_cause}
-use Rattle.nv_world.specs.Worlds.{WorldRecord, model_of, cause_of}
-use Rattle.nv_world.specs.declared.session.Session.{Session as Kept}
-use Rattle.nv_world.proofs.Finding.{found, session_absent}
-use Rattle.nv_world.proofs.Steppings.{nobody_has}
+use Rattle.std.proofs.Common.{ap, ◌∙◌}
+use Rattle.nv_world.specs.Worlds.{WorldRecord, model_of}
 use Rattle.nv_world.proofs.world.World.closed_by.Goals as goal
 
-pub returns-in-Some : goal.returns-in-Some
-returns-in-Some c = λ w live runs.
-    let stands = c.self.invariant.stands w (ap (λ (k : WorldRecord). k.spent) c.self.view_is ∙ live) (ap model_of c.self.view_is ∙ runs) in
-    let f = found w.capacity c.self.inside.state.sessions.items w c.args.session c.in-Some.place c.index.result.now c.in-Some.ensures.0
-    (omega (arith, c.self.inside.state.sessions.ok.0, c.in-Some.ensures.1)) stands.state.sessions.pairs in
-    ap (λ (x : Kept). option_map plain_cause x.closed) c.index.ensures ∙ f.is.closed ∙ sym (ap cause_of f.is_of)
-
-pub returns-in-None : goal.returns-in-None
-returns-in-None c = λ w live runs.
-    let stands = c.self.invariant.stands w (ap (λ (k : WorldRecord). k.spent) c.self.view_is ∙ live) (ap model_of c.self.view_is ∙ runs) in
-    let none = nobody_has w.capacity c.self.inside.state.sessions.items w.sessions c.len.result c.args.session stands.state.sessions.pairs
-    (omega (arith, c.self.inside.state.sessions.ok.0)) c.in-None.ensures in
-    sym (ap cause_of (session_absent w c.args.session none))
+pub returns : goal.returns
+returns c = λ w live runs.
+    c.closed_by.ensures w
+    (c.self.invariant.holds.stands w (ap (λ (k : WorldRecord). k.spent) c.self.view_is ∙ live) (ap model_of c.self.view_is ∙ runs)).state

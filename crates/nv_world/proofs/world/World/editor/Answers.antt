@@ -4,4 +4,4 @@ use Rattle.nv_world.proofs.world.World.editor.Goals as goal
 
 pub returns : goal.returns
 returns c = λ w live runs.
-    (c.self.invariant.stands w (ap (λ (k : WorldRecord). k.spent) c.self.view_is ∙ live) (ap model_of c.self.view_is ∙ runs)).state.editor
+    (c.self.invariant.holds.stands w (ap (λ (k : WorldRecord). k.spent) c.self.view_is ∙ live) (ap model_of c.self.view_is ∙ runs)).state.editor

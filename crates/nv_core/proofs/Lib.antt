@@ -1,0 +1,5 @@
+pub mod Strings
+pub mod Sizing
+pub mod Shedding
+pub mod Gaining
+pub mod Crossing

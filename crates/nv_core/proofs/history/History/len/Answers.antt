@@ -1,0 +1,12 @@
+use Rattle.std.proofs.Common.{◌≡◌, length, drop, ap, arith}
+use Rattle.std.proofs.lemmas.List.{length-drop}
+use Rattle.nv_core.specs.Ledgers.{Ledger}
+use Rattle.nv_core.proofs.history.History.len.Goals as goal
+
+pub returns-clause-count : goal.returns-clause-count
+returns-clause-count c =
+    let inside = c.self.inside in
+    let kept : length (drop inside.blanks inside.entries.items) ≡ length c.args.self.now.entries = ap (λ (l : Ledger). length l.entries) c.self.view_is in
+    let size = length-drop inside.blanks inside.entries.items in
+    let len = inside.entries.ok.0 in
+    omega (arith, kept, size, len)

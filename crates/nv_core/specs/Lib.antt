@@ -1,0 +1,9 @@
+pub mod Bounds
+pub mod Contents
+pub mod Gains
+pub mod Ledgers
+pub mod Outcomes
+pub mod Sessions
+pub mod Sizes
+pub mod Starts
+pub mod Visits

@@ -1,0 +1,4 @@
+pub mod CellLemmas
+pub mod LayLemmas
+pub mod PlaceLemmas
+pub mod WorkedTexts

@@ -1,0 +1,6 @@
+use Rattle.nv_world.proofs.Gaining.{runs_in}
+use Rattle.nv_world.proofs.story.WorldCore.bytes_due.Goals as goal
+
+pub returns : goal.returns
+returns c = λ live story w stands runs.
+    c.bytes_due.ensures w live (runs_in c.args.self.now story w stands runs)
