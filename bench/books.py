@@ -17,16 +17,13 @@ import time
 
 import nvimd
 from nvimd.command import Words, run
+from nvimd.session import socket_at
 from nvimd.values import unpacker
-from session import LINE, request, set_rows, tell_load
-from serve import ATTACH, Asking
-from spell import integer, text
-
+from session import LINE, call, last_of, set_rows, tell_load
 
 LINES = 1_000
-UI = request(
-    1, b"nvim_ui_attach", integer(80), integer(24), b"\x81" + text(b"ext_linegrid") + b"\xc3"
-)
+ATTACH = call("nvim_buf_attach", 0, False, {})
+UI = call("nvim_ui_attach", 80, 24, {"ext_linegrid": True})
 OUTBOX = 131_072
 
 
@@ -36,13 +33,40 @@ def edits(count):
     return [set_rows(row, row + 1, [LINE]) for row in rows]
 
 
+class Asking:
+    """One session; its requests are sent ahead, and it waits for the reply to a last one."""
+
+    def __init__(self, address):
+        self.socket = socket_at(address)
+        self.count = 0
+        self.tail = b""
+
+    def until(self, wanted):
+        """Reads until these bytes came."""
+        while wanted not in self.tail:
+            piece = self.socket.recv(1 << 20)
+            if not piece:
+                raise nvimd.Ended("a server ended")
+            self.tail = (self.tail + piece)[-(len(piece) + 64) :]
+        self.tail = self.tail[self.tail.index(wanted) + len(wanted) :]
+
+    def ask(self, stream):
+        """Sends these requests and one more, and waits for the reply to that one."""
+        self.count += 1
+        last, wanted = last_of(self.count)
+        writer = threading.Thread(target=self.socket.sendall, args=(stream + last,))
+        writer.start()
+        self.until(wanted)
+        writer.join()
+
+
 class Drain(threading.Thread):
     """A session that reads whatever comes, until the server ends."""
 
-    def __init__(self, address, call):
+    def __init__(self, address, stream):
         super().__init__(daemon=True)
         self.asking = Asking(address)
-        self.asking.ask(call)
+        self.asking.ask(stream)
         self.start()
 
     def run(self):
@@ -67,7 +91,7 @@ def recorded(program, path, stream, others, apart=False):
     server = nvimd.Server("--outbox", str(OUTBOX), book=path, command=command)
     one = Asking(server.address)
     one.ask(set_rows(0, -1, [LINE] * LINES))
-    drains = [Drain(server.address, call) for call in others]
+    drains = [Drain(server.address, stream) for stream in others]
     start = time.perf_counter()
     for requests in stream if apart else [b"".join(stream)]:
         one.ask(requests)

@@ -30,7 +30,7 @@ import nvimd
 from nvimd.command import Words, run
 from nvimd.process import forget_peak, memory, runs, seconds
 from nvimd.session import socket_at
-from session import Server
+from session import Server, call
 
 
 MOST_MEMORY = 8 << 30  # bytes of addresses for a server
@@ -112,11 +112,6 @@ def repeated(measure):
     while len(costs) < ROUNDS and costs[-1].time < LONG:
         costs.append(measure())
     return least(costs)
-
-
-def call(name, *params):
-    """The bytes of a request."""
-    return msgpack.packb([0, 1, name, params])
 
 
 def atomic(calls):

@@ -795,13 +795,6 @@ ROWS = {
             'error [1, "priority is not a valid value"]',
         ),
         (
-            "No virtual text",
-            'nvim_create_namespace("a"); nvim_buf_set_extmark(0, 1, 0, 0, {"virt_text": [["x", '
-            '"NonText"]]})',
-            'error [1, "Invalid key: virt_text"]',
-            "1",
-        ),
-        (
             "No signs",
             'nvim_create_namespace("a"); nvim_buf_set_extmark(0, 1, 0, 0, {"sign_text": "x"})',
             'error [1, "Invalid key: sign_text"]',
